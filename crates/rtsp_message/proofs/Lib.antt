@@ -1,0 +1,4 @@
+pub mod Runs
+pub mod RequestLines
+pub mod HeaderLines
+pub mod LineEnds

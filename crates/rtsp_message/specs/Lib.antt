@@ -1,0 +1,4 @@
+pub mod Lines
+pub mod Headers
+pub mod Heads
+pub mod Stream

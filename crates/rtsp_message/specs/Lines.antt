@@ -1,0 +1,97 @@
+-- The lines of a message's head, and the bytes that they are made of.
+-- RFC 2326, 4 (messages end their lines), 6.1 (request line), 12 (header fields), 15.1 (tokens).
+use Rattle.std.specs.Prelude.{◌≡◌, ℕ, ◌<◌, Bool, true, false, not, ◌&&◌, ◌||◌, ◌==◌, nat_le, if◌then◌else◌, List, [], ◌∷◌, ◌++◌, length, reverse, codes}
+use Rattle.std.specs.List.{list_any, AllByRecursion}
+use Rattle.rtsp_message.specs.declared.byte_class.ByteClass.{ByteClass}
+use Rattle.rtsp_message.specs.declared.byte_class.ByteClass.TheVariants.{Token, Visible, Space, Blank, Value}
+use Rattle.rtsp_message.specs.declared.headers.Header.{Header}
+
+abbrev pub is_visible : ℕ → Bool
+is_visible b = nat_le 33 b && nat_le b 126
+
+-- the characters that no token has
+abbrev pub separators : List ℕ
+separators = codes "()<>@,;:\\\"/[]?={}"
+
+-- a space or a tab
+abbrev pub is_blank : ℕ → Bool
+is_blank b = b == 32 || b == 9
+
+-- what a class of bytes has
+abbrev pub is_in : ByteClass → ℕ → Bool
+is_in Token b = is_visible b && not (list_any (λ s. s == b) separators)
+is_in Visible b = is_visible b
+is_in Space b = b == 32
+is_in Blank b = is_blank b
+is_in Value b = b == 9 || (nat_le 32 b && nat_le b 126) || nat_le 128 b
+
+-- each byte is of the class
+abbrev pub Each : ByteClass → List ℕ → Type 0
+Each class bytes = AllByRecursion (λ b. is_in class b ≡ true) bytes
+
+-- one or more bytes of the class
+abbrev pub OneOrMore : ByteClass → List ℕ → Type 0
+OneOrMore class bytes = (0 < length bytes) × Each class bytes
+
+-- the first byte, if there is one, is not of the class
+abbrev pub BeginsOutside : ByteClass → List ℕ → Type 0
+BeginsOutside class [] = Unit {0}
+BeginsOutside class (b ∷ bs) = is_in class b ≡ false
+
+-- Method, one or more spaces, URI, one or more spaces, version, and then blanks that don't count (RFC 2326, 6.1).
+pub record IsRequestLine (line method uri version : List ℕ) : Type 0 where
+  pub first_gap : List ℕ
+  pub second_gap : List ℕ
+  pub tail : List ℕ
+  pub whole : line ≡ method ++ (first_gap ++ (uri ++ (second_gap ++ (version ++ tail))))
+  pub method_bytes : OneOrMore Token method
+  pub first_spaces : OneOrMore Space first_gap
+  pub uri_bytes : OneOrMore Visible uri
+  pub second_spaces : OneOrMore Space second_gap
+  pub version_bytes : OneOrMore Visible version
+  pub tail_blank : Each Blank tail
+
+-- Text without the blanks at both its ends.
+pub record IsTrimOf (text trimmed : List ℕ) : Type 0 where
+  pub front : List ℕ
+  pub back : List ℕ
+  pub whole : text ≡ front ++ (trimmed ++ back)
+  pub front_blank : Each Blank front
+  pub back_blank : Each Blank back
+  pub begins : BeginsOutside Blank trimmed
+  pub ends : BeginsOutside Blank (reverse trimmed)
+
+-- A name of token bytes, a colon, and a value with blanks round it that don't count (RFC 2326, 12; RFC 2068, 4.2).
+pub record IsHeaderLine (line : List ℕ) (header : Header) : Type 0 where
+  pub text : List ℕ
+  pub whole : line ≡ header.name ++ 58 ∷ text
+  pub name_bytes : OneOrMore Token header.name
+  pub value : IsTrimOf text header.value
+  pub value_bytes : Each Value header.value
+
+-- a line feed ends a line, and stands nowhere else in it
+abbrev pub HasNoLf : List ℕ → Type 0
+HasNoLf bytes = AllByRecursion (λ b. b == 10 ≡ false) bytes
+
+-- the line as it came, with its LF
+abbrev pub ended : List ℕ → List ℕ
+ended line = line ++ 10 ∷ []
+
+-- Bytes as one or more of a class at the front, and what follows them.
+pub record IsFrontRun (class : ByteClass) (bytes run rest : List ℕ) : Type 0 where
+  pub whole : bytes ≡ run ++ rest
+  pub run_bytes : OneOrMore class run
+  pub stops : BeginsOutside class rest
+
+-- what a line says: one CR before its LF is dropped
+abbrev pub said : List ℕ → List ℕ
+said [] = []
+said (b ∷ []) = if b == 13 then [] else b ∷ []
+said (b ∷ c ∷ bs) = b ∷ said (c ∷ bs)
+
+-- Bytes as a first line, of which this is said, and what follows its LF.
+pub record IsFirstLine (bytes text rest : List ℕ) : Type 0 where
+  pub line : List ℕ
+  pub whole : bytes ≡ ended line ++ rest
+  pub unbroken : HasNoLf line
+  pub text_is : text ≡ said line

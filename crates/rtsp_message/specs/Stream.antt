@@ -1,0 +1,71 @@
+-- The stream of a connection: messages with pads between them, and what has come of the next (RFC 2326, 4).
+use Rattle.std.specs.Prelude.{◌≡◌, ℕ, true, List, [], ◌∷◌, ◌++◌, Option, None, Some}
+use Rattle.rtsp_message.specs.declared.unit.Unit.{Unit as StreamUnit}
+use Rattle.rtsp_message.specs.declared.unit.Unit.TheVariants.{Message}
+use Rattle.rtsp_message.specs.declared.fault.Fault.{Fault}
+use Rattle.rtsp_message.specs.declared.fault.Fault.TheVariants.{BadLine, BadHeader, BadLength, HeadTooLong}
+use Rattle.rtsp_message.specs.Heads.{is_pad, BeginsWithNoPad, IsHead, HasFault, IsUnfinished}
+
+-- what a stream is made of: a byte between units, or the bytes of a unit
+pub data Piece : Type 0 where
+  Pad : (byte : ℕ) → Piece
+  Whole : (bytes : List ℕ) → (content : StreamUnit) → Piece
+
+-- the bytes are those of the unit
+abbrev pub IsUnit : List ℕ → StreamUnit → Type 0
+IsUnit bytes (Message request) = IsHead bytes request
+
+abbrev pub IsPiece : Piece → Type 0
+IsPiece (Pad byte) = is_pad byte ≡ true
+IsPiece (Whole bytes content) = IsUnit bytes content
+
+abbrev pub ArePieces : List Piece → Type 0
+ArePieces [] = Unit {0}
+ArePieces (piece ∷ pieces) = IsPiece piece × ArePieces pieces
+
+-- the bytes of the pieces, one after another
+abbrev pub bytes_of : List Piece → List ℕ
+bytes_of [] = []
+bytes_of (Pad byte ∷ pieces) = byte ∷ bytes_of pieces
+bytes_of (Whole bytes content ∷ pieces) = bytes ++ bytes_of pieces
+
+-- their units, in order
+abbrev pub units_of : List Piece → List StreamUnit
+units_of [] = []
+units_of (Pad byte ∷ pieces) = units_of pieces
+units_of (Whole bytes content ∷ pieces) = content ∷ units_of pieces
+
+-- where a reading of the stream so far stands: these bytes wait for more, or a fault has come
+pub data Ending : Type 0 where
+  Waits : (rest : List ℕ) → Ending
+  Fails : (fault : Fault) → Ending
+
+-- the bytes after the last unit end the reading so
+abbrev pub EndsAs : List ℕ → Ending → Type 0
+EndsAs bytes (Waits rest) = (bytes ≡ rest) × BeginsWithNoPad rest × IsUnfinished rest
+EndsAs bytes (Fails fault) = BeginsWithNoPad bytes × HasFault bytes fault
+
+-- The stream reads as these units, and then ends so.
+pub record Reads (stream : List ℕ) (units : List StreamUnit) (ending : Ending) : Type 0 where
+  pub pieces : List Piece
+  pub rest : List ℕ
+  pub whole : stream ≡ bytes_of pieces ++ rest
+  pub are_pieces : ArePieces pieces
+  pub units_are : units ≡ units_of pieces
+  pub ends : EndsAs rest ending
+
+-- What reading more bytes gives: the bytes that waited read on; after a fault there are no units, and the fault stays.
+abbrev pub ReadsOn : Ending → List ℕ → List StreamUnit → Ending → Type 0
+ReadsOn (Waits rest) more units ending = Reads (rest ++ more) units ending
+ReadsOn (Fails fault) more units ending = (units ≡ []) × (ending ≡ Fails fault)
+
+abbrev pub fault_of : Ending → Option Fault
+fault_of (Waits rest) = None
+fault_of (Fails fault) = Some fault
+
+-- the faults by the numbers that the program reports
+abbrev pub fault_number : Fault → ℕ
+fault_number BadLine = 1
+fault_number BadHeader = 2
+fault_number BadLength = 3
+fault_number HeadTooLong = 4

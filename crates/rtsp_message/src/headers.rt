@@ -1,0 +1,89 @@
+use crate::text::Text;
+use std::alloc::{AllocError, Global};
+use std::marker::Model;
+
+ghost use Rattle.std.specs.Prelude.{◌≡◌, ◌++◌, ◌∷◌, [], OnOk, OnErr};
+ghost use Rattle.std.specs.Option.{option_copied};
+ghost use Rattle.std.specs.Str.{str_eq_ignore_ascii_case};
+
+/// A header field (RFC 2326, 12).
+#[derive(Drop)]
+pub struct Header {
+    pub name: Text,
+    pub value: Text,
+}
+
+/// The header fields of a message, in order.
+#[derive(Drop)]
+pub struct Headers {
+    fields: Vec<Header>,
+}
+
+impl Model for Headers {
+    ghost use Rattle.std.specs.Prelude.{List};
+    ghost use Rattle.rtsp_message.specs.declared.headers.Header.{Header};
+
+    ghost Value = { List Header };
+
+    ghost view = { λ h. h.fields.items };
+}
+
+impl Headers {
+    ghost use Rattle.rtsp_message.specs.Headers.{value_of};
+
+    pub fn new(alloc: Global) -> Headers
+        ensures { result ≡ [] }
+    {
+        Headers {
+            fields: Vec::new(alloc),
+        }
+    }
+
+    pub fn from_vec(fields: Vec<Header>) -> Headers
+        ensures { result ≡ fields.items }
+    {
+        Headers { fields }
+    }
+
+    /// Gives the fields back, without taking memory.
+    pub fn into_vec(self) -> Vec<Header>
+        ensures { result.items ≡ self }
+    {
+        self.fields
+    }
+
+    pub fn as_slice(&self) -> &[Header]
+        ensures { result.now ≡ self.now }
+    {
+        self.fields.as_slice()
+    }
+
+    /// Adds a field behind the others.
+    pub fn push(&mut self, header: Header) -> Result<(), AllocError>
+        ensures ok { OnOk result (self.new ≡ self.old ++ header ∷ []) }
+        ensures err { OnErr result (self.new ≡ self.old) }
+    {
+        self.fields.push(header)?;
+        Ok(())
+    }
+
+    /// The value of the first field of that name, whatever the case of its ASCII letters.
+    pub fn value(&self, name: &[u8]) -> Option<&Text>
+        ensures { option_copied result ≡ value_of self.now name.now }
+    {
+        let fields = self.fields.as_slice();
+        for header in fields {
+            if is_same_name(header.name.as_slice(), name) {
+                return Some(&header.value);
+            }
+        }
+        None
+    }
+}
+
+/// Whether two names are the same, without regard to the case of ASCII letters.
+pub fn is_same_name(a: &[u8], b: &[u8]) -> bool
+    ensures { result ≡ str_eq_ignore_ascii_case a.now b.now }
+{
+    a.eq_ignore_ascii_case(b)
+}

@@ -1,0 +1,21 @@
+//! Messages of RTSP 1.0 (RFC 2326, sections 4 to 7): requests from a stream of bytes, in whatever pieces it comes,
+//! and the text of replies.
+#![tactic(auto)]
+
+mod byte_class;
+mod fault;
+mod headers;
+mod lines;
+mod request;
+mod text;
+mod unit;
+
+pub use byte_class::ByteClass;
+pub use fault::Fault;
+pub use headers::{Header, Headers};
+pub use request::Request;
+pub use text::Text;
+pub use unit::Unit;
+
+/// The most bytes that a head may have, its empty line included.
+pub const MAX_HEAD: usize = 8192;

@@ -1,0 +1,27 @@
+use crate::headers::Headers;
+use crate::text::Text;
+
+ghost use Rattle.std.specs.Prelude.{◌≡◌};
+ghost use Rattle.std.specs.Option.{option_copied};
+
+/// A request as it came (RFC 2326, 6). Its texts are bytes.
+#[derive(Drop)]
+pub struct Request {
+    pub method: Text,
+    pub uri: Text,
+    pub version: Text,
+    /// The number of its CSeq field, where that can be read (RFC 2326, 12.17).
+    pub cseq: Option<u32>,
+    pub headers: Headers,
+}
+
+impl Request {
+    ghost use Rattle.rtsp_message.specs.Headers.{value_of};
+
+    /// The value of the first header field of that name, whatever the case of its ASCII letters.
+    pub fn header(&self, name: &[u8]) -> Option<&Text>
+        ensures { option_copied result ≡ value_of self.now.headers name.now }
+    {
+        self.headers.value(name)
+    }
+}

@@ -1,0 +1,7 @@
+use crate::request::Request;
+
+/// What a connection's stream is made of.
+#[derive(Drop)]
+pub enum Unit {
+    Message(Request),
+}
