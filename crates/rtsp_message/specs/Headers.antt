@@ -1,6 +1,7 @@
 -- Looking up header fields (RFC 2326, 12; RFC 2068, 4.2: names without regard to case), and numbers in them.
 use Rattle.std.specs.Prelude.{ℕ, ◌+◌, ◌-◌, ◌*◌, ◌^◌, Bool, ◌&&◌, nat_le, nat_lt, if◌then◌else◌, List, Option, None, Some, length, find, fold, codes}
 use Rattle.std.specs.List.{list_all}
+use Rattle.std.specs.Char.{is_ascii_digit}
 use Rattle.std.specs.Str.{str_eq_ignore_ascii_case}
 use Rattle.std.specs.Option.{option_map, option_and_then}
 use Rattle.rtsp_message.specs.declared.headers.Header.{Header}
@@ -9,16 +10,13 @@ use Rattle.rtsp_message.specs.declared.headers.Header.{Header}
 abbrev pub value_of : List Header → List ℕ → Option (List ℕ)
 value_of headers name = option_map (λ header. header.value) (find (λ header. str_eq_ignore_ascii_case header.name name) headers)
 
-abbrev pub is_digit : ℕ → Bool
-is_digit b = nat_le 48 b && nat_le b 57
-
 -- what decimal digits stand for
 abbrev pub decimal_value : List ℕ → ℕ
 decimal_value digits = fold (λ n b. n * 10 + (b - 48)) 0 digits
 
 -- one or more digits
 abbrev pub is_numeral : List ℕ → Bool
-is_numeral text = nat_lt 0 (length text) && list_all is_digit text
+is_numeral text = nat_lt 0 (length text) && list_all is_ascii_digit text
 
 -- the number that a text of digits gives, where it is at most the limit
 abbrev pub number_up_to : ℕ → List ℕ → Option ℕ

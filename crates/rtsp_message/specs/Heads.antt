@@ -1,6 +1,7 @@
 -- The head of a message, and what may stand in its place (RFC 2326, 4 and 6).
-use Rattle.std.specs.Prelude.{◌≡◌, ℕ, ◌<◌, ◌≤◌, Bool, true, false, ◌||◌, ◌==◌, List, [], ◌∷◌, ◌++◌, length, take, codes}
+use Rattle.std.specs.Prelude.{◌≡◌, ℕ, ◌<◌, ◌≤◌, Bool, true, false, ◌||◌, ◌==◌, List, [], ◌∷◌, ◌++◌, ◌⊎◌, length, take, codes}
 use Rattle.std.specs.List.{flat_map}
+use Rattle.std.specs.Str.{str_eq_ignore_ascii_case}
 use Rattle.rtsp_message.specs.declared.TheConstants.{MAX_HEAD}
 use Rattle.rtsp_message.specs.declared.headers.Header.{Header}
 use Rattle.rtsp_message.specs.declared.request.Request.{Request}
@@ -8,7 +9,6 @@ use Rattle.rtsp_message.specs.declared.fault.Fault.{Fault}
 use Rattle.rtsp_message.specs.declared.fault.Fault.TheVariants.{BadLine, BadHeader, BadLength, HeadTooLong}
 use Rattle.rtsp_message.specs.Lines.{IsRequestLine, IsHeaderLine, HasNoLf, ended, said}
 use Rattle.rtsp_message.specs.Headers.{cseq_of}
-use Rattle.std.specs.Str.{str_eq_ignore_ascii_case}
 
 -- a CR or an LF, which may stand between messages
 abbrev pub is_pad : ℕ → Bool
@@ -38,71 +38,84 @@ AreHeaders [] (header ∷ headers) = ⊥
 AreHeaders (line ∷ lines) [] = ⊥
 AreHeaders (line ∷ lines) (header ∷ headers) = IsGoodHeader line header × AreHeaders lines headers
 
--- The head of a message: a request line, header lines, and an empty line.
-pub record IsHead (bytes : List ℕ) (request : Request) : Type 0 where
-  pub first : List ℕ
+-- what is wrong with a line that stands where a header line is due
+abbrev pub IsBadHeader : List ℕ → Fault → Type 0
+IsBadHeader text BadHeader = (0 < length text) × ((header : Header) → IsHeaderLine text header → ⊥)
+IsBadHeader text BadLength = (header : Header) × IsHeaderLine text header × (is_content_length header.name ≡ true)
+IsBadHeader text BadLine = ⊥
+IsBadHeader text HeadTooLong = ⊥
+
+-- What follows a request line: these header fields, and an empty line.
+pub record EndsHeaders (text : List ℕ) (headers : List Header) : Type 0 where
   pub lines : List (List ℕ)
   pub last : List ℕ
-  pub whole : bytes ≡ ended first ++ (joined lines ++ ended last)
-  pub first_unbroken : HasNoLf first
-  pub request_line : IsRequestLine (said first) request.method request.uri request.version
-  pub headers : AreHeaders lines request.headers
+  pub whole : text ≡ joined lines ++ ended last
+  pub are_headers : AreHeaders lines headers
   pub last_unbroken : HasNoLf last
   pub last_empty : said last ≡ []
+
+-- What follows a request line: header fields, and then a bad line.
+pub record BreaksHeaders (text : List ℕ) (fault : Fault) : Type 0 where
+  pub lines : List (List ℕ)
+  pub headers : List Header
+  pub line : List ℕ
+  pub more : List ℕ
+  pub whole : text ≡ joined lines ++ (ended line ++ more)
+  pub are_headers : AreHeaders lines headers
+  pub unbroken : HasNoLf line
+  pub bad : IsBadHeader (said line) fault
+
+-- What follows a request line: header fields, and a line that hasn't come whole.
+pub record LeavesHeaders (text : List ℕ) : Type 0 where
+  pub lines : List (List ℕ)
+  pub headers : List Header
+  pub tail : List ℕ
+  pub whole : text ≡ joined lines ++ tail
+  pub are_headers : AreHeaders lines headers
+  pub unfinished : HasNoLf tail
+
+-- The head of a message: a request line, header lines, and an empty line (RFC 2326, 6).
+pub record IsHead (bytes : List ℕ) (request : Request) : Type 0 where
+  pub first : List ℕ
+  pub rest : List ℕ
+  pub whole : bytes ≡ ended first ++ rest
+  pub first_unbroken : HasNoLf first
+  pub request_line : IsRequestLine (said first) request.method request.uri request.version
+  pub fields : EndsHeaders rest request.headers
   pub cseq : request.cseq ≡ cseq_of request.headers
   pub short : length bytes ≤ MAX_HEAD
 
--- the lines of a head that goes on: none yet, or a request line and header lines
-abbrev pub AreGoodSoFar : List (List ℕ) → Type 0
-AreGoodSoFar [] = Unit {0}
-AreGoodSoFar (first ∷ lines) =
-    HasNoLf first × (method : List ℕ) × (uri : List ℕ) × (version : List ℕ)
-    × IsRequestLine (said first) method uri version
-    × (headers : List Header) × AreHeaders lines headers
-
--- the fault of the next line after such lines
-abbrev pub IsBadAfter : List (List ℕ) → List ℕ → Fault → Type 0
-IsBadAfter [] line BadLine = (method uri version : List ℕ) → IsRequestLine (said line) method uri version → ⊥
-IsBadAfter (first ∷ lines) line BadHeader = (0 < length (said line)) × ((header : Header) → IsHeaderLine (said line) header → ⊥)
-IsBadAfter (first ∷ lines) line BadLength = (header : Header) × IsHeaderLine (said line) header × (is_content_length header.name ≡ true)
-IsBadAfter [] line BadHeader = ⊥
-IsBadAfter [] line BadLength = ⊥
-IsBadAfter [] line HeadTooLong = ⊥
-IsBadAfter (first ∷ lines) line BadLine = ⊥
-IsBadAfter (first ∷ lines) line HeadTooLong = ⊥
-
--- A bad line stands whole in the first MAX_HEAD bytes, after good lines and before an empty one.
-pub record HasBadLine (bytes : List ℕ) (fault : Fault) : Type 0 where
-  pub lines : List (List ℕ)
+-- The first line has come whole, and is no request line.
+pub record HasBadRequestLine (bytes : List ℕ) : Type 0 where
   pub line : List ℕ
   pub more : List ℕ
-  pub whole : bytes ≡ joined lines ++ (ended line ++ more)
-  pub good : AreGoodSoFar lines
+  pub whole : bytes ≡ ended line ++ more
   pub unbroken : HasNoLf line
-  pub bad : IsBadAfter lines line fault
-  pub within : length (joined lines ++ ended line) ≤ MAX_HEAD
+  pub bad : (method uri version : List ℕ) → IsRequestLine (said line) method uri version → ⊥
 
--- The first MAX_HEAD bytes are there, with neither a bad line nor an empty one among them.
-pub record IsTooLong (bytes : List ℕ) : Type 0 where
-  pub lines : List (List ℕ)
-  pub tail : List ℕ
-  pub whole : take MAX_HEAD bytes ≡ joined lines ++ tail
-  pub good : AreGoodSoFar lines
-  pub unfinished : HasNoLf tail
-  pub long : MAX_HEAD ≤ length bytes
+-- A request line, after which the text is so.
+pub record HasRequestLine (bytes : List ℕ) (then : List ℕ → Type 0) : Type 0 where
+  pub first : List ℕ
+  pub rest : List ℕ
+  pub method : List ℕ
+  pub uri : List ℕ
+  pub version : List ℕ
+  pub whole : bytes ≡ ended first ++ rest
+  pub first_unbroken : HasNoLf first
+  pub request_line : IsRequestLine (said first) method uri version
+  pub after : then rest
 
--- what is wrong with bytes that stand where a message is due
+-- the bytes hold neither a bad line nor the end of a head
+abbrev pub GoesOn : List ℕ → Type 0
+GoesOn bytes = HasNoLf bytes ⊎ HasRequestLine bytes LeavesHeaders
+
+-- The first bad line of the first MAX_HEAD bytes decides. Where these hold neither a bad line nor the end of the head, it is too long.
 abbrev pub HasFault : List ℕ → Fault → Type 0
-HasFault bytes BadLine = HasBadLine bytes BadLine
-HasFault bytes BadHeader = HasBadLine bytes BadHeader
-HasFault bytes BadLength = HasBadLine bytes BadLength
-HasFault bytes HeadTooLong = IsTooLong bytes
+HasFault bytes BadLine = HasBadRequestLine (take MAX_HEAD bytes)
+HasFault bytes BadHeader = HasRequestLine (take MAX_HEAD bytes) (λ rest. BreaksHeaders rest BadHeader)
+HasFault bytes BadLength = HasRequestLine (take MAX_HEAD bytes) (λ rest. BreaksHeaders rest BadLength)
+HasFault bytes HeadTooLong = GoesOn (take MAX_HEAD bytes) × (MAX_HEAD ≤ length bytes)
 
--- A head that may still go on: good lines and an unfinished one, fewer than MAX_HEAD bytes.
-pub record IsUnfinished (bytes : List ℕ) : Type 0 where
-  pub lines : List (List ℕ)
-  pub tail : List ℕ
-  pub whole : bytes ≡ joined lines ++ tail
-  pub good : AreGoodSoFar lines
-  pub unfinished : HasNoLf tail
-  pub short : length bytes < MAX_HEAD
+-- a head that may still go on
+abbrev pub IsUnfinished : List ℕ → Type 0
+IsUnfinished bytes = GoesOn bytes × (length bytes < MAX_HEAD)

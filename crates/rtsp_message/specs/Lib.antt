@@ -1,4 +1,6 @@
 pub mod Lines
 pub mod Headers
 pub mod Heads
+pub mod Fronts
 pub mod Stream
+pub mod Readers

@@ -1,5 +1,5 @@
 -- The stream of a connection: messages with pads between them, and what has come of the next (RFC 2326, 4).
-use Rattle.std.specs.Prelude.{◌≡◌, ℕ, true, List, [], ◌∷◌, ◌++◌, Option, None, Some}
+use Rattle.std.specs.Prelude.{◌≡◌, ◌≤◌, ℕ, true, List, [], ◌∷◌, ◌++◌, Option, None, Some, length, take, drop}
 use Rattle.rtsp_message.specs.declared.unit.Unit.{Unit as StreamUnit}
 use Rattle.rtsp_message.specs.declared.unit.Unit.TheVariants.{Message}
 use Rattle.rtsp_message.specs.declared.fault.Fault.{Fault}
@@ -69,3 +69,19 @@ fault_number BadLine = 1
 fault_number BadHeader = 2
 fault_number BadLength = 3
 fault_number HeadTooLong = 4
+
+-- The units at the front of the bytes take this many, with the pads between them.
+pub record ReadsSoFar (bytes : List ℕ) (units : List StreamUnit) (len : ℕ) : Type 0 where
+  pub pieces : List Piece
+  pub front : take len bytes ≡ bytes_of pieces
+  pub are_pieces : ArePieces pieces
+  pub units_are : units ≡ units_of pieces
+  pub within : len ≤ length bytes
+
+-- the bytes behind them wait, or have this fault
+abbrev pub IsScanEnd : List ℕ → Option Fault → Type 0
+IsScanEnd rest None = EndsAs rest (Waits rest)
+IsScanEnd rest (Some fault) = EndsAs rest (Fails fault)
+
+abbrev pub IsScan : List ℕ → List StreamUnit → ℕ → Option Fault → Type 0
+IsScan bytes units len fault = ReadsSoFar bytes units len × IsScanEnd (drop len bytes) fault

@@ -4,8 +4,11 @@
 
 mod byte_class;
 mod fault;
+mod head;
 mod headers;
 mod lines;
+mod numbers;
+mod reader;
 mod request;
 mod text;
 mod unit;
@@ -13,6 +16,7 @@ mod unit;
 pub use byte_class::ByteClass;
 pub use fault::Fault;
 pub use headers::{Header, Headers};
+pub use reader::{Fed, Reader};
 pub use request::Request;
 pub use text::Text;
 pub use unit::Unit;
