@@ -4,3 +4,4 @@ pub mod Heads
 pub mod Fronts
 pub mod Stream
 pub mod Readers
+pub mod Reply

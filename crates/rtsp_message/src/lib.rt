@@ -9,7 +9,10 @@ mod headers;
 mod lines;
 mod numbers;
 mod reader;
+mod plain;
+mod reply;
 mod request;
+mod status;
 mod text;
 mod unit;
 
@@ -17,7 +20,10 @@ pub use byte_class::ByteClass;
 pub use fault::Fault;
 pub use headers::{Header, Headers};
 pub use reader::{Fed, Reader};
+pub use plain::put_plain;
+pub use reply::{Fields, Reply, put_reply};
 pub use request::Request;
+pub use status::Status;
 pub use text::Text;
 pub use unit::Unit;
 
