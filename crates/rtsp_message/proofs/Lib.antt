@@ -5,3 +5,5 @@ pub mod LineEnds
 pub mod Blocks
 pub mod HeadParts
 pub mod Pieces
+pub mod Windows
+pub mod OneReading

@@ -85,3 +85,10 @@ IsScanEnd rest (Some fault) = EndsAs rest (Fails fault)
 
 abbrev pub IsScan : List ℕ → List StreamUnit → ℕ → Option Fault → Type 0
 IsScan bytes units len fault = ReadsSoFar bytes units len × IsScanEnd (drop len bytes) fault
+
+-- pieces that come one after another, from where a reading stands
+abbrev pub ReadsPieces : Ending → List (List ℕ) → List StreamUnit → Ending → Type 0
+ReadsPieces start [] units ending = (units ≡ []) × (ending ≡ start)
+ReadsPieces start (piece ∷ pieces) units ending =
+    (first : List StreamUnit) × (mid : Ending) × (others : List StreamUnit)
+    × ReadsOn start piece first mid × ReadsPieces mid pieces others ending × (units ≡ first ++ others)

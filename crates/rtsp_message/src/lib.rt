@@ -6,6 +6,7 @@ mod byte_class;
 mod fault;
 mod head;
 mod headers;
+pub mod laws;
 mod lines;
 mod numbers;
 mod reader;

@@ -1,0 +1,84 @@
+//! What a device is: where bytes come from, or go to.
+ghost use Rattle.std.specs.Prelude.{◌≡◌, ℕ, ◌+◌, ◌^◌, ◌<◌, ◌≤◌, List, Option, Bool, true, false, length, take, IfOk, OnOk, OnErr};
+ghost use Rattle.std.specs.Io.KnownBytes.{Keeps, Appends, Consumes, IsAtEnd};
+
+use std::error::Error;
+use std::fmt;
+
+/// A refused call of a device, which has failed for good.
+#[derive(Clone, Copy, Debug, PartialEq, Eq)]
+pub struct Failed;
+
+impl fmt::Display for Failed {
+    fn fmt<W: fmt::Write>(&self, f: &mut fmt::Formatter<W>) -> fmt::Result {
+        write!(f, "the device has failed")
+    }
+}
+
+impl Error for Failed {}
+
+/// A device that bytes come from.
+///
+/// It works until it refuses a call. A refused call moves no byte, and from then on each call is
+/// refused and leaves the device as it is.
+pub trait Source {
+    /// The bytes still to come, where the device tells them.
+    ghost incoming: { Self → Option (List ℕ) };
+
+    /// At most so many bytes are still to come.
+    ghost bound: { Self → ℕ };
+
+    /// It has refused a call.
+    ghost failed: { Self → Bool };
+
+    /// Reads bytes to the front of `buf` and says how many: 0 into a buffer that isn't empty is the
+    /// end. `Failed` where the device fails now or failed before.
+    fn read(&mut self, buf: &mut [u8]) -> Result<usize, Failed>
+        ensures count { IfOk result (λ n. n ≤ length buf.new) }
+        ensures bytes { IfOk result (λ n. Consumes (incoming self.old) (incoming self.new) (take n buf.new)) }
+        ensures end { IfOk result (λ n. n ≡ 0 → 0 < length buf.new → IsAtEnd (incoming self.new)) }
+        ensures left { IfOk result (λ n. bound self.new + n ≡ bound self.old) }
+        ensures working { OnOk result ((failed self.old ≡ false) × (failed self.new ≡ false)) }
+
+        ensures refused { OnErr result (failed self.new ≡ true) }
+        ensures refused_moves_none { OnErr result (Keeps (incoming self.old) (incoming self.new)) }
+        ensures refused_left { OnErr result (bound self.new ≡ bound self.old) }
+        ensures stays { failed self.old ≡ true → self.new ≡ self.old };
+
+    /// At most so many bytes are still to come, and never more than 2^63.
+    fn left(&self) -> u64
+        ensures value { result ≡ bound self.now }
+        ensures most { result ≤ 2 ^ 63 };
+
+    /// Whether the device has refused a call.
+    fn has_failed(&self) -> bool
+        ensures { result ≡ failed self.now };
+}
+
+/// A device that bytes go to.
+///
+/// It works until it refuses a call. A refused call moves no byte, and from then on each call is
+/// refused and leaves the device as it is.
+pub trait Sink {
+    /// The bytes written so far, where the device tells them.
+    ghost written: { Self → Option (List ℕ) };
+
+    /// It has refused a call.
+    ghost failed: { Self → Bool };
+
+    /// Writes bytes from the front of `bytes` and says how many: at least 1, if there is one.
+    /// `Failed` where the device fails now or failed before.
+    fn write(&mut self, bytes: &[u8]) -> Result<usize, Failed>
+        ensures count { IfOk result (λ n. n ≤ length bytes.now) }
+        ensures progress { IfOk result (λ n. 0 < length bytes.now → 0 < n) }
+        ensures bytes { IfOk result (λ n. Appends (written self.old) (written self.new) (take n bytes.now)) }
+        ensures working { OnOk result ((failed self.old ≡ false) × (failed self.new ≡ false)) }
+
+        ensures refused { OnErr result (failed self.new ≡ true) }
+        ensures refused_moves_none { OnErr result (Keeps (written self.old) (written self.new)) }
+        ensures stays { failed self.old ≡ true → self.new ≡ self.old };
+
+    /// Whether the device has refused a call.
+    fn has_failed(&self) -> bool
+        ensures { result ≡ failed self.now };
+}

@@ -1,0 +1,118 @@
+//! Blocks of binary data that stand between the messages of a connection (RFC 2326, 10.12).
+ghost use Rattle.std.specs.Prelude.{◌≡◌, ◌↔◌, ◌<◌, ◌++◌, length, OnOk, OnErr};
+ghost use Rattle.interleaved.specs.Frame.{IsFrame, MayBeginFrame, StandsAt, frame_of, head_of};
+
+use super::payload::Payload;
+use std::alloc::AllocError;
+use std::error::Error;
+use std::fmt;
+
+/// The sign that a frame begins with, `$`.
+const DOLLAR: u8 = 0x24;
+
+/// A dollar sign, the channel and the two bytes of the length stand before the data.
+const HEAD_BYTES: usize = 4;
+
+/// A block of binary data on a channel.
+#[derive(Debug, Drop)]
+pub struct Frame {
+    /// The channel that the data belongs to, as SETUP gave it.
+    pub channel: u8,
+    /// The data, at most 65,535 bytes in a frame that came from a connection.
+    pub payload: Payload,
+}
+
+/// What stands at the front of some bytes where a frame may begin.
+#[derive(Clone, Copy, Debug, PartialEq, Eq)]
+pub enum FrameAt {
+    /// A whole frame of so many bytes, its head included.
+    Whole(usize),
+    /// The bytes so far begin with no frame.
+    NeedMore,
+}
+
+/// Why a frame was not put.
+#[derive(Clone, Copy, Debug, PartialEq, Eq)]
+pub enum PutFault {
+    /// The data is longer than 65,535 bytes.
+    TooLong,
+    /// There was no memory for it.
+    OutOfMemory,
+}
+
+impl PutFault {
+    /// The number of this fault.
+    pub fn number(self) -> u8
+        ensures too_long { self ≡ PutFault.TooLong → result ≡ 1 }
+        ensures out_of_memory { self ≡ PutFault.OutOfMemory → result ≡ 2 }
+    {
+        match self {
+            PutFault::TooLong => 1,
+            PutFault::OutOfMemory => 2,
+        }
+    }
+}
+
+impl fmt::Display for PutFault {
+    fn fmt<W: fmt::Write>(&self, f: &mut fmt::Formatter<W>) -> fmt::Result {
+        match self {
+            PutFault::TooLong => write!(f, "the data is too long for a frame"),
+            PutFault::OutOfMemory => write!(f, "out of memory"),
+        }
+    }
+}
+
+impl Error for PutFault {}
+
+impl From<AllocError> for PutFault {
+    ghost use Rattle.interleaved.specs.declared.frame.PutFault.TheVariants.{OutOfMemory};
+
+    ghost from_gives = { λ _ e. e ≡ OutOfMemory };
+
+    fn from(_error: AllocError) -> PutFault {
+        PutFault::OutOfMemory
+    }
+}
+
+/// The four bytes that stand before `len` bytes of data on the channel.
+pub fn frame_head(channel: u8, len: u16) -> [u8; HEAD_BYTES]
+    ensures { result ≡ head_of channel len }
+{
+    let [high, low] = len.to_be_bytes();
+    [DOLLAR, channel, high, low]
+}
+
+/// Appends the frame of the data on the channel. After a refusal `out` is as it was.
+pub fn put_frame(out: &mut Vec<u8>, channel: u8, payload: &[u8]) -> Result<(), PutFault>
+    ensures ok { OnOk result (out.new.items ≡ out.old.items ++ frame_of channel payload.now) }
+    ensures frame { OnOk result (IsFrame (frame_of channel payload.now) channel payload.now) }
+    ensures too_long { (result ≡ Err PutFault.TooLong) ↔ (65_535 < length payload.now) }
+    ensures err { OnErr result (out.new.items ≡ out.old.items) }
+{
+    let Ok(len) = u16::try_from(payload.len()) else {
+        return Err(PutFault::TooLong);
+    };
+    let head = frame_head(channel, len);
+    out.reserve(HEAD_BYTES + payload.len())?;
+    out.extend_from_slice(&head).unwrap();
+    out.extend_from_slice(payload).unwrap();
+    Ok(())
+}
+
+/// What stands at the front of the bytes, at a place where a frame may begin.
+pub fn frame_at(bytes: &[u8]) -> FrameAt
+    requires { MayBeginFrame bytes.now }
+    ensures { StandsAt bytes.now result }
+{
+    match bytes {
+        [_, _, high, low, ..] => {
+            let len = HEAD_BYTES + usize::from(u16::from_be_bytes([*high, *low]));
+            if len <= bytes.len() {
+                FrameAt::Whole(len)
+            } else {
+                FrameAt::NeedMore
+            }
+        }
+        _ => FrameAt::NeedMore,
+    }
+}
