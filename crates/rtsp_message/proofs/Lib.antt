@@ -7,3 +7,4 @@ pub mod HeadParts
 pub mod Pieces
 pub mod Windows
 pub mod OneReading
+pub mod Compose

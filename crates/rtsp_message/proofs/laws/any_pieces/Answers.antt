@@ -1,0 +1,7 @@
+use Rattle.std.proofs.Common.{[]}
+use Rattle.rtsp_message.specs.Stream.{Waits}
+use Rattle.rtsp_message.proofs.Compose.{pieces_compose, nothing_reads}
+use Rattle.rtsp_message.proofs.laws.any_pieces.Goals as goal
+
+pub returns : goal.returns
+returns c pieces units e p = pieces_compose [] [] (Waits []) pieces units e nothing_reads p

@@ -1,0 +1,8 @@
+use Rattle.rtsp_message.proofs.OneReading.{one_reading}
+use Rattle.rtsp_message.proofs.laws.one_reading.Goals as goal
+
+pub returns-clause-units : goal.returns-clause-units
+returns-clause-units c stream us vs d e p q = (one_reading p q).0
+
+pub returns-clause-ending : goal.returns-clause-ending
+returns-clause-ending c stream us vs d e p q = (one_reading p q).1

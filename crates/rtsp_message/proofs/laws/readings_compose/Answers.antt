@@ -1,0 +1,5 @@
+use Rattle.rtsp_message.proofs.Compose.{readings_compose}
+use Rattle.rtsp_message.proofs.laws.readings_compose.Goals as goal
+
+pub returns : goal.returns
+returns c = readings_compose
