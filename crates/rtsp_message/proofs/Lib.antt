@@ -8,3 +8,5 @@ pub mod Pieces
 pub mod Windows
 pub mod OneReading
 pub mod Compose
+pub mod HandingOut
+pub mod Fetching

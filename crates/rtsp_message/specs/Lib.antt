@@ -5,3 +5,5 @@ pub mod Fronts
 pub mod Stream
 pub mod Readers
 pub mod Reply
+pub mod Intakes
+pub mod IntakeFields

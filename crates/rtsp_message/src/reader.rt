@@ -59,15 +59,23 @@ impl Reader {
         }
     }
 
+    /// Why the stream can't be read on, once that was answered.
+    pub fn fault(&self) -> Option<Fault>
+        ensures { result ≡ fault_of self.now }
+    {
+        self.fault
+    }
+
     /// Reads on with the next piece of the stream.
     ///
     /// Once a fault was answered, each later call answers no units and the same fault. After an `Err` the reader is
     /// as before, and the piece counts as not fed.
-    pub fn feed(&mut self, alloc: Global, piece: &[u8]) -> Result<Fed, AllocError>
+    pub fn feed(&mut self, piece: &[u8]) -> Result<Fed, AllocError>
         ensures units { IfOk result (λ fed. ReadsOn self.old piece.now fed.units.items self.new) }
         ensures fault { IfOk result (λ fed. fed.fault ≡ fault_of self.new) }
         ensures err { OnErr result (self.new ≡ self.old) }
     {
+        let alloc = *self.rest.allocator();
         if let Some(fault) = self.fault {
             return Ok(Fed {
                 units: Vec::new(alloc),

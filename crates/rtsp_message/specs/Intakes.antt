@@ -1,0 +1,74 @@
+-- What an intake still has to hand out.
+use Rattle.std.specs.Prelude.{◌≡◌, ◌≤◌, ◌<◌, ◌+◌, ℕ, Bool, true, false, List, [], ◌∷◌, ◌++◌, Option, None, Some, length}
+use Rattle.std.specs.Io.KnownBytes.{Consumes, IsAtEnd}
+use Rattle.rtsp_message.specs.declared.fault.Fault.{Fault}
+use Rattle.rtsp_message.specs.declared.unit.Unit.{Unit as StreamUnit}
+use Rattle.rtsp_message.specs.declared.intake.Next.{Next}
+use Rattle.rtsp_message.specs.declared.intake.Next.TheVariants as answers
+use Rattle.rtsp_message.specs.Stream.{Ending, Waits, Fails, ReadsOn, fault_of}
+
+-- An intake: its source, the units that are read and not handed out, where the reading stands,
+-- the bytes that the source gave and the reader has not taken, and whether the source gave all.
+pub record IntakeState (S : Type 0) : Type 0 where
+  pub source : S
+  pub queue : List StreamUnit
+  pub reading : Ending
+  pub held : List ℕ
+  pub ended : Bool
+
+-- an intake from which nothing was taken yet
+abbrev pub fresh : {S : Type 0} → S → IntakeState S
+fresh source = record { source = source; queue = []; reading = Waits []; held = []; ended = false }
+
+-- the unit that an answer hands out
+abbrev pub handed : Next → List StreamUnit
+handed (answers.Unit content) = content ∷ []
+handed answers.End = []
+handed (answers.Fault fault) = []
+handed answers.ReadFailed = []
+handed answers.OutOfMemory = []
+
+module _ {S : Type 0} where
+  -- If the source goes on with these bytes, these units are still to be handed out, and the reading ends so.
+  abbrev pub Ahead : IntakeState S → List ℕ → List StreamUnit → Ending → Type 0
+  Ahead intake more units ending =
+      (later : List StreamUnit) × ReadsOn intake.reading (intake.held ++ more) later ending × (units ≡ intake.queue ++ later)
+
+  -- From old to new these units were handed out: what is ahead of old, with the bytes that the source gave since, is they and what is ahead of new.
+  abbrev pub HandsOut : (S → Option (List ℕ)) → IntakeState S → IntakeState S → List StreamUnit → Type 0
+  HandsOut incoming old new units =
+      (read : List ℕ) × Consumes (incoming old.source) (incoming new.source) read
+      × ((more : List ℕ) (later : List StreamUnit) (ending : Ending) → Ahead new more later ending → Ahead old (read ++ more) (units ++ later) ending)
+
+  -- all that was read is handed out
+  abbrev pub IsDrained : IntakeState S → Type 0
+  IsDrained intake = Ahead intake [] [] intake.reading
+
+  -- what an answer tells of the intake, beside the unit that it hands out
+  abbrev pub Tells : (S → Option (List ℕ)) → (S → Bool) → IntakeState S → Next → Type 0
+  Tells incoming failed intake (answers.Unit content) = Unit {0}
+  Tells incoming failed intake answers.End = IsDrained intake × (fault_of intake.reading ≡ None) × IsAtEnd (incoming intake.source)
+  Tells incoming failed intake (answers.Fault fault) = IsDrained intake × (intake.reading ≡ Fails fault)
+  Tells incoming failed intake answers.ReadFailed = IsDrained intake × (fault_of intake.reading ≡ None) × (failed intake.source ≡ true)
+  Tells incoming failed intake answers.OutOfMemory = intake.queue ≡ []
+
+  -- each call answers so from then on
+  abbrev pub IsOver : (S → Bool) → IntakeState S → Next → Type 0
+  IsOver failed intake (answers.Unit content) = ⊥
+  IsOver failed intake answers.End = (intake.queue ≡ []) × (fault_of intake.reading ≡ None) × (intake.ended ≡ true)
+  IsOver failed intake (answers.Fault fault) = (intake.queue ≡ []) × (fault_of intake.reading ≡ Some fault)
+  IsOver failed intake answers.ReadFailed =
+      (intake.queue ≡ []) × (fault_of intake.reading ≡ None) × (intake.ended ≡ false) × (intake.held ≡ []) × (failed intake.source ≡ true)
+  IsOver failed intake answers.OutOfMemory = ⊥
+
+  -- after End, Fault and ReadFailed it is over
+  abbrev pub Lasts : (S → Bool) → IntakeState S → Next → Type 0
+  Lasts failed intake (answers.Unit content) = Unit {0}
+  Lasts failed intake answers.End = IsOver failed intake answers.End
+  Lasts failed intake (answers.Fault fault) = IsOver failed intake (answers.Fault fault)
+  Lasts failed intake answers.ReadFailed = IsOver failed intake answers.ReadFailed
+  Lasts failed intake answers.OutOfMemory = Unit {0}
+
+-- an answer that hands out no unit
+abbrev pub IsNoUnit : Next → Type 0
+IsNoUnit answer = handed answer ≡ []

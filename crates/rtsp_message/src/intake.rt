@@ -1,0 +1,121 @@
+use crate::fault::Fault;
+use crate::reader::Reader;
+use crate::unit::Unit;
+use interleaved::Source;
+use std::alloc::Global;
+use std::marker::Model;
+use std::vec::IntoIter;
+
+ghost use Rattle.std.specs.Prelude.{◌≡◌, ◌<◌, ◌+◌, [], length, IfSome, IfNone};
+
+/// The most bytes that are read from a source at once.
+const PIECE: usize = 4096;
+
+/// What an intake answers.
+#[derive(Drop)]
+pub enum Next {
+    Unit(Unit),
+    /// The source is at its end, and what came last is no whole unit.
+    End,
+    /// The stream can't be read on.
+    Fault(Fault),
+    /// The source has failed.
+    ReadFailed,
+    /// Memory was refused. No byte is lost: the next call goes on from there.
+    OutOfMemory,
+}
+
+/// The units of a source, one by one.
+#[derive(Drop)]
+pub struct Intake<S: Source> {
+    source: S,
+    reader: Reader,
+    units: IntoIter<Unit>,
+    /// Bytes of the source that the reader has not taken: the first `held` of these.
+    piece: [u8; PIECE],
+    held: usize,
+    /// The source has given all its bytes.
+    ended: bool,
+}
+
+impl<S: Source> Model for Intake<S> {
+    ghost use Rattle.rtsp_message.specs.Intakes.{IntakeState};
+
+    ghost Value = { IntakeState S };
+
+    ghost use Rattle.rtsp_message.specs.IntakeFields.{state_of, IsIntake};
+
+    ghost view = { state_of };
+
+    ghost invariant = { IsIntake S.incoming };
+}
+
+impl<S: Source + Drop> Intake<S> {
+    ghost use Rattle.rtsp_message.specs.Intakes.{fresh, handed, HandsOut, Tells, IsOver, Lasts, IsNoUnit};
+
+    pub fn new(alloc: Global, source: S) -> Intake<S>
+        ensures { result ≡ fresh source }
+    {
+        Intake {
+            source,
+            reader: Reader::new(alloc),
+            units: Vec::new(alloc).into_iter(),
+            piece: [0; PIECE],
+            held: 0,
+            ended: false,
+        }
+    }
+
+    /// The next unit, or why there is none. After `End`, `Fault` or `ReadFailed` it answers the same for good.
+    pub fn next(&mut self) -> Next
+        ensures hands_out { HandsOut S.incoming self.old self.new (handed result) }
+        ensures tells { Tells S.incoming S.failed self.new result }
+        ensures lasts { Lasts S.failed self.new result }
+        ensures for_good { (answer : _) → IsOver S.failed self.old answer → result ≡ answer }
+    {
+        loop {
+            if let Some(unit) = self.units.next() {
+                return Next::Unit(unit);
+            }
+            if let Some(answer) = self.read_on() {
+                return answer;
+            }
+        }
+    }
+
+    /// Reads units from the next bytes, or answers why there are none to read.
+    fn read_on(&mut self) -> Option<Next>
+        requires { self.old.queue ≡ [] }
+        ensures hands_out { HandsOut S.incoming self.old self.new [] }
+        ensures no_unit { IfSome result IsNoUnit }
+        ensures tells { IfSome result (Tells S.incoming S.failed self.new) }
+        ensures lasts { IfSome result (Lasts S.failed self.new) }
+        ensures for_good { (answer : _) → IsOver S.failed self.old answer → IfSome result (λ a. a ≡ answer) × IfNone result ⊥ }
+        ensures goes_on { IfNone result (S.bound self.new.source + length self.new.held < S.bound self.old.source + length self.old.held) }
+    {
+        if let Some(fault) = self.reader.fault() {
+            return Some(Next::Fault(fault));
+        }
+        if self.ended {
+            return Some(Next::End);
+        }
+        if self.held == 0 {
+            match self.source.read(&mut self.piece) {
+                Ok(0) => {
+                    self.ended = true;
+                    return Some(Next::End);
+                }
+                Ok(count) => self.held = count,
+                Err(_) => return Some(Next::ReadFailed),
+            }
+        }
+        match self.reader.feed(&self.piece[..self.held]) {
+            Ok(fed) => {
+                self.units = fed.units.into_iter();
+                self.held = 0;
+                None
+            }
+            Err(_) => Some(Next::OutOfMemory),
+        }
+    }
+}
