@@ -1,11 +1,12 @@
 -- What an intake hands out, one step after another.
-use Rattle.std.proofs.Common.{◌≡◌, ℕ, List, [], ◌∷◌, ◌++◌, Option, Some, None, Bool, refl, sym, ap, subst, ◌∙◌, append_assoc, append-nil}
+use Rattle.std.proofs.Common.{◌≡◌, ℕ, List, [], ◌∷◌, ◌++◌, Option, ◌⊎◌, inl, inr, ◌+◌, ◌≤◌, length, refl, sym, ap, subst, ◌∙◌, arith, append_assoc, append-nil, length-append}
+use Rattle.rtsp_message.specs.declared.unit.Unit.TheVariants.{Message}
+use Rattle.rtsp_message.proofs.Pieces.{head_is_some}
 use Rattle.std.specs.Io.KnownBytes.{Consumes}
 use Rattle.std.proofs.KnownBytes.{Consumes-trans, Consumes-nil}
-use Rattle.rtsp_message.specs.declared.fault.Fault.{Fault}
 use Rattle.rtsp_message.specs.declared.unit.Unit.{Unit as StreamUnit}
-use Rattle.rtsp_message.specs.Stream.{Ending, Waits, Fails, EndsAs, Reads, ReadsOn}
-use Rattle.rtsp_message.specs.Intakes.{IntakeState, Ahead, HandsOut}
+use Rattle.rtsp_message.specs.Stream.{Piece, Pad, Whole, ArePieces, bytes_of, units_of, Ending, Waits, Fails, EndsAs, Reads, ReadsOn}
+use Rattle.rtsp_message.specs.Intakes.{IntakeState, HandsOut, waiting_len}
 use Rattle.rtsp_message.proofs.Compose.{readings_compose}
 
 -- reading on twice is reading on once
@@ -25,34 +26,56 @@ settled (Waits rest) (Fails fault) a us p = (refl, refl)
 settled (Fails fault) (Waits other) a us p = absurd (cc)
 settled (Fails fault) (Fails other) a us p = (refl, refl)
 
+units_take_bytes : (pieces : List Piece) → ArePieces pieces → length (units_of pieces) ≤ length (bytes_of pieces)
+units_take_bytes [] p = omega arith
+units_take_bytes (Pad byte ∷ pieces) p = omega (arith, units_take_bytes pieces p.1)
+units_take_bytes (Whole bytes (Message request) ∷ pieces) p = omega (arith, units_take_bytes pieces p.1, head_is_some p.0, length-append bytes (bytes_of pieces))
+
+reading_takes_bytes : (stream : List ℕ) (us : List StreamUnit) (m : Ending) → Reads stream us m → length us + waiting_len m ≤ length stream
+reading_takes_bytes stream us (Waits rest) p =
+    omega (arith, ap length p.whole, length-append (bytes_of p.pieces) p.rest, ap length p.units_are, units_take_bytes p.pieces p.are_pieces, ap length p.ends.0)
+reading_takes_bytes stream us (Fails fault) p =
+    omega (arith, ap length p.whole, length-append (bytes_of p.pieces) p.rest, ap length p.units_are, units_take_bytes p.pieces p.are_pieces)
+
+-- each unit takes bytes
+pub units_found : (d m : Ending) (a : List ℕ) (us : List StreamUnit) → ReadsOn d a us m → length us + waiting_len m ≤ waiting_len d + length a
+units_found (Waits rest) m a us p = omega (arith, reading_takes_bytes (rest ++ a) us m p, length-append rest a)
+units_found (Fails fault) m a us p = let e : waiting_len m ≡ 0 = ap waiting_len p.1 in omega (arith, ap length p.0, e)
+
 module _ {S : Type 0} (incoming : S → Option (List ℕ)) where
-  -- the reader took what was held and what was read
-  pub fed_hands_out : (old new : IntakeState S) (read : List ℕ) → Consumes (incoming old.source) (incoming new.source) read → old.queue ≡ [] → ReadsOn old.reading (old.held ++ read) new.queue new.reading → new.held ≡ [] → HandsOut incoming old new []
-  fed_hands_out old new read given empty on taken =
-      (read, given, λ more later ending (vs, q, is).
-        let after = subst (λ (l : List ℕ). ReadsOn new.reading (l ++ more) vs ending) taken q in
-        let both = reads_twice old.reading new.reading ending (old.held ++ read) more new.queue vs on after in
-        (new.queue ++ vs, subst (λ (l : List ℕ). ReadsOn old.reading l (new.queue ++ vs) ending) (append_assoc old.held read more) both, is ∙ ap (λ (l : List StreamUnit). l ++ (new.queue ++ vs)) (sym empty)))
-
-  -- what was read is held
-  pub held_hands_out : (old new : IntakeState S) (read : List ℕ) → Consumes (incoming old.source) (incoming new.source) read → new.queue ≡ old.queue → new.reading ≡ old.reading → new.held ≡ old.held ++ read → HandsOut incoming old new []
-  held_hands_out old new read given queue reading held =
-      (read, given, λ more later ending (vs, q, is).
-        let here = subst (λ (d : Ending). ReadsOn d (new.held ++ more) vs ending) reading q in
-        let back : new.held ++ more ≡ old.held ++ (read ++ more) = ap (λ (l : List ℕ). l ++ more) held ∙ append_assoc old.held read more in
-        (vs, subst (λ (l : List ℕ). ReadsOn old.reading l vs ending) back here, is ∙ ap (λ (l : List StreamUnit). l ++ vs) queue))
-
   -- one after another
   pub HandsOut-trans : (a b c : IntakeState S) (us vs : List StreamUnit) → HandsOut incoming a b us → HandsOut incoming b c vs → HandsOut incoming a c (us ++ vs)
-  HandsOut-trans a b c us vs p q =
-      (p.0 ++ q.0, Consumes-trans (incoming a.source) (incoming b.source) (incoming c.source) p.0 q.0 p.1 q.1, λ more later ending ahead.
-        let there = p.2 (q.0 ++ more) (vs ++ later) ending (q.2 more later ending ahead) in
-        subst (λ (l : List ℕ). Ahead a l ((us ++ vs) ++ later) ending) (sym (append_assoc p.0 q.0 more))
-        (subst (λ (l : List StreamUnit). Ahead a (p.0 ++ (q.0 ++ more)) l ending) (sym (append_assoc us vs later)) there))
+  HandsOut-trans a b c us vs p q = record {
+    read = p.read ++ q.read;
+    taken = p.taken ++ q.taken;
+    found = p.found ++ q.found;
+    given = Consumes-trans (incoming a.source) (incoming b.source) (incoming c.source) p.read q.read p.given q.given;
+    kept =
+      sym (append_assoc a.held p.read q.read) ∙ ap (λ (l : List ℕ). l ++ q.read) p.kept ∙ append_assoc p.taken b.held q.read
+      ∙ ap (λ (l : List ℕ). p.taken ++ l) q.kept ∙ sym (append_assoc p.taken q.taken c.held);
+    reads = reads_twice a.reading b.reading c.reading p.taken q.taken p.found q.found p.reads q.reads;
+    order =
+      sym (append_assoc a.queue p.found q.found) ∙ ap (λ (l : List StreamUnit). l ++ q.found) p.order ∙ append_assoc us b.queue q.found
+      ∙ ap (λ (l : List StreamUnit). us ++ l) q.order ∙ sym (append_assoc us vs c.queue);
+  }
 
-  -- the first unit of the queue
-  pub popped_hands_out : (old new : IntakeState S) (unit : StreamUnit) → new.source ≡ old.source → old.queue ≡ unit ∷ new.queue → new.reading ≡ old.reading → new.held ≡ old.held → HandsOut incoming old new (unit ∷ [])
-  popped_hands_out old new unit source queue reading held =
-      ([], subst (λ (s : S). Consumes (incoming old.source) (incoming s) []) (sym source) (Consumes-nil (incoming old.source)), λ more later ending (vs, q, is).
-        let here = subst (λ (d : Ending). ReadsOn d (new.held ++ more) vs ending) reading q in
-        (vs, subst (λ (l : List ℕ). ReadsOn old.reading (l ++ more) vs ending) held here, ap (λ (l : List StreamUnit). unit ∷ l) is ∙ ap (λ (l : List StreamUnit). l ++ vs) (sym queue)))
+  -- the reader took nothing: what the source gave is held
+  pub holds_more : (old new : IntakeState S) (read : List ℕ) (units : List StreamUnit) → Consumes (incoming old.source) (incoming new.source) read → new.held ≡ old.held ++ read → new.reading ≡ old.reading → ReadsOn old.reading [] [] old.reading → old.queue ≡ units ++ new.queue → HandsOut incoming old new units
+  holds_more old new read units given held reading stands queue = record {
+    read = read;
+    taken = [];
+    found = [];
+    given = given;
+    kept = sym held;
+    reads = subst (ReadsOn old.reading [] []) (sym reading) stands;
+    order = append-nil old.queue ∙ queue;
+  }
+
+  -- nothing happened
+  pub holds_same : (old : IntakeState S) → ReadsOn old.reading [] [] old.reading → HandsOut incoming old old []
+  holds_same old stands = holds_more old old [] [] (Consumes-nil (incoming old.source)) (sym (append-nil old.held)) refl stands refl
+
+  -- either nothing happened, or this was handed out
+  pub handed_so_far : (start now : IntakeState S) → (now ≡ start) ⊎ HandsOut incoming start now [] → ReadsOn now.reading [] [] now.reading → HandsOut incoming start now []
+  handed_so_far start now (inl same) stands = subst (λ (s : IntakeState S). HandsOut incoming s now []) same (holds_same now stands)
+  handed_so_far start now (inr out) stands = out

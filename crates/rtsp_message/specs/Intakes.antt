@@ -28,29 +28,38 @@ handed (answers.Fault fault) = []
 handed answers.ReadFailed = []
 handed answers.OutOfMemory = []
 
+-- From old to new these units were handed out: the source gave bytes, the reader took some of what was held and given
+-- and found units in them, and the rest is held. What was queued and what was found is handed out or queued, in order.
+pub record HandsOut {S : Type 0} (incoming : S → Option (List ℕ)) (old new : IntakeState S) (units : List StreamUnit) : Type 0 where
+  pub read : List ℕ
+  pub taken : List ℕ
+  pub found : List StreamUnit
+  pub given : Consumes (incoming old.source) (incoming new.source) read
+  pub kept : old.held ++ read ≡ taken ++ new.held
+  pub reads : ReadsOn old.reading taken found new.reading
+  pub order : old.queue ++ found ≡ units ++ new.queue
+
+-- how many bytes wait for more
+abbrev pub waiting_len : Ending → ℕ
+waiting_len (Waits rest) = length rest
+waiting_len (Fails fault) = 0
+
+-- At least as many bytes and units as an intake may still hand out: each unit takes bytes.
+abbrev pub weight : {S : Type 0} → (S → ℕ) → IntakeState S → ℕ
+weight bound intake = bound intake.source + length intake.held + waiting_len intake.reading + length intake.queue
+
 module _ {S : Type 0} where
-  -- If the source goes on with these bytes, these units are still to be handed out, and the reading ends so.
-  abbrev pub Ahead : IntakeState S → List ℕ → List StreamUnit → Ending → Type 0
-  Ahead intake more units ending =
-      (later : List StreamUnit) × ReadsOn intake.reading (intake.held ++ more) later ending × (units ≡ intake.queue ++ later)
-
-  -- From old to new these units were handed out: what is ahead of old, with the bytes that the source gave since, is they and what is ahead of new.
-  abbrev pub HandsOut : (S → Option (List ℕ)) → IntakeState S → IntakeState S → List StreamUnit → Type 0
-  HandsOut incoming old new units =
-      (read : List ℕ) × Consumes (incoming old.source) (incoming new.source) read
-      × ((more : List ℕ) (later : List StreamUnit) (ending : Ending) → Ahead new more later ending → Ahead old (read ++ more) (units ++ later) ending)
-
-  -- all that was read is handed out
+  -- all that was read is handed out, and there was no fault
   abbrev pub IsDrained : IntakeState S → Type 0
-  IsDrained intake = Ahead intake [] [] intake.reading
+  IsDrained intake = (intake.queue ≡ []) × (intake.held ≡ []) × (fault_of intake.reading ≡ None)
 
   -- what an answer tells of the intake, beside the unit that it hands out
   abbrev pub Tells : (S → Option (List ℕ)) → (S → Bool) → IntakeState S → Next → Type 0
   Tells incoming failed intake (answers.Unit content) = Unit {0}
-  Tells incoming failed intake answers.End = IsDrained intake × (fault_of intake.reading ≡ None) × IsAtEnd (incoming intake.source)
-  Tells incoming failed intake (answers.Fault fault) = IsDrained intake × (intake.reading ≡ Fails fault)
-  Tells incoming failed intake answers.ReadFailed = IsDrained intake × (fault_of intake.reading ≡ None) × (failed intake.source ≡ true)
-  Tells incoming failed intake answers.OutOfMemory = intake.queue ≡ []
+  Tells incoming failed intake answers.End = IsDrained intake × IsAtEnd (incoming intake.source)
+  Tells incoming failed intake (answers.Fault fault) = (intake.queue ≡ []) × (intake.reading ≡ Fails fault)
+  Tells incoming failed intake answers.ReadFailed = IsDrained intake × (failed intake.source ≡ true)
+  Tells incoming failed intake answers.OutOfMemory = (intake.queue ≡ []) × (fault_of intake.reading ≡ None)
 
   -- each call answers so from then on
   abbrev pub IsOver : (S → Bool) → IntakeState S → Next → Type 0

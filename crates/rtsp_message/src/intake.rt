@@ -6,7 +6,7 @@ use std::alloc::Global;
 use std::marker::Model;
 use std::vec::IntoIter;
 
-ghost use Rattle.std.specs.Prelude.{◌≡◌, ◌<◌, ◌+◌, [], length, IfSome, IfNone};
+ghost use Rattle.std.specs.Prelude.{◌≡◌, ◌<◌, ◌≤◌, ◌+◌, [], length, IfSome, IfNone};
 
 /// The most bytes that are read from a source at once.
 const PIECE: usize = 4096;
@@ -51,7 +51,7 @@ impl<S: Source> Model for Intake<S> {
 }
 
 impl<S: Source + Drop> Intake<S> {
-    ghost use Rattle.rtsp_message.specs.Intakes.{fresh, handed, HandsOut, Tells, IsOver, Lasts, IsNoUnit};
+    ghost use Rattle.rtsp_message.specs.Intakes.{fresh, handed, weight, HandsOut, Tells, IsOver, Lasts, IsNoUnit};
 
     pub fn new(alloc: Global, source: S) -> Intake<S>
         ensures { result ≡ fresh source }
@@ -72,6 +72,7 @@ impl<S: Source + Drop> Intake<S> {
         ensures tells { Tells S.incoming S.failed self.new result }
         ensures lasts { Lasts S.failed self.new result }
         ensures for_good { (answer : _) → IsOver S.failed self.old answer → result ≡ answer }
+        ensures ends { weight S.bound self.new + length (handed result) ≤ weight S.bound self.old }
     {
         loop {
             if let Some(unit) = self.units.next() {
@@ -91,6 +92,7 @@ impl<S: Source + Drop> Intake<S> {
         ensures tells { IfSome result (Tells S.incoming S.failed self.new) }
         ensures lasts { IfSome result (Lasts S.failed self.new) }
         ensures for_good { (answer : _) → IsOver S.failed self.old answer → IfSome result (λ a. a ≡ answer) × IfNone result ⊥ }
+        ensures ends { weight S.bound self.new ≤ weight S.bound self.old }
         ensures goes_on { IfNone result (S.bound self.new.source + length self.new.held < S.bound self.old.source + length self.old.held) }
     {
         if let Some(fault) = self.reader.fault() {

@@ -1,23 +1,30 @@
-use Rattle.std.proofs.Common.{◌≡◌, ℕ, List, ◌++◌, [], take, refl, sym, ap, subst, ◌∙◌, append-nil, arith}
-use Rattle.std.proofs.KnownBytes.{Consumes-nil}
+use Rattle.std.proofs.Common.{◌≡◌, ℕ, List, ◌++◌, [], take, refl, sym, ap, subst, ◌∙◌, append-nil, arith, true, ◌+◌, length, length-append}
+use Rattle.std.proofs.lemmas.List.{length-take-le}
+use Rattle.std.proofs.KnownBytes.{Consumes-nil, Consumes-kept}
+use Rattle.std.specs.Io.KnownBytes.{Consumes}
 use Rattle.rtsp_message.specs.declared.unit.Unit.{Unit as StreamUnit}
 use Rattle.rtsp_message.specs.Stream.{Ending, ReadsOn}
 use Rattle.rtsp_message.specs.IntakeFields.{state_of}
-use Rattle.rtsp_message.proofs.HandingOut.{fed_hands_out, held_hands_out, settled}
+use Rattle.rtsp_message.proofs.HandingOut.{units_found, settled, holds_more, holds_same}
+use Rattle.rtsp_message.specs.Intakes.{IntakeState, HandsOut, waiting_len}
 use Rattle.rtsp_message.proofs.Fetching.{Fetched}
 use Rattle.rtsp_message.proofs.intake.Intake.read_on.Given.{Over}
 use Rattle.rtsp_message.proofs.intake.Intake.read_on.Goals.{After-feed, then-self-eq0+in-Ok, else-self-eq0}
 use Rattle.rtsp_message.proofs.intake.Intake.read_on.Goals as goal
 
-fetched : (g : Over) (c : After-feed g) → Fetched g.S.Source.incoming c.args.self.now c.if-self-eq0.self-inside
+none_held : (n : ℕ) (old new : List ℕ) → n ≡ 0 → take n new ≡ take n old ++ []
+none_held n old new e = ap (λ (k : ℕ). take k new) e ∙ ap (λ (k : ℕ). take k old ++ []) (sym e)
+
+fetched : (g : Over) (c : After-feed g) → Fetched g.S.Source.incoming g.S.Source.bound c.args.self.now c.if-self-eq0.self-inside
 fetched g c =
     let inside = c.self.inside in
-    let from_inside : Fetched g.S.Source.incoming (state_of inside) c.if-self-eq0.self-inside = elim c.if-self-eq0.branch [
+    let from_inside : Fetched g.S.Source.incoming g.S.Source.bound (state_of inside) c.if-self-eq0.self-inside = elim c.if-self-eq0.branch [
       | then-self-eq0+in-Ok w ↦
         let got = take w.in-Ok.count w.read.new.buf in
-        subst (Fetched g.S.Source.incoming (state_of inside)) (sym w.self-inside-is) (record {
+        subst (Fetched g.S.Source.incoming g.S.Source.bound (state_of inside)) (sym w.self-inside-is) (record {
           read = got;
           given = w.in-Ok.ensures.bytes;
+          left = ap (λ (n : ℕ). g.S.Source.bound w.read.new.self + n) (length-take-le w.in-Ok.count w.read.new.buf w.in-Ok.ensures.count) ∙ w.in-Ok.ensures.left;
           held = ap (λ (n : ℕ). take n inside.piece ++ got) (sym w.if-self-eq0.true);
           reading = refl;
           queue = refl;
@@ -25,9 +32,10 @@ fetched g c =
           going = c.if-self.false;
         })
       | else-self-eq0 w ↦
-        subst (Fetched g.S.Source.incoming (state_of inside)) (sym w.self-inside-is) (record {
+        subst (Fetched g.S.Source.incoming g.S.Source.bound (state_of inside)) (sym w.self-inside-is) (record {
           read = [];
           given = Consumes-nil (g.S.Source.incoming inside.source);
+          left = omega arith;
           held = sym (append-nil (take inside.held inside.piece));
           reading = refl;
           queue = refl;
@@ -35,7 +43,7 @@ fetched g c =
           going = c.if-self.false;
         })
     ] in
-    subst (λ old. Fetched g.S.Source.incoming old c.if-self-eq0.self-inside) c.self.view_is from_inside
+    subst (λ old. Fetched g.S.Source.incoming g.S.Source.bound old c.if-self-eq0.self-inside) c.self.view_is from_inside
 
 pub invariant_of-self-in-Ok-feed : goal.invariant_of-self-in-Ok-feed
 invariant_of-self-in-Ok-feed g c =
@@ -49,12 +57,54 @@ invariant_of-self-in-Ok-feed g c =
 pub returns-in-Ok-feed-clause-hands_out : goal.returns-in-Ok-feed-clause-hands_out
 returns-in-Ok-feed-clause-hands_out g c =
     let f = fetched g (goal.at.returns-in-Ok-feed-clause-hands_out g c).After-feed in
-    let on = subst (λ (d : Ending). ReadsOn d (c.args.self.now.held ++ f.read) c.in-Ok-feed.fed.units.items c.feed.new.self) f.reading
-      (subst (λ (l : List ℕ). ReadsOn c.if-self-eq0.self-inside.reader l c.in-Ok-feed.fed.units.items c.feed.new.self) f.held c.in-Ok-feed.ensures.units) in
-    fed_hands_out g.S.Source.incoming c.args.self.now (state_of (record c.if-self-eq0.self-inside { reader = c.feed.new.self; units = c.into_iter.result; held = 0 })) f.read f.given c.requires
-      (subst (λ (us : List StreamUnit). ReadsOn c.args.self.now.reading (c.args.self.now.held ++ f.read) us c.feed.new.self) (sym c.into_iter.ensures.rest) on) refl
+    let units = c.in-Ok-feed.fed.units.items in
+    record {
+      read = f.read;
+      taken = c.args.self.now.held ++ f.read;
+      found = units;
+      given = f.given;
+      kept = sym (append-nil (c.args.self.now.held ++ f.read));
+      reads = subst (λ (d : Ending). ReadsOn d (c.args.self.now.held ++ f.read) units c.feed.new.self) f.reading
+        (subst (λ (l : List ℕ). ReadsOn c.if-self-eq0.self-inside.reader l units c.feed.new.self) f.held c.in-Ok-feed.ensures.units);
+      order = ap (λ (q : List StreamUnit). q ++ units) c.requires ∙ sym c.into_iter.ensures.rest;
+    }
 
 pub returns-in-Err-feed-clause-hands_out : goal.returns-in-Err-feed-clause-hands_out
 returns-in-Err-feed-clause-hands_out g c =
     let f = fetched g (goal.at.returns-in-Err-feed-clause-hands_out g c).After-feed in
-    held_hands_out g.S.Source.incoming c.args.self.now (state_of (record c.if-self-eq0.self-inside { reader = c.feed.new.self })) f.read f.given f.queue (c.in-Err-feed.ensures.err ∙ f.reading) f.held
+    let new = state_of (record c.if-self-eq0.self-inside { reader = c.feed.new.self }) in
+    let stands = subst (λ (o : IntakeState g.row.S.Denot). ReadsOn o.reading [] [] o.reading) c.self.view_is c.self.invariant.settled in
+    holds_more g.S.Source.incoming c.args.self.now new f.read [] f.given f.held (c.in-Err-feed.ensures.err ∙ f.reading) stands (sym f.queue)
+
+pub returns-in-Some-clause-hands_out : goal.returns-in-Some-clause-hands_out
+returns-in-Some-clause-hands_out g c =
+    subst (λ s. HandsOut g.S.Source.incoming s s []) c.self.view_is (holds_same g.S.Source.incoming (state_of c.self.inside) c.self.invariant.settled)
+
+pub returns-then-self-clause-hands_out : goal.returns-then-self-clause-hands_out
+returns-then-self-clause-hands_out g c =
+    subst (λ s. HandsOut g.S.Source.incoming s s []) c.self.view_is (holds_same g.S.Source.incoming (state_of c.self.inside) c.self.invariant.settled)
+
+pub returns-in-Ok-eq0-clause-hands_out : goal.returns-in-Ok-eq0-clause-hands_out
+returns-in-Ok-eq0-clause-hands_out g c =
+    let inside = c.self.inside in
+    let new = state_of (record inside { source = c.read.new.self; piece = c.read.new.buf; ended = true }) in
+    let given : Consumes (g.S.Source.incoming inside.source) (g.S.Source.incoming c.read.new.self) [] =
+        subst (λ (n : ℕ). Consumes (g.S.Source.incoming inside.source) (g.S.Source.incoming c.read.new.self) (take n c.read.new.buf)) c.in-Ok-eq0.field-0-test c.in-Ok-eq0.ensures.bytes in
+    let held : take inside.held c.read.new.buf ≡ take inside.held inside.piece ++ [] = none_held inside.held inside.piece c.read.new.buf c.if-self-eq0.true in
+    subst (λ s. HandsOut g.S.Source.incoming s new []) c.self.view_is (holds_more g.S.Source.incoming (state_of inside) new [] [] given held refl c.self.invariant.settled refl)
+
+pub returns-in-Err-clause-hands_out : goal.returns-in-Err-clause-hands_out
+returns-in-Err-clause-hands_out g c =
+    let inside = c.self.inside in
+    let new = state_of (record inside { source = c.read.new.self; piece = c.read.new.buf }) in
+    let before = g.S.Source.incoming inside.source in
+    let given = Consumes-kept before before (g.S.Source.incoming c.read.new.self) [] (Consumes-nil before) c.in-Err.ensures.refused_moves_none in
+    let held : take inside.held c.read.new.buf ≡ take inside.held inside.piece ++ [] = none_held inside.held inside.piece c.read.new.buf c.if-self-eq0.true in
+    subst (λ s. HandsOut g.S.Source.incoming s new []) c.self.view_is (holds_more g.S.Source.incoming (state_of inside) new [] [] given held refl c.self.invariant.settled refl)
+
+pub returns-in-Ok-feed-clause-ends : goal.returns-in-Ok-feed-clause-ends
+returns-in-Ok-feed-clause-ends g c =
+    let f = fetched g (goal.at.returns-in-Ok-feed-clause-ends g c).After-feed in
+    let inside = c.if-self-eq0.self-inside in
+    let found = units_found inside.reader c.feed.new.self (take inside.held inside.piece) c.in-Ok-feed.fed.units.items c.in-Ok-feed.ensures.units in
+    omega (arith, found, f.left, ap length f.held, length-append c.args.self.now.held f.read, ap waiting_len f.reading, ap length c.into_iter.ensures.rest)

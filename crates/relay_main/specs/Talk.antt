@@ -1,0 +1,80 @@
+-- What a connection is told: the replies to its requests, in order, and how the talk ends.
+use Rattle.std.specs.Prelude.{◌≡◌, ℕ, ◌<◌, Bool, true, List, [], ◌∷◌, ◌++◌, ◌⊎◌, Option, None, Some, length, take}
+use Rattle.std.specs.Io.KnownBytes.{Consumes, Appends, IsAtEnd}
+use Rattle.rtsp_message.specs.declared.request.Request.{Request}
+use Rattle.rtsp_message.specs.declared.status.Status.{Status}
+use Rattle.rtsp_message.specs.declared.status.Status.TheVariants as statuses
+use Rattle.rtsp_message.specs.declared.fault.Fault.{Fault}
+use Rattle.rtsp_message.specs.declared.fault.Fault.TheVariants.{BadLine, BadHeader, BadLength, HeadTooLong}
+use Rattle.rtsp_message.specs.declared.unit.Unit.{Unit as StreamUnit}
+use Rattle.rtsp_message.specs.declared.unit.Unit.TheVariants.{Message}
+use Rattle.rtsp_message.specs.Stream.{Ending, Waits, Fails, Reads, fault_of}
+use Rattle.rtsp_message.specs.Reply.{reply_text, plain_text}
+use Rattle.relay_main.specs.Decide.{reply_to}
+use Rattle.relay_main.specs.declared.talk.TalkEnd.{TalkEnd}
+use Rattle.relay_main.specs.declared.talk.TalkEnd.TheVariants as ends
+
+-- what is written for a request: its reply, or 503 where memory was refused
+abbrev pub IsAnswer : Request → List ℕ → Type 0
+IsAnswer request text = (text ≡ reply_text (reply_to request)) ⊎ (text ≡ plain_text statuses.ServiceUnavailable request.cseq)
+
+-- the answers to the messages among the units, in order
+abbrev pub AreAnswers : List StreamUnit → List ℕ → Type 0
+AreAnswers [] text = text ≡ []
+AreAnswers (Message request ∷ units) text = (first : List ℕ) × (others : List ℕ) × IsAnswer request first × AreAnswers units others × (text ≡ first ++ others)
+
+-- what is said of a fault
+abbrev pub status_of : Fault → Status
+status_of BadLine = statuses.BadRequest
+status_of BadHeader = statuses.BadRequest
+status_of BadLength = statuses.BadRequest
+status_of HeadTooLong = statuses.RequestEntityTooLarge
+
+-- the fixed text behind the answers, where the stream has a fault
+abbrev pub closing_of : Ending → List ℕ
+closing_of (Waits rest) = []
+closing_of (Fails fault) = plain_text (status_of fault) None
+
+-- the fixed text where the reader was refused memory
+abbrev pub refusal : List ℕ
+refusal = plain_text statuses.ServiceUnavailable None
+
+-- What a talk was: the bytes that were read, of which some are held where memory was refused, their units,
+-- and the whole text that is due for them.
+pub record Talk (R : Type 0) : Type 0 where
+  pub last : R
+  pub read : List ℕ
+  pub taken : List ℕ
+  pub held : List ℕ
+  pub units : List StreamUnit
+  pub ending : Ending
+  pub answers : List ℕ
+  pub closing : List ℕ
+
+-- From this reader the bytes were read that the units stand in, and the answers are theirs.
+pub record IsTalk {R : Type 0} (incoming : R → Option (List ℕ)) (reader : R) (talk : Talk R) : Type 0 where
+  pub given : Consumes (incoming reader) (incoming talk.last) talk.read
+  pub parts : talk.read ≡ talk.taken ++ talk.held
+  pub reads : Reads talk.taken talk.units talk.ending
+  pub are_answers : AreAnswers talk.units talk.answers
+  pub closing_is : (talk.closing ≡ closing_of talk.ending) ⊎ (talk.closing ≡ refusal)
+
+module _ {R W : Type 0} (incoming : R → Option (List ℕ)) (read_failed : R → Bool) (written : W → Option (List ℕ)) (write_failed : W → Bool) where
+  -- all that is due was written
+  abbrev pub WritesAll : Talk R → W → W → Type 0
+  WritesAll talk old new = Appends (written old) (written new) (talk.answers ++ talk.closing)
+
+  -- how a talk ended, and what was written
+  abbrev pub EndsSo : Talk R → W → W → TalkEnd → Type 0
+  EndsSo talk old new ends.Done =
+      WritesAll talk old new × (fault_of talk.ending ≡ None) × (talk.closing ≡ []) × (talk.held ≡ []) × IsAtEnd (incoming talk.last)
+  EndsSo talk old new (ends.StreamFault fault) = WritesAll talk old new × (talk.ending ≡ Fails fault) × (talk.closing ≡ closing_of talk.ending)
+  EndsSo talk old new ends.ReadFailed =
+      WritesAll talk old new × (fault_of talk.ending ≡ None) × (talk.closing ≡ []) × (talk.held ≡ []) × (read_failed talk.last ≡ true)
+  EndsSo talk old new ends.OutOfMemory = WritesAll talk old new × (fault_of talk.ending ≡ None) × (talk.closing ≡ refusal)
+  EndsSo talk old new ends.WriteFailed =
+      (write_failed new ≡ true) × (n : ℕ) × (n < length (talk.answers ++ talk.closing)) × Appends (written old) (written new) (take n (talk.answers ++ talk.closing))
+
+  -- What is written is, for each message of the stream read, its answer, then the fixed text of the fault if there is one.
+  abbrev pub Talks : R → W → W → TalkEnd → Type 0
+  Talks reader old new end = (talk : Talk R) × IsTalk incoming reader talk × EndsSo talk old new end

@@ -1,0 +1,103 @@
+use crate::decide::decide;
+use crate::words::Words;
+use interleaved::{Sink, Source, WriteCut, write_all};
+use rtsp_message::{Fault, Intake, Next, Request, Status, Unit, put_plain, put_reply};
+use std::alloc::{AllocError, Global};
+
+ghost use Rattle.std.specs.Prelude.{◌≡◌, ◌<◌, true, length, take, IfOk, IfErr, OnOk};
+ghost use Rattle.std.specs.Io.KnownBytes.{Appends};
+ghost use Rattle.rtsp_message.specs.Reply.{reply_text, plain_text};
+ghost use Rattle.relay_main.specs.Decide.{reply_to};
+ghost use Rattle.relay_main.specs.Talk.{IsAnswer, Talks, status_of as fixed_status};
+
+/// How a talk ended.
+#[derive(Clone, Copy, Debug, PartialEq, Eq)]
+pub enum TalkEnd {
+    /// The reader is at its end.
+    Done,
+    StreamFault(Fault),
+    ReadFailed,
+    WriteFailed,
+    /// The reader was refused memory.
+    OutOfMemory,
+}
+
+/// Answers the requests of one connection, in order, to its end.
+///
+/// A fault of the stream, a failed device and want of memory in the reader end it. A reply that is refused memory is
+/// 503 in its place.
+pub fn run_talk<R: Source + Drop, W: Sink, V: Words>(
+    alloc: Global,
+    reader: R,
+    writer: &mut W,
+    _words: &mut V,
+) -> TalkEnd
+    ensures { Talks R.incoming R.failed W.written W.failed reader writer.old writer.new result }
+{
+    let mut intake = Intake::new(alloc, reader);
+    loop {
+        match intake.next() {
+            Next::Unit(Unit::Message(request)) => {
+                if answer(alloc, writer, &request).is_err() {
+                    return TalkEnd::WriteFailed;
+                }
+            }
+            Next::End => return TalkEnd::Done,
+            Next::Fault(fault) => {
+                return match write_plain(writer, status_of(fault), None) {
+                    Ok(()) => TalkEnd::StreamFault(fault),
+                    Err(_) => TalkEnd::WriteFailed,
+                };
+            }
+            Next::ReadFailed => return TalkEnd::ReadFailed,
+            Next::OutOfMemory => {
+                return match write_plain(writer, Status::ServiceUnavailable, None) {
+                    Ok(()) => TalkEnd::OutOfMemory,
+                    Err(_) => TalkEnd::WriteFailed,
+                };
+            }
+        }
+    }
+}
+
+/// Writes the reply to a request, or 503 where memory is refused for it.
+fn answer<W: Sink>(alloc: Global, writer: &mut W, request: &Request) -> Result<(), WriteCut>
+    ensures ok { OnOk result ((text : _) × IsAnswer request.now text × Appends (W.written writer.old) (W.written writer.new) text) }
+    ensures cut { IfErr result (λ cut. (text : _) × IsAnswer request.now text × (cut.written < length text) × Appends (W.written writer.old) (W.written writer.new) (take cut.written text)) }
+    ensures failed { IfErr result (λ _. W.failed writer.new ≡ true) }
+{
+    match reply_bytes(alloc, request) {
+        Ok(text) => write_all(writer, text.as_slice()),
+        Err(_) => write_plain(writer, Status::ServiceUnavailable, request.cseq),
+    }
+}
+
+fn reply_bytes(alloc: Global, request: &Request) -> Result<Vec<u8>, AllocError>
+    ensures { IfOk result (λ text. text.items ≡ reply_text (reply_to request.now)) }
+{
+    let reply = decide(alloc, request)?;
+    let mut text = Vec::new(alloc);
+    put_reply(&mut text, &reply)?;
+    Ok(text)
+}
+
+/// Writes a reply that has no field but CSeq. It takes no memory.
+fn write_plain<W: Sink>(writer: &mut W, status: Status, cseq: Option<u32>) -> Result<(), WriteCut>
+    ensures ok { OnOk result (Appends (W.written writer.old) (W.written writer.new) (plain_text status cseq)) }
+    ensures cut { IfErr result (λ cut. (cut.written < length (plain_text status cseq)) × Appends (W.written writer.old) (W.written writer.new) (take cut.written (plain_text status cseq))) }
+    ensures failed { IfErr result (λ _. W.failed writer.new ≡ true) }
+{
+    let mut text = [0; 128];
+    let len = put_plain(&mut text, status, cseq);
+    write_all(writer, &text[..len])
+}
+
+/// What the fixed text behind a fault says.
+fn status_of(fault: Fault) -> Status
+    ensures { result ≡ fixed_status fault }
+{
+    match fault {
+        Fault::BadLine | Fault::BadHeader | Fault::BadLength => Status::BadRequest,
+        Fault::HeadTooLong => Status::RequestEntityTooLarge,
+    }
+}
