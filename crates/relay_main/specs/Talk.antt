@@ -1,5 +1,5 @@
 -- What a connection is told: the replies to its requests, in order, and how the talk ends.
-use Rattle.std.specs.Prelude.{◌≡◌, ℕ, ◌<◌, Bool, true, List, [], ◌∷◌, ◌++◌, ◌⊎◌, Option, None, Some, length, take}
+use Rattle.std.specs.Prelude.{◌≡◌, ℕ, ◌<◌, Bool, true, List, [], ◌∷◌, ◌++◌, ◌⊎◌, Option, None, Some, length, take, codes, decimal}
 use Rattle.std.specs.Io.KnownBytes.{Consumes, Appends, IsAtEnd}
 use Rattle.rtsp_message.specs.declared.request.Request.{Request}
 use Rattle.rtsp_message.specs.declared.status.Status.{Status}
@@ -8,7 +8,7 @@ use Rattle.rtsp_message.specs.declared.fault.Fault.{Fault}
 use Rattle.rtsp_message.specs.declared.fault.Fault.TheVariants.{BadLine, BadHeader, BadLength, HeadTooLong}
 use Rattle.rtsp_message.specs.declared.unit.Unit.{Unit as StreamUnit}
 use Rattle.rtsp_message.specs.declared.unit.Unit.TheVariants.{Message}
-use Rattle.rtsp_message.specs.Stream.{Ending, Waits, Fails, Reads, fault_of}
+use Rattle.rtsp_message.specs.Stream.{Ending, Waits, Fails, Reads, fault_of, fault_number}
 use Rattle.rtsp_message.specs.Reply.{reply_text, plain_text}
 use Rattle.relay_main.specs.Decide.{reply_to}
 use Rattle.relay_main.specs.declared.talk.TalkEnd.{TalkEnd}
@@ -78,3 +78,19 @@ module _ {R W : Type 0} (incoming : R → Option (List ℕ)) (read_failed : R �
   -- What is written is, for each message of the stream read, its answer, then the fixed text of the fault if there is one.
   abbrev pub Talks : R → W → W → TalkEnd → Type 0
   Talks reader old new end = (talk : Talk R) × IsTalk incoming reader talk × EndsSo talk old new end
+
+-- the exit status of a talk
+abbrev pub exit_status : TalkEnd → ℕ
+exit_status ends.Done = 0
+exit_status (ends.StreamFault fault) = 1
+exit_status ends.ReadFailed = 1
+exit_status ends.WriteFailed = 1
+exit_status ends.OutOfMemory = 1
+
+-- the line on standard error behind it
+abbrev pub exit_line : TalkEnd → List ℕ
+exit_line ends.Done = []
+exit_line (ends.StreamFault fault) = codes "relay: stream fault " ++ decimal (fault_number fault)
+exit_line ends.ReadFailed = codes "relay: read failed"
+exit_line ends.WriteFailed = codes "relay: write failed"
+exit_line ends.OutOfMemory = codes "relay: out of memory"

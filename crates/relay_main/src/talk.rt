@@ -4,11 +4,11 @@ use interleaved::{Sink, Source, WriteCut, write_all};
 use rtsp_message::{Fault, Intake, Next, Request, Status, Unit, put_plain, put_reply};
 use std::alloc::{AllocError, Global};
 
-ghost use Rattle.std.specs.Prelude.{◌≡◌, ◌<◌, true, length, take, IfOk, IfErr, OnOk};
+ghost use Rattle.std.specs.Prelude.{◌≡◌, ◌<◌, [], ◌∷◌, true, length, take, IfOk, IfErr, OnOk, string_bytes};
 ghost use Rattle.std.specs.Io.KnownBytes.{Appends};
 ghost use Rattle.rtsp_message.specs.Reply.{reply_text, plain_text};
 ghost use Rattle.relay_main.specs.Decide.{reply_to};
-ghost use Rattle.relay_main.specs.Talk.{IsAnswer, Talks, status_of as fixed_status};
+ghost use Rattle.relay_main.specs.Talk.{IsAnswer, AreAnswers, Talks, exit_status, exit_line, status_of as fixed_status};
 
 /// How a talk ended.
 #[derive(Clone, Copy, Debug, PartialEq, Eq)]
@@ -37,26 +37,37 @@ pub fn run_talk<R: Source + Drop, W: Sink, V: Words>(
     let mut intake = Intake::new(alloc, reader);
     loop {
         match intake.next() {
-            Next::Unit(Unit::Message(request)) => {
-                if answer(alloc, writer, &request).is_err() {
+            Next::Unit(unit) => {
+                if let Err(_) = answer_unit(alloc, writer, &unit) {
                     return TalkEnd::WriteFailed;
                 }
             }
             Next::End => return TalkEnd::Done,
             Next::Fault(fault) => {
-                return match write_plain(writer, status_of(fault), None) {
-                    Ok(()) => TalkEnd::StreamFault(fault),
-                    Err(_) => TalkEnd::WriteFailed,
-                };
+                if let Err(_) = write_plain(writer, status_of(fault), None) {
+                    return TalkEnd::WriteFailed;
+                }
+                return TalkEnd::StreamFault(fault);
             }
             Next::ReadFailed => return TalkEnd::ReadFailed,
             Next::OutOfMemory => {
-                return match write_plain(writer, Status::ServiceUnavailable, None) {
-                    Ok(()) => TalkEnd::OutOfMemory,
-                    Err(_) => TalkEnd::WriteFailed,
-                };
+                if let Err(_) = write_plain(writer, Status::ServiceUnavailable, None) {
+                    return TalkEnd::WriteFailed;
+                }
+                return TalkEnd::OutOfMemory;
             }
         }
+    }
+}
+
+/// Answers a message.
+fn answer_unit<W: Sink>(alloc: Global, writer: &mut W, unit: &Unit) -> Result<(), WriteCut>
+    ensures ok { OnOk result ((text : _) × AreAnswers (unit.now ∷ []) text × Appends (W.written writer.old) (W.written writer.new) text) }
+    ensures cut { IfErr result (λ cut. (text : _) × AreAnswers (unit.now ∷ []) text × (cut.written < length text) × Appends (W.written writer.old) (W.written writer.new) (take cut.written text)) }
+    ensures failed { IfErr result (λ _. W.failed writer.new ≡ true) }
+{
+    match unit {
+        Unit::Message(request) => answer(alloc, writer, request),
     }
 }
 
@@ -99,5 +110,22 @@ fn status_of(fault: Fault) -> Status
     match fault {
         Fault::BadLine | Fault::BadHeader | Fault::BadLength => Status::BadRequest,
         Fault::HeadTooLong => Status::RequestEntityTooLarge,
+    }
+}
+
+/// The exit status of a talk, and the line that stands on standard error behind it: empty at status 0.
+pub fn talk_end(alloc: Global, end: &TalkEnd) -> Result<(u8, String), AllocError>
+    ensures status { IfOk result (λ r. r.0 ≡ exit_status end.now) }
+    ensures line { IfOk result (λ r. string_bytes r.1 ≡ exit_line end.now) }
+{
+    match end {
+        TalkEnd::Done => Ok((0, String::new(alloc))),
+        TalkEnd::StreamFault(fault) => {
+            let number = fault.number();
+            Ok((1, format!(in alloc; "relay: stream fault {number}")?))
+        }
+        TalkEnd::ReadFailed => Ok((1, String::from_str(alloc, "relay: read failed")?)),
+        TalkEnd::WriteFailed => Ok((1, String::from_str(alloc, "relay: write failed")?)),
+        TalkEnd::OutOfMemory => Ok((1, String::from_str(alloc, "relay: out of memory")?)),
     }
 }
