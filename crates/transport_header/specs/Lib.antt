@@ -1,0 +1,9 @@
+pub mod Text
+pub mod Session
+pub mod Chosen
+pub mod RtpInfo
+pub mod Transport
+pub mod Cutting
+pub mod Trimmed
+pub mod Interleaved
+pub mod Answered

@@ -1,0 +1,21 @@
+-- The session identifier (RFC 2326, 3.4 and 12.37).
+use Rattle.std.specs.Prelude.{ℕ, ◌/◌, ◌%◌, ◌^◌, ◌==◌, false, List, [], ◌∷◌, ◌++◌}
+use Rattle.std.specs.Fmt.{digit_glyph}
+use Rattle.std.specs.List.{before_first}
+use Rattle.transport_header.specs.Text.{semicolon, trimmed}
+
+-- the lower-case hexadecimal digit of n that stands for its multiples of 16 ^ place
+abbrev pub digit_at : ℕ → ℕ → ℕ
+digit_at n place = digit_glyph false (n / 16 ^ place % 16)
+
+-- the eight hexadecimal digits of a number below 2 ^ 32
+abbrev pub eight_digits : ℕ → List ℕ
+eight_digits n = digit_at n 7 ∷ digit_at n 6 ∷ digit_at n 5 ∷ digit_at n 4 ∷ digit_at n 3 ∷ digit_at n 2 ∷ digit_at n 1 ∷ digit_at n 0 ∷ []
+
+-- a session's identifier: its number in the first eight digits, its word in the last eight
+unfoldable pub identifier_text : ℕ → ℕ → List ℕ
+identifier_text number word = eight_digits number ++ eight_digits word
+
+-- the identifier that a Session header's value holds: what stands before the first ';'
+unfoldable pub identifier_in : List ℕ → List ℕ
+identifier_in text = trimmed (before_first (λ b. b == semicolon) text)
