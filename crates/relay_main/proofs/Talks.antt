@@ -86,7 +86,7 @@ module _ {R W : Type 0} (incoming : R → Option (List ℕ)) (read_failed : R �
       let within : k ≤ length due = omega (arith, less) in
       let both = Appends-trans (written old) (written now) (written after) front (take k due) wrote part in
       let text : front ++ take k due ≡ take (length front + k) (front ++ (due ++ behind)) =
-          ap (λ (l : List ℕ). front ++ l) (sym (take-append-le k due behind within)) ∙ sym (take-append-add front (due ++ behind) k) in
+      ap (λ (l : List ℕ). front ++ l) (sym (take-append-le k due behind within)) ∙ sym (take-append-add front (due ++ behind) k) in
       (length front + k, omega (arith, less, length-append front (due ++ behind), length-append due behind), subst (Appends (written old) (written after)) text both)
 
   -- nothing is due any more
@@ -97,43 +97,48 @@ module _ {R W : Type 0} (incoming : R → Option (List ℕ)) (read_failed : R �
 
   pub ends_done : (reader : R) (old : W) (intake new : IntakeState R) (now : W) → SoFar incoming written reader old intake now → HandsOut incoming intake new [] → IsDrained new → IsAtEnd (incoming new.source) → Talks incoming read_failed written write_failed reader old now ends.Done
   unfolding talk_of
-  ends_done reader old intake new now p q drained end =
-      (talk_of incoming written reader old intake new now [] [] [] [] p q,
-       is_talk incoming written reader old intake new now [] [] [] [] p q refl (no_answers new.queue drained.0) (inl (waits_closes new.reading drained.2)),
-       (all_written reader old intake now now [] p (Appends-nil (written now)), drained.2, refl, drained.1, end))
+  ends_done reader old intake new now p q drained end = (
+    talk_of incoming written reader old intake new now [] [] [] [] p q,
+    is_talk incoming written reader old intake new now [] [] [] [] p q refl (no_answers new.queue drained.0) (inl (waits_closes new.reading drained.2)),
+    (all_written reader old intake now now [] p (Appends-nil (written now)), drained.2, refl, drained.1, end),
+  )
 
   pub ends_read_failed : (reader : R) (old : W) (intake new : IntakeState R) (now : W) → SoFar incoming written reader old intake now → HandsOut incoming intake new [] → IsDrained new → read_failed new.source ≡ true → Talks incoming read_failed written write_failed reader old now ends.ReadFailed
   unfolding talk_of
-  ends_read_failed reader old intake new now p q drained failed =
-      (talk_of incoming written reader old intake new now [] [] [] [] p q,
-       is_talk incoming written reader old intake new now [] [] [] [] p q refl (no_answers new.queue drained.0) (inl (waits_closes new.reading drained.2)),
-       (all_written reader old intake now now [] p (Appends-nil (written now)), drained.2, refl, drained.1, failed))
+  ends_read_failed reader old intake new now p q drained failed = (
+    talk_of incoming written reader old intake new now [] [] [] [] p q,
+    is_talk incoming written reader old intake new now [] [] [] [] p q refl (no_answers new.queue drained.0) (inl (waits_closes new.reading drained.2)),
+    (all_written reader old intake now now [] p (Appends-nil (written now)), drained.2, refl, drained.1, failed),
+  )
 
   pub ends_with_fault : (reader : R) (old : W) (intake new : IntakeState R) (now after : W) (fault : Fault) (closing : List ℕ) → SoFar incoming written reader old intake now → HandsOut incoming intake new [] → new.queue ≡ [] → new.reading ≡ Fails fault → closing ≡ closing_of (Fails fault) → Appends (written now) (written after) closing → Talks incoming read_failed written write_failed reader old after (ends.StreamFault fault)
   unfolding talk_of
   ends_with_fault reader old intake new now after fault closing p q empty fails closes wrote =
-      let is_closing : closing ≡ closing_of new.reading = closes ∙ ap closing_of (sym fails) in
-      (talk_of incoming written reader old intake new now [] [] [] closing p q,
-       is_talk incoming written reader old intake new now [] [] [] closing p q refl (no_answers new.queue empty) (inl is_closing),
-       (all_written reader old intake now after closing p wrote, fails, is_closing))
+      let is_closing : closing ≡ closing_of new.reading = closes ∙ ap closing_of (sym fails) in (
+        talk_of incoming written reader old intake new now [] [] [] closing p q,
+        is_talk incoming written reader old intake new now [] [] [] closing p q refl (no_answers new.queue empty) (inl is_closing),
+        (all_written reader old intake now after closing p wrote, fails, is_closing),
+      )
 
   pub ends_out_of_memory : (reader : R) (old : W) (intake new : IntakeState R) (now after : W) → SoFar incoming written reader old intake now → HandsOut incoming intake new [] → new.queue ≡ [] → fault_of new.reading ≡ None → Appends (written now) (written after) refusal → Talks incoming read_failed written write_failed reader old after ends.OutOfMemory
   unfolding talk_of
-  ends_out_of_memory reader old intake new now after p q empty waits wrote =
-      (talk_of incoming written reader old intake new now [] [] [] refusal p q,
-       is_talk incoming written reader old intake new now [] [] [] refusal p q refl (no_answers new.queue empty) (inr refl),
-       (all_written reader old intake now after refusal p wrote, waits, refl))
+  ends_out_of_memory reader old intake new now after p q empty waits wrote = (
+    talk_of incoming written reader old intake new now [] [] [] refusal p q,
+    is_talk incoming written reader old intake new now [] [] [] refusal p q refl (no_answers new.queue empty) (inr refl),
+    (all_written reader old intake now after refusal p wrote, waits, refl),
+  )
 
   -- cut off in the closing text
   pub ends_cut_closing : (reader : R) (old : W) (intake new : IntakeState R) (now after : W) (closing : List ℕ) (k : ℕ) → SoFar incoming written reader old intake now → HandsOut incoming intake new [] → new.queue ≡ [] → (closing ≡ closing_of new.reading) ⊎ (closing ≡ refusal) → k < length closing → Appends (written now) (written after) (take k closing) → write_failed after ≡ true → Talks incoming read_failed written write_failed reader old after ends.WriteFailed
   unfolding talk_of
   ends_cut_closing reader old intake new now after closing k p q empty closes less part failed =
       let total : p.text ++ (closing ++ []) ≡ (p.text ++ ([] ++ [])) ++ closing =
-          ap (λ (l : List ℕ). p.text ++ l) (append-nil closing) ∙ ap (λ (l : List ℕ). l ++ closing) (sym (append-nil p.text)) in
-      let cut = subst (λ (t : List ℕ). (n : ℕ) × (n < length t) × Appends (written old) (written after) (take n t)) total (cut_off old now after p.text closing [] k less p.wrote part) in
-      (talk_of incoming written reader old intake new now [] [] [] closing p q,
-       is_talk incoming written reader old intake new now [] [] [] closing p q refl (no_answers new.queue empty) closes,
-       (failed, cut.0, cut.1, cut.2))
+      ap (λ (l : List ℕ). p.text ++ l) (append-nil closing) ∙ ap (λ (l : List ℕ). l ++ closing) (sym (append-nil p.text)) in
+      let cut = subst (λ (t : List ℕ). (n : ℕ) × (n < length t) × Appends (written old) (written after) (take n t)) total (cut_off old now after p.text closing [] k less p.wrote part) in (
+        talk_of incoming written reader old intake new now [] [] [] closing p q,
+        is_talk incoming written reader old intake new now [] [] [] closing p q refl (no_answers new.queue empty) closes,
+        (failed, cut.0, cut.1, cut.2),
+      )
 
   -- cut off in an answer
   pub ends_cut_answer : (reader : R) (old : W) (intake new : IntakeState R) (now after : W) (us : List StreamUnit) (text : List ℕ) (k : ℕ) → SoFar incoming written reader old intake now → HandsOut incoming intake new us → AreAnswers us text → k < length text → Appends (written now) (written after) (take k text) → write_failed after ≡ true → Talks incoming read_failed written write_failed reader old after ends.WriteFailed
@@ -142,8 +147,9 @@ module _ {R W : Type 0} (incoming : R → Option (List ℕ)) (read_failed : R �
       let rest = all_answers new.queue in
       let closing = closing_of new.reading in
       let total : p.text ++ (text ++ (rest.0 ++ closing)) ≡ (p.text ++ (text ++ rest.0)) ++ closing =
-          ap (λ (l : List ℕ). p.text ++ l) (sym (append_assoc text rest.0 closing)) ∙ sym (append_assoc p.text (text ++ rest.0) closing) in
-      let cut = subst (λ (t : List ℕ). (n : ℕ) × (n < length t) × Appends (written old) (written after) (take n t)) total (cut_off old now after p.text text (rest.0 ++ closing) k less p.wrote part) in
-      (talk_of incoming written reader old intake new now us text rest.0 closing p q,
-       is_talk incoming written reader old intake new now us text rest.0 closing p q are rest.1 (inl refl),
-       (failed, cut.0, cut.1, cut.2))
+      ap (λ (l : List ℕ). p.text ++ l) (sym (append_assoc text rest.0 closing)) ∙ sym (append_assoc p.text (text ++ rest.0) closing) in
+      let cut = subst (λ (t : List ℕ). (n : ℕ) × (n < length t) × Appends (written old) (written after) (take n t)) total (cut_off old now after p.text text (rest.0 ++ closing) k less p.wrote part) in (
+        talk_of incoming written reader old intake new now us text rest.0 closing p q,
+        is_talk incoming written reader old intake new now us text rest.0 closing p q are rest.1 (inl refl),
+        (failed, cut.0, cut.1, cut.2),
+      )

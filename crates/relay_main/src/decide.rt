@@ -1,8 +1,9 @@
-use rtsp_message::{Fields, Reply, Request, Status, Text};
-use std::alloc::{AllocError, Global};
-
+//! The reply to a request.
 ghost use Rattle.std.specs.Prelude.{◌≡◌, IfOk};
 ghost use Rattle.relay_main.specs.Decide.{reply_to, plain};
+
+use rtsp_message::{Fields, Reply, Request, Status, Text};
+use std::alloc::{AllocError, Global};
 
 /// The methods that the relay knows, as the Public field lists them (RFC 2326, 10.1 and 12.28).
 const PUBLIC: &str =

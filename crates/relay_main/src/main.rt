@@ -3,6 +3,8 @@
 
 pub mod decide;
 pub mod talk;
+#[cfg(test)]
+mod tests;
 pub mod words;
 
 use clap::Command;
@@ -26,8 +28,9 @@ fn main(rt: HostRuntime) -> anyhow::Result<ExitCode> {
 
 /// The command line: `relay talk`.
 fn command<'a>(alloc: Global) -> Result<Command<'a>, AllocError> {
-    let talk = Command::new(alloc, "talk")
-        .about("Answers one connection on standard input and standard output");
+    let talk = Command::new(alloc, "talk").about(
+        "Answers one connection on standard input and standard output",
+    );
     Command::new(alloc, "relay")
         .about("A live relay for RTSP 1.0 (RFC 2326)")
         .subcommand_required(true)

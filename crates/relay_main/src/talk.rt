@@ -1,14 +1,15 @@
-use crate::decide::decide;
-use crate::words::Words;
-use interleaved::{Sink, Source, WriteCut, write_all};
-use rtsp_message::{Fault, Intake, Next, Request, Status, Unit, put_plain, put_reply};
-use std::alloc::{AllocError, Global};
-
+//! One connection, from its first byte to its end.
 ghost use Rattle.std.specs.Prelude.{◌≡◌, ◌<◌, [], ◌∷◌, true, length, take, IfOk, IfErr, OnOk, string_bytes};
 ghost use Rattle.std.specs.Io.KnownBytes.{Appends};
 ghost use Rattle.rtsp_message.specs.Reply.{reply_text, plain_text};
 ghost use Rattle.relay_main.specs.Decide.{reply_to};
 ghost use Rattle.relay_main.specs.Talk.{IsAnswer, AreAnswers, Talks, exit_status, exit_line, status_of as fixed_status};
+
+use crate::decide::decide;
+use crate::words::Words;
+use interleaved::{Sink, Source, WriteCut, write_all};
+use rtsp_message::{Fault, Intake, Next, Request, Status, Unit, put_plain, put_reply};
+use std::alloc::{AllocError, Global};
 
 /// How a talk ended.
 #[derive(Clone, Copy, Debug, PartialEq, Eq)]

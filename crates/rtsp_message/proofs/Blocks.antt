@@ -40,15 +40,17 @@ pub fields_end : {text rest line after : List ℕ} {headers : List Header} → F
 fields_end {text} {rest} {line} {after} {headers} p q empty =
     let block = joined p.lines ++ ended q.line in
     let parts : text ≡ block ++ after = p.whole ∙ ap (λ (r : List ℕ). joined p.lines ++ r) q.whole ∙ sym (append_assoc (joined p.lines) (ended q.line) after) in
-    let count : length text - length after ≡ length block = omega (arith, ap length parts, length-append block after) in
-    (omega arith, record {
-      lines = p.lines;
-      last = q.line;
-      whole = ap (λ (n : ℕ). take n text) count ∙ ap (take (length block)) parts ∙ take-append_seam block after;
-      are_headers = p.are_headers;
-      last_unbroken = q.unbroken;
-      last_empty = sym q.text_is ∙ empty;
-    })
+    let count : length text - length after ≡ length block = omega (arith, ap length parts, length-append block after) in (
+      omega arith,
+      record {
+        lines = p.lines;
+        last = q.line;
+        whole = ap (λ (n : ℕ). take n text) count ∙ ap (take (length block)) parts ∙ take-append_seam block after;
+        are_headers = p.are_headers;
+        last_unbroken = q.unbroken;
+        last_empty = sym q.text_is ∙ empty;
+      },
+    )
 
 pub fields_break : {text rest line after : List ℕ} {headers : List Header} {fault : Fault} → FieldsSoFar text headers rest → IsFirstLine rest line after → IsBadHeader line fault → BreaksHeaders text fault
 fields_break {after = after} {headers = headers} {fault = fault} p q bad = record {

@@ -17,13 +17,13 @@ use Rattle.rtsp_message.proofs.Pieces.{bytes_of-append, units_of-append, ArePiec
 take-append : (n : ℕ) (xs ys : List ℕ) → take n (xs ++ ys) ≡ take n xs ++ take (n - length xs) ys
 take-append n xs ys = elim (leb_tells n (length xs)) [
   | inl within ↦
-    let below : n ≤ length xs = within.1 in
-    let none : n - length xs ≡ 0 = omega arith in
-    take-append-le n xs ys below ∙ sym (append-nil (take n xs)) ∙ ap (λ (k : ℕ). take n xs ++ take k ys) (sym none)
+      let below : n ≤ length xs = within.1 in
+      let none : n - length xs ≡ 0 = omega arith in
+      take-append-le n xs ys below ∙ sym (append-nil (take n xs)) ∙ ap (λ (k : ℕ). take n xs ++ take k ys) (sym none)
   | inr past ↦
-    let over : length xs ≤ n = omega (arith, past.1) in
-    let size : n ≡ length xs + (n - length xs) = omega arith in
-    ap (λ (k : ℕ). take k (xs ++ ys)) size ∙ take-append-add xs ys (n - length xs) ∙ ap (λ (l : List ℕ). l ++ take (n - length xs) ys) (sym (take_all n xs over))
+      let over : length xs ≤ n = omega (arith, past.1) in
+      let size : n ≡ length xs + (n - length xs) = omega arith in
+      ap (λ (k : ℕ). take k (xs ++ ys)) size ∙ take-append-add xs ys (n - length xs) ∙ ap (λ (l : List ℕ). l ++ take (n - length xs) ys) (sym (take_all n xs over))
 ]
 
 bad_first_grows : (w x : List ℕ) → HasBadRequestLine w → HasBadRequestLine (w ++ x)
@@ -84,9 +84,9 @@ readings_compose stream more us vs (Waits rest) e p q = record {
   pieces = p.pieces ++ q.pieces;
   rest = q.rest;
   whole =
-    ap (λ (l : List ℕ). l ++ more) p.whole ∙ append_assoc (bytes_of p.pieces) p.rest more
-    ∙ ap (λ (l : List ℕ). bytes_of p.pieces ++ l) (ap (λ (l : List ℕ). l ++ more) p.ends.0 ∙ q.whole)
-    ∙ sym (append_assoc (bytes_of p.pieces) (bytes_of q.pieces) q.rest) ∙ ap (λ (l : List ℕ). l ++ q.rest) (sym (bytes_of-append p.pieces q.pieces));
+      ap (λ (l : List ℕ). l ++ more) p.whole ∙ append_assoc (bytes_of p.pieces) p.rest more
+      ∙ ap (λ (l : List ℕ). bytes_of p.pieces ++ l) (ap (λ (l : List ℕ). l ++ more) p.ends.0 ∙ q.whole)
+      ∙ sym (append_assoc (bytes_of p.pieces) (bytes_of q.pieces) q.rest) ∙ ap (λ (l : List ℕ). l ++ q.rest) (sym (bytes_of-append p.pieces q.pieces));
   are_pieces = ArePieces-append p.pieces q.pieces p.are_pieces q.are_pieces;
   units_are = ap (λ (l : List StreamUnit). l ++ vs) p.units_are ∙ ap (λ (l : List StreamUnit). units_of p.pieces ++ l) q.units_are ∙ sym (units_of-append p.pieces q.pieces);
   ends = q.ends;

@@ -51,12 +51,12 @@ module _ {S : Type 0} (incoming : S → Option (List ℕ)) where
     found = p.found ++ q.found;
     given = Consumes-trans (incoming a.source) (incoming b.source) (incoming c.source) p.read q.read p.given q.given;
     kept =
-      sym (append_assoc a.held p.read q.read) ∙ ap (λ (l : List ℕ). l ++ q.read) p.kept ∙ append_assoc p.taken b.held q.read
-      ∙ ap (λ (l : List ℕ). p.taken ++ l) q.kept ∙ sym (append_assoc p.taken q.taken c.held);
+        sym (append_assoc a.held p.read q.read) ∙ ap (λ (l : List ℕ). l ++ q.read) p.kept ∙ append_assoc p.taken b.held q.read
+        ∙ ap (λ (l : List ℕ). p.taken ++ l) q.kept ∙ sym (append_assoc p.taken q.taken c.held);
     reads = reads_twice a.reading b.reading c.reading p.taken q.taken p.found q.found p.reads q.reads;
     order =
-      sym (append_assoc a.queue p.found q.found) ∙ ap (λ (l : List StreamUnit). l ++ q.found) p.order ∙ append_assoc us b.queue q.found
-      ∙ ap (λ (l : List StreamUnit). us ++ l) q.order ∙ sym (append_assoc us vs c.queue);
+        sym (append_assoc a.queue p.found q.found) ∙ ap (λ (l : List StreamUnit). l ++ q.found) p.order ∙ append_assoc us b.queue q.found
+        ∙ ap (λ (l : List StreamUnit). us ++ l) q.order ∙ sym (append_assoc us vs c.queue);
   }
 
   -- the reader took nothing: what the source gave is held

@@ -59,7 +59,7 @@ whole_head bytes {window} {line} {rest} {m} {u} {v} {headers} {request} len w p 
     let small : length first + len ≤ MAX_HEAD = omega (arith, ap length w, length-take MAX_HEAD bytes) in
     let fits : length first + len ≤ length bytes = omega (arith, ap length w, length-take MAX_HEAD bytes) in
     let cut : take (length first + len) bytes ≡ first ++ take len rest =
-        sym (take-take (length first + len) MAX_HEAD bytes small) ∙ ap (take (length first + len)) (sym w ∙ p.whole) ∙ take-append-add first rest len in
+    sym (take-take (length first + len) MAX_HEAD bytes small) ∙ ap (take (length first + len)) (sym w ∙ p.whole) ∙ take-append-add first rest len in
     let head : IsHead (take (length first + len) bytes) request = record {
       first = p.line;
       rest = take len rest;

@@ -55,11 +55,16 @@ shows_head : (stream bytes more : List ℕ) (request : Request) → IsHead bytes
 unfolding FieldsThen
 shows_head stream bytes more request p e =
     let behind = take (MAX_HEAD - length bytes) more in
-    let f = p.fields in
-    (p.first, p.rest ++ behind,
-     whole_window stream bytes more request p e ∙ ap (λ (l : List ℕ). l ++ behind) p.whole ∙ append_assoc (ended p.first) p.rest behind,
-     p.first_unbroken, p.request_line, f.lines, ended f.last ++ behind,
-     (ap (λ (l : List ℕ). l ++ behind) f.whole ∙ append_assoc (joined f.lines) (ended f.last) behind, f.are_headers, (f.last, refl, f.last_unbroken, f.last_empty)))
+    let f = p.fields in (
+      p.first,
+      p.rest ++ behind,
+      whole_window stream bytes more request p e ∙ ap (λ (l : List ℕ). l ++ behind) p.whole ∙ append_assoc (ended p.first) p.rest behind,
+      p.first_unbroken,
+      p.request_line,
+      f.lines,
+      ended f.last ++ behind,
+      (ap (λ (l : List ℕ). l ++ behind) f.whole ∙ append_assoc (joined f.lines) (ended f.last) behind, f.are_headers, (f.last, refl, f.last_unbroken, f.last_empty)),
+    )
 
 -- The window of bytes with a fault.
 record FaultWindow (stream : List ℕ) (fault : Fault) : Type 0 where
@@ -72,19 +77,25 @@ record FaultWindow (stream : List ℕ) (fault : Fault) : Type 0 where
 broken_window : (w : List ℕ) (fault : Fault) → HasRequestLine w (λ rest. BreaksHeaders rest fault) → (x : Window) × WindowIs w x × (fault_in x ≡ fault) × (is_whole x ≡ false) × (is_open x ≡ false)
 unfolding FieldsThen
 broken_window w fault p =
-    let b = p.after in
-    (After p.method p.uri p.version b.headers (Broken fault),
-     (p.first, p.rest, p.whole, p.first_unbroken, p.request_line, b.lines, ended b.line ++ b.more, (b.whole, b.are_headers, (b.line, b.more, refl, b.unbroken, b.bad))),
-     refl, refl, refl)
+    let b = p.after in (
+      After p.method p.uri p.version b.headers (Broken fault),
+      (p.first, p.rest, p.whole, p.first_unbroken, p.request_line, b.lines, ended b.line ++ b.more, (b.whole, b.are_headers, (b.line, b.more, refl, b.unbroken, b.bad))),
+      refl,
+      refl,
+      refl,
+    )
 
 open_window : (w : List ℕ) → GoesOn w → (x : Window) × WindowIs w x × (fault_in x ≡ HeadTooLong) × (is_whole x ≡ false) × (is_open x ≡ true)
 unfolding FieldsThen
 open_window w (inl none) = (NoLine, none, refl, refl, refl)
 open_window w (inr p) =
-    let b = p.after in
-    (After p.method p.uri p.version b.headers Open,
-     (p.first, p.rest, p.whole, p.first_unbroken, p.request_line, b.lines, b.tail, (b.whole, b.are_headers, b.unfinished)),
-     refl, refl, refl)
+    let b = p.after in (
+      After p.method p.uri p.version b.headers Open,
+      (p.first, p.rest, p.whole, p.first_unbroken, p.request_line, b.lines, b.tail, (b.whole, b.are_headers, b.unfinished)),
+      refl,
+      refl,
+      refl,
+    )
 
 shows_fault : (stream : List ℕ) (fault : Fault) → HasFault stream fault → FaultWindow stream fault
 shows_fault stream BadLine p = record { window = NoRequest; is = (p.line, p.more, p.whole, p.unbroken, p.bad); says = refl; not_whole = refl; long = λ e. absurd (false_is_true e) }
@@ -134,7 +145,7 @@ same_heads stream a x b y r s p q e f =
     let behind : take (MAX_HEAD - length a) x ≡ take (MAX_HEAD - length b) y = cc in
     let wholes : a ++ take (MAX_HEAD - length a) x ≡ b ++ take (MAX_HEAD - length b) y = sym (whole_window stream a x r p e) ∙ whole_window stream b y s q f in
     let sizes : length a ≡ length b =
-        omega (arith, ap length wholes, ap length behind, length-append a (take (MAX_HEAD - length a) x), length-append b (take (MAX_HEAD - length b) y)) in
+    omega (arith, ap length wholes, ap length behind, length-append a (take (MAX_HEAD - length a) x), length-append b (take (MAX_HEAD - length b) y)) in
     let bytes : a ≡ b = sym (take-append_seam a x) ∙ ap (take (length a)) (sym e ∙ f) ∙ ap (λ (n : ℕ). take n (b ++ y)) sizes ∙ take-append_seam b y in
     (bytes, same_request r s method uri version (p.cseq ∙ ap cseq_of headers ∙ sym q.cseq) headers)
 

@@ -1,3 +1,4 @@
+//! Which bytes a part of a line is made of.
 ghost use Rattle.std.specs.Prelude.{◌≡◌, ◌+◌, ◌<◌, ◌≤◌, ◌&&◌, ℕ, false, nat_le, length, take, drop, slice_index};
 
 /// A class of bytes that a part of a line is made of (RFC 2326, 15.1).

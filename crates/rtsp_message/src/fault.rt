@@ -1,3 +1,4 @@
+//! What is wrong with a stream.
 ghost use Rattle.std.specs.Prelude.{◌≡◌, ℕ};
 
 use std::fmt;

@@ -1,3 +1,11 @@
+//! The head of a message, read from the front of a stream.
+ghost use Rattle.std.specs.Prelude.{◌≡◌, ◌<◌, false, length, take, IfOk, MatchResult};
+ghost use Rattle.rtsp_message.specs.declared.headers.Header.{Header};
+ghost use Rattle.rtsp_message.specs.Lines.{IsRequestLine, IsHeaderLine};
+ghost use Rattle.rtsp_message.specs.Heads.{GoesOn, IsBadHeader, is_content_length, HasRequestLine};
+ghost use Rattle.rtsp_message.specs.Headers.{cseq_of};
+ghost use Rattle.rtsp_message.specs.Fronts.{IsFront, IsBlock};
+
 use crate::MAX_HEAD;
 use crate::fault::Fault;
 use crate::headers::{Header, Headers, is_same_name};
@@ -6,8 +14,6 @@ use crate::numbers::read_number;
 use crate::request::Request;
 use crate::text::Text;
 use std::alloc::{AllocError, Global};
-
-ghost use Rattle.std.specs.Prelude.{◌≡◌, ◌<◌, false, length, take, IfOk, MatchResult};
 
 /// What stands at the front of a stream, where a message may begin.
 #[derive(Drop)]
@@ -27,12 +33,6 @@ pub enum HeaderBlock {
     Bad(Fault),
     Unfinished,
 }
-
-ghost use Rattle.rtsp_message.specs.declared.headers.Header.{Header};
-ghost use Rattle.rtsp_message.specs.Lines.{IsRequestLine, IsHeaderLine};
-ghost use Rattle.rtsp_message.specs.Heads.{GoesOn, IsBadHeader, is_content_length, HasRequestLine};
-ghost use Rattle.rtsp_message.specs.Headers.{cseq_of};
-ghost use Rattle.rtsp_message.specs.Fronts.{IsFront, IsBlock};
 
 /// Reads the head at the front of the bytes (RFC 2326, 6). It looks at no more than the first `MAX_HEAD` bytes.
 pub fn read_head(alloc: Global, bytes: &[u8]) -> Result<Front, AllocError>
@@ -72,10 +72,11 @@ fn unfinished(bytes: &[u8]) -> Front
     requires { GoesOn (take MAX_HEAD bytes.now) }
     ensures { IsFront bytes.now result }
 {
-    if bytes.len() < MAX_HEAD {
-        Front::Unfinished
-    } else {
+    let is_long = bytes.len() >= MAX_HEAD;
+    if is_long {
         Front::Bad(Fault::HeadTooLong)
+    } else {
+        Front::Unfinished
     }
 }
 
@@ -115,7 +116,11 @@ fn read_header(alloc: Global, line: &[u8]) -> Result<Result<Header, Fault>, Allo
     Ok(Ok(Header { name, value }))
 }
 
-fn new_request(alloc: Global, start: RequestLine<'_>, headers: Headers) -> Result<Request, AllocError>
+fn new_request(
+    alloc: Global,
+    start: RequestLine<'_>,
+    headers: Headers,
+) -> Result<Request, AllocError>
     ensures method { IfOk result (λ request. request.method ≡ start.entry.method.now) }
     ensures uri { IfOk result (λ request. request.uri ≡ start.entry.uri.now) }
     ensures version { IfOk result (λ request. request.version ≡ start.entry.version.now) }

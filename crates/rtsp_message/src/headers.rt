@@ -1,10 +1,11 @@
-use crate::text::Text;
-use std::alloc::{AllocError, Global};
-use std::marker::Model;
-
+//! Header fields, and looking one up.
 ghost use Rattle.std.specs.Prelude.{◌≡◌, ◌++◌, ◌∷◌, [], OnOk, OnErr};
 ghost use Rattle.std.specs.Option.{option_copied};
 ghost use Rattle.std.specs.Str.{str_eq_ignore_ascii_case};
+
+use crate::text::Text;
+use std::alloc::{AllocError, Global};
+use std::marker::Model;
 
 /// A header field (RFC 2326, 12).
 #[derive(Drop)]

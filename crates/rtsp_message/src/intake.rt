@@ -1,3 +1,6 @@
+//! The units of a source, one by one.
+ghost use Rattle.std.specs.Prelude.{◌≡◌, ◌<◌, ◌≤◌, ◌+◌, [], length, IfSome, IfNone};
+
 use crate::fault::Fault;
 use crate::reader::Reader;
 use crate::unit::Unit;
@@ -5,8 +8,6 @@ use interleaved::Source;
 use std::alloc::Global;
 use std::marker::Model;
 use std::vec::IntoIter;
-
-ghost use Rattle.std.specs.Prelude.{◌≡◌, ◌<◌, ◌≤◌, ◌+◌, [], length, IfSome, IfNone};
 
 /// The most bytes that are read from a source at once.
 const PIECE: usize = 4096;

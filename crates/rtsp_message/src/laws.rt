@@ -10,17 +10,14 @@ ghost use Rattle.rtsp_message.specs.Stream.{Ending, Waits, Fails, Reads, ReadsOn
 pub fn one_reading()
     ensures units { (stream : List ℕ) (us vs : List StreamUnit) (d e : Ending) → Reads stream us d → Reads stream vs e → us ≡ vs }
     ensures ending { (stream : List ℕ) (us vs : List StreamUnit) (d e : Ending) → Reads stream us d → Reads stream vs e → d ≡ e }
-{
-}
+{}
 
 /// Reading a stream and then more of it is reading both at once, and a fault stays whatever follows.
 pub fn readings_compose()
     ensures { (stream more : List ℕ) (us vs : List StreamUnit) (d e : Ending) → Reads stream us d → ReadsOn d more vs e → Reads (stream ++ more) (us ++ vs) e }
-{
-}
+{}
 
 /// Whatever the pieces are that a stream comes in, it reads as its bytes do in one piece.
 pub fn any_pieces()
     ensures { (pieces : List (List ℕ)) (units : List StreamUnit) (e : Ending) → ReadsPieces (Waits []) pieces units e → Reads (concat pieces) units e }
-{
-}
+{}

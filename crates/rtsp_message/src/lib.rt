@@ -10,20 +10,22 @@ mod intake;
 pub mod laws;
 mod lines;
 mod numbers;
-mod reader;
 mod plain;
+mod reader;
 mod reply;
 mod request;
 mod status;
+#[cfg(test)]
+mod tests;
 mod text;
 mod unit;
 
 pub use byte_class::ByteClass;
 pub use fault::Fault;
 pub use headers::{Header, Headers};
-pub use reader::{Fed, Reader};
 pub use intake::{Intake, Next};
 pub use plain::put_plain;
+pub use reader::{Fed, Reader};
 pub use reply::{Fields, Reply, put_reply};
 pub use request::Request;
 pub use status::Status;

@@ -1,9 +1,10 @@
-use crate::byte_class::ByteClass;
-use memchr::memchr;
-
+//! The lines of a head, and their parts.
 ghost use Rattle.std.specs.Prelude.{◌≡◌, ◌≢◌, ℕ, List, ◌∷◌, IfSome, IfNone};
 ghost use Rattle.rtsp_message.specs.declared.headers.Header.{Header};
 ghost use Rattle.rtsp_message.specs.Lines.{IsRequestLine, IsHeaderLine, IsTrimOf, IsFrontRun, IsFirstLine, BeginsOutside, HasNoLf, said};
+
+use crate::byte_class::ByteClass;
+use memchr::memchr;
 
 /// The parts of a request line (RFC 2326, 6.1).
 #[derive(Clone, Copy)]

@@ -1,3 +1,4 @@
+//! Decimal numbers in header fields.
 ghost use Rattle.std.specs.Prelude.{◌≡◌};
 ghost use Rattle.rtsp_message.specs.Headers.{number_up_to};
 

@@ -1,8 +1,9 @@
-use crate::status::Status;
-use itoa::Buffer;
-
+//! Replies without memory.
 ghost use Rattle.std.specs.Prelude.{◌≡◌, ◌++◌, ◌+◌, ◌≤◌, length, take};
 ghost use Rattle.rtsp_message.specs.Reply.{plain_text};
+
+use crate::status::Status;
+use itoa::Buffer;
 
 /// Writes a reply that has no field but CSeq to the front of `out`, and answers its length. It takes no memory.
 pub fn put_plain(out: &mut [u8; 128], status: Status, cseq: Option<u32>) -> usize

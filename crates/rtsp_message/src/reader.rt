@@ -1,13 +1,14 @@
+//! A stream read in the pieces that it comes in.
+ghost use Rattle.std.specs.Prelude.{◌≡◌, ◌++◌, OnErr, IfOk, OnOk, [], length, drop, ◌≤◌};
+ghost use Rattle.rtsp_message.specs.Heads.{is_pad as is_pad_byte};
+ghost use Rattle.rtsp_message.specs.Stream.{Waits, Fails, ReadsOn, fault_of, ReadsSoFar, IsScan};
+
 use crate::fault::Fault;
 use crate::head::{Front, read_head};
 use crate::unit::Unit;
 use bytes::BytesMut;
 use std::alloc::{AllocError, Global};
 use std::marker::Model;
-
-ghost use Rattle.std.specs.Prelude.{◌≡◌, ◌++◌, OnErr, IfOk, OnOk, [], length, drop, ◌≤◌};
-ghost use Rattle.rtsp_message.specs.Heads.{is_pad as is_pad_byte};
-ghost use Rattle.rtsp_message.specs.Stream.{Waits, Fails, ReadsOn, fault_of, ReadsSoFar, IsScan};
 
 /// What a piece of the stream has brought.
 #[derive(Drop)]

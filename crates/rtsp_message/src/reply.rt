@@ -1,10 +1,12 @@
+//! Replies and their text.
+ghost use Rattle.std.specs.Prelude.{◌≡◌, ◌++◌, ◌+◌, ◌≤◌, length, take, IfOk, OnOk, OnErr, codes};
+ghost use Rattle.std.specs.Option.{option_map};
+ghost use Rattle.rtsp_message.specs.Reply.{reply_text, status_line, cseq_field, fields_text, field, length_field};
+
 use crate::status::Status;
 use crate::text::Text;
 use itoa::Buffer;
 use std::alloc::{AllocError, Global};
-
-ghost use Rattle.std.specs.Prelude.{◌≡◌, ◌++◌, ◌+◌, ◌≤◌, length, take, IfOk, OnOk, OnErr, codes};
-ghost use Rattle.std.specs.Option.{option_map};
 
 /// The fields that a reply may have between CSeq and Content-Length, each with its value where it is written.
 #[derive(Drop)]
@@ -47,8 +49,6 @@ pub struct Reply {
     /// Empty where there is no body.
     pub body: Text,
 }
-
-ghost use Rattle.rtsp_message.specs.Reply.{reply_text, status_line, cseq_field, fields_text, field, length_field};
 
 /// Appends the text of a reply. After an `Err` `out` is as before.
 pub fn put_reply(out: &mut Vec<u8>, reply: &Reply) -> Result<(), AllocError>
@@ -124,7 +124,11 @@ fn push_length(text: &mut Vec<u8>, body: &[u8]) -> Result<(), AllocError>
         return Ok(());
     }
     let mut digits = Buffer::new();
-    push_field(text, b"Content-Length", digits.format(body.len()).as_bytes())
+    push_field(
+        text,
+        b"Content-Length",
+        digits.format(body.len()).as_bytes(),
+    )
 }
 
 fn push_field(text: &mut Vec<u8>, name: &[u8], value: &[u8]) -> Result<(), AllocError>

@@ -1,8 +1,9 @@
-use crate::headers::Headers;
-use crate::text::Text;
-
+//! Requests.
 ghost use Rattle.std.specs.Prelude.{◌≡◌};
 ghost use Rattle.std.specs.Option.{option_copied};
+
+use crate::headers::Headers;
+use crate::text::Text;
 
 /// A request as it came (RFC 2326, 6). Its texts are bytes.
 #[derive(Drop)]

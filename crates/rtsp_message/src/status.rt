@@ -1,3 +1,4 @@
+//! Status codes and their reasons.
 ghost use Rattle.std.specs.Prelude.{◌≡◌, ◌<◌, ◌≤◌, length};
 
 /// The outcome of a request (RFC 2326, 7.1.1 and 11).

@@ -1,3 +1,4 @@
+//! Bytes of a text.
 ghost use Rattle.std.specs.Prelude.{◌≡◌, ℕ, List, length, IfOk};
 
 use std::alloc::{AllocError, Global};
@@ -38,6 +39,7 @@ impl Text {
     pub fn into_vec(self) -> Vec<u8>
         ensures { result.items ≡ self }
     {
-        self.bytes
+        let Text { bytes } = self;
+        bytes
     }
 }

@@ -1,3 +1,4 @@
+//! What a stream is made of.
 use crate::request::Request;
 
 /// What a connection's stream is made of.

@@ -20,13 +20,13 @@ pub returns-in_ok-request-in-Ended : goal.returns-in_ok-request-in-Ended
 returns-in_ok-request-in-Ended c =
     let block = subst (IsBlock c.in-Some.rest.now) c.in-Ended.is c.in_ok-headers.ensures in
     whole_head c.args.bytes.now c.in-Ended.len c.head_window-window.ensures c.in-Some.ensures.some c.in-Some-read_request_line.ensures.some block
-      (record {
-        method = c.in_ok-request-in-Ended.ensures.method;
-        uri = c.in_ok-request-in-Ended.ensures.uri;
-        version = c.in_ok-request-in-Ended.ensures.version;
-        cseq = c.in_ok-request-in-Ended.ensures.cseq;
-        headers = c.in_ok-request-in-Ended.ensures.headers;
-      })
+    (record {
+      method = c.in_ok-request-in-Ended.ensures.method;
+      uri = c.in_ok-request-in-Ended.ensures.uri;
+      version = c.in_ok-request-in-Ended.ensures.version;
+      cseq = c.in_ok-request-in-Ended.ensures.cseq;
+      headers = c.in_ok-request-in-Ended.ensures.headers;
+    })
 
 pub returns-in-Bad : goal.returns-in-Bad
 returns-in-Bad c =

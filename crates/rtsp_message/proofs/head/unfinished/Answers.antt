@@ -4,7 +4,7 @@ use Rattle.std.proofs.lemmas.List.{take_all}
 use Rattle.rtsp_message.specs.Heads.{GoesOn}
 use Rattle.rtsp_message.proofs.head.unfinished.Goals as goal
 
-pub returns-then-bytes-lt-MAX_HEAD : goal.returns-then-bytes-lt-MAX_HEAD
-returns-then-bytes-lt-MAX_HEAD c =
+pub returns-else-is_long : goal.returns-else-is_long
+returns-else-is_long c =
     let short : length c.args.bytes.now ≤ MAX_HEAD = omega arith in
-    (subst GoesOn (take_all MAX_HEAD c.args.bytes.now short) c.requires, c.if-bytes-lt-MAX_HEAD.true)
+    (subst GoesOn (take_all MAX_HEAD c.args.bytes.now short) c.requires, c.if-is_long.false)

@@ -37,7 +37,8 @@ loop-unit-preserved g c =
     let incoming = g.S.Source.incoming in
     let mid = state_of (record c.self.inside { units = c.next.new.self }) in
     let same : state_of c.self.inside ≡ mid = ap (λ (q : List StreamUnit). record (state_of c.self.inside) { queue = q }) c.in_default.ensures.items in
-    let start = subst (λ x. HandsOut incoming c.args.self.now x []) same (so_far g (goal.at.loop-unit-preserved g c).After-next) in
-    (inr (HandsOut-trans incoming c.args.self.now mid c.read_on.new.self [] [] start c.read_on.ensures.hands_out),
-     λ answer over. absurd ((c.in_default-read_on.ensures.for_good answer (subst (λ x. IsOver g.S.Source.failed x answer) (sym c.self.view_is ∙ same) (c.loop-unit.invariant.1 answer over))).1),
-     omega (arith, c.read_on.ensures.ends, c.loop-unit.invariant.2, ap (weight g.S.Source.bound) (sym c.self.view_is ∙ same)))
+    let start = subst (λ x. HandsOut incoming c.args.self.now x []) same (so_far g (goal.at.loop-unit-preserved g c).After-next) in (
+      inr (HandsOut-trans incoming c.args.self.now mid c.read_on.new.self [] [] start c.read_on.ensures.hands_out),
+      λ answer over. absurd ((c.in_default-read_on.ensures.for_good answer (subst (λ x. IsOver g.S.Source.failed x answer) (sym c.self.view_is ∙ same) (c.loop-unit.invariant.1 answer over))).1),
+      omega (arith, c.read_on.ensures.ends, c.loop-unit.invariant.2, ap (weight g.S.Source.bound) (sym c.self.view_is ∙ same)),
+    )

@@ -20,28 +20,28 @@ fetched g c =
     let inside = c.self.inside in
     let from_inside : Fetched g.S.Source.incoming g.S.Source.bound (state_of inside) c.if-self-eq0.self-inside = elim c.if-self-eq0.branch [
       | then-self-eq0+in-Ok w ↦
-        let got = take w.in-Ok.count w.read.new.buf in
-        subst (Fetched g.S.Source.incoming g.S.Source.bound (state_of inside)) (sym w.self-inside-is) (record {
-          read = got;
-          given = w.in-Ok.ensures.bytes;
-          left = ap (λ (n : ℕ). g.S.Source.bound w.read.new.self + n) (length-take-le w.in-Ok.count w.read.new.buf w.in-Ok.ensures.count) ∙ w.in-Ok.ensures.left;
-          held = ap (λ (n : ℕ). take n inside.piece ++ got) (sym w.if-self-eq0.true);
-          reading = refl;
-          queue = refl;
-          within = omega (arith, w.in-Ok.ensures.count, w.read.auto.buf, c.self.told);
-          going = c.if-self.false;
-        })
+          let got = take w.in-Ok.count w.read.new.buf in
+          subst (Fetched g.S.Source.incoming g.S.Source.bound (state_of inside)) (sym w.self-inside-is) (record {
+            read = got;
+            given = w.in-Ok.ensures.bytes;
+            left = ap (λ (n : ℕ). g.S.Source.bound w.read.new.self + n) (length-take-le w.in-Ok.count w.read.new.buf w.in-Ok.ensures.count) ∙ w.in-Ok.ensures.left;
+            held = ap (λ (n : ℕ). take n inside.piece ++ got) (sym w.if-self-eq0.true);
+            reading = refl;
+            queue = refl;
+            within = omega (arith, w.in-Ok.ensures.count, w.read.auto.buf, c.self.told);
+            going = c.if-self.false;
+          })
       | else-self-eq0 w ↦
-        subst (Fetched g.S.Source.incoming g.S.Source.bound (state_of inside)) (sym w.self-inside-is) (record {
-          read = [];
-          given = Consumes-nil (g.S.Source.incoming inside.source);
-          left = omega arith;
-          held = sym (append-nil (take inside.held inside.piece));
-          reading = refl;
-          queue = refl;
-          within = c.self.invariant.within;
-          going = c.if-self.false;
-        })
+          subst (Fetched g.S.Source.incoming g.S.Source.bound (state_of inside)) (sym w.self-inside-is) (record {
+            read = [];
+            given = Consumes-nil (g.S.Source.incoming inside.source);
+            left = omega arith;
+            held = sym (append-nil (take inside.held inside.piece));
+            reading = refl;
+            queue = refl;
+            within = c.self.invariant.within;
+            going = c.if-self.false;
+          })
     ] in
     subst (λ old. Fetched g.S.Source.incoming g.S.Source.bound old c.if-self-eq0.self-inside) c.self.view_is from_inside
 
@@ -65,7 +65,7 @@ returns-in-Ok-feed-clause-hands_out g c =
       given = f.given;
       kept = sym (append-nil (c.args.self.now.held ++ f.read));
       reads = subst (λ (d : Ending). ReadsOn d (c.args.self.now.held ++ f.read) units c.feed.new.self) f.reading
-        (subst (λ (l : List ℕ). ReadsOn c.if-self-eq0.self-inside.reader l units c.feed.new.self) f.held c.in-Ok-feed.ensures.units);
+          (subst (λ (l : List ℕ). ReadsOn c.if-self-eq0.self-inside.reader l units c.feed.new.self) f.held c.in-Ok-feed.ensures.units);
       order = ap (λ (q : List StreamUnit). q ++ units) c.requires ∙ sym c.into_iter.ensures.rest;
     }
 
@@ -89,7 +89,7 @@ returns-in-Ok-eq0-clause-hands_out g c =
     let inside = c.self.inside in
     let new = state_of (record inside { source = c.read.new.self; piece = c.read.new.buf; ended = true }) in
     let given : Consumes (g.S.Source.incoming inside.source) (g.S.Source.incoming c.read.new.self) [] =
-        subst (λ (n : ℕ). Consumes (g.S.Source.incoming inside.source) (g.S.Source.incoming c.read.new.self) (take n c.read.new.buf)) c.in-Ok-eq0.field-0-test c.in-Ok-eq0.ensures.bytes in
+    subst (λ (n : ℕ). Consumes (g.S.Source.incoming inside.source) (g.S.Source.incoming c.read.new.self) (take n c.read.new.buf)) c.in-Ok-eq0.field-0-test c.in-Ok-eq0.ensures.bytes in
     let held : take inside.held c.read.new.buf ≡ take inside.held inside.piece ++ [] = none_held inside.held inside.piece c.read.new.buf c.if-self-eq0.true in
     subst (λ s. HandsOut g.S.Source.incoming s new []) c.self.view_is (holds_more g.S.Source.incoming (state_of inside) new [] [] given held refl c.self.invariant.settled refl)
 

@@ -1,0 +1,9 @@
+pub mod Plains
+pub mod Answered
+pub mod ListTaps
+pub mod Runs
+pub mod Attachments
+pub mod Positions
+pub mod Kept
+pub mod Accounts
+pub mod Counted

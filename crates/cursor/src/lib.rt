@@ -1,0 +1,33 @@
+//! The broadcast log that a relay is measured against: its packets, the seats that read them, and
+//! the traits by which packets go in and come out.
+#![tactic(auto)]
+
+mod calls;
+mod feeds;
+mod histories;
+pub mod laws;
+mod list_tap;
+mod packets;
+mod plain_feed;
+mod plain_log;
+mod plain_tap;
+mod pumping;
+mod refusals;
+mod takes;
+mod taps;
+
+pub use calls::{Answer, Call};
+pub use feeds::Feed;
+pub use histories::run;
+pub use list_tap::ListTap;
+pub use packets::{Packet, Payload};
+pub use plain_feed::PlainFeed;
+pub use plain_log::PlainLog;
+pub use plain_tap::PlainTap;
+pub use pumping::{Stopped, pump};
+pub use refusals::Refused;
+pub use takes::{Account, Delivery, Left, Taken};
+pub use taps::Tap;
+
+#[cfg(test)]
+mod tests;

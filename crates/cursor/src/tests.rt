@@ -1,0 +1,384 @@
+ghost use Rattle.std.specs.Prelude.{◌≡◌, IfOk};
+
+use super::*;
+use std::alloc::{AllocError, Global};
+use std::process::Abort;
+use std::test::Fail;
+
+/// A packet with tag 0.
+fn packet(alloc: Global, bytes: &[u8]) -> Result<Packet, AllocError>
+    ensures { IfOk result (λ p. p.bytes ≡ bytes.now) }
+{
+    let bytes = Payload::new(bytes.to_vec(alloc)?);
+    Ok(Packet { tag: 0, bytes })
+}
+
+/// What is written of a take's answer: the packet's number and bytes, the loss, or the end.
+fn told(alloc: Global, delivery: &Delivery) -> Result<String, AllocError> {
+    match delivery {
+        Delivery::Got { number, packet } => {
+            let bytes = packet.bytes.as_slice();
+            format!(in alloc; "got {number} {bytes:?}")
+        }
+        Delivery::Lost(count) => format!(in alloc; "lost {count}"),
+        Delivery::Empty => format!(in alloc; "empty"),
+        Delivery::Ended => format!(in alloc; "ended"),
+    }
+}
+
+/// What is written of the reply to a call.
+fn reply_told(alloc: Global, reply: &Option<Answer>) -> Result<String, AllocError> {
+    match reply {
+        Some(Answer::Appended(number)) => format!(in alloc; "appended {number}"),
+        Some(Answer::Refused) => format!(in alloc; "refused"),
+        Some(Answer::Closed) => format!(in alloc; "closed"),
+        Some(Answer::Attached(cursor)) => format!(in alloc; "attached {cursor}"),
+        Some(Answer::Taken(delivery)) => told(alloc, delivery),
+        Some(Answer::Detached(left)) => {
+            let Left { taken, lost, left } = *left;
+            format!(in alloc; "detached {taken} {lost} {left}")
+        }
+        None => format!(in alloc; "no"),
+    }
+}
+
+/// A call by its letter, with a packet of one byte or a seat.
+fn call(alloc: Global, kind: u8, n: u8) -> Result<Call, AllocError> {
+    let seat = u16::from(n);
+    Ok(match kind {
+        b'p' => Call::Publish(packet(alloc, &[n])?),
+        b'a' => Call::Attach(seat),
+        b't' => Call::Take(seat),
+        b'd' => Call::Detach(seat),
+        _ => Call::Close,
+    })
+}
+
+/// Runs calls over a new log, each a letter and a number, and compares what is replied.
+fn check(
+    rt: &impl Abort,
+    alloc: Global,
+    keep: u64,
+    seats: u16,
+    calls: &[(u8, u8)],
+    wanted: &[&str],
+) -> Result<(), Fail> {
+    let mut log = PlainLog::new(alloc, keep, seats, 4)?;
+    let mut list = Vec::new(alloc);
+    for (kind, n) in calls {
+        list.push(call(alloc, *kind, *n)?)?;
+    }
+    let replies = run(alloc, &mut log, list.as_slice())?;
+    assert_eq!(rt; replies.len(), wanted.len());
+    for (reply, text) in replies.iter().zip(wanted) {
+        let written = reply_told(alloc, reply)?;
+        assert_eq!(rt; written.as_str(), *text);
+    }
+    Ok(())
+}
+
+#[test]
+fn rows_of_the_log(rt: HostRuntime) -> Result<(), Fail> {
+    // ring loses one
+    check(
+        &rt,
+        rt.alloc(),
+        2,
+        1,
+        &[
+            (b'a', 0),
+            (b'p', 65),
+            (b'p', 66),
+            (b'p', 67),
+            (b't', 0),
+            (b't', 0),
+            (b't', 0),
+            (b't', 0),
+            (b'd', 0),
+        ],
+        &[
+            "attached 0",
+            "appended 0",
+            "appended 1",
+            "appended 2",
+            "lost 1",
+            "got 1 [66]",
+            "got 2 [67]",
+            "empty",
+            "detached 2 1 0",
+        ],
+    )?;
+    // no seats
+    check(
+        &rt,
+        rt.alloc(),
+        1,
+        0,
+        &[(b'p', 65), (b'p', 66), (b'p', 67)],
+        &["appended 0", "appended 1", "appended 2"],
+    )?;
+    // late seat
+    check(
+        &rt,
+        rt.alloc(),
+        1,
+        1,
+        &[
+            (b'p', 65),
+            (b'p', 66),
+            (b'p', 67),
+            (b'a', 0),
+            (b't', 0),
+            (b'p', 68),
+            (b'd', 0),
+        ],
+        &[
+            "appended 0",
+            "appended 1",
+            "appended 2",
+            "attached 3",
+            "empty",
+            "appended 3",
+            "detached 0 0 1",
+        ],
+    )?;
+    // close and ended
+    check(
+        &rt,
+        rt.alloc(),
+        2,
+        1,
+        &[
+            (b'a', 0),
+            (b'p', 65),
+            (b'c', 0),
+            (b't', 0),
+            (b't', 0),
+            (b't', 0),
+            (b'd', 0),
+        ],
+        &[
+            "attached 0",
+            "appended 0",
+            "closed",
+            "got 0 [65]",
+            "ended",
+            "ended",
+            "detached 1 0 0",
+        ],
+    )
+}
+
+#[test]
+fn calls_that_may_not_be_made(rt: HostRuntime) -> Result<(), Fail> {
+    check(
+        &rt,
+        rt.alloc(),
+        1,
+        2,
+        &[
+            (b't', 0),
+            (b'd', 1),
+            (b'a', 0),
+            (b'a', 0),
+            (b'a', 2),
+            (b'p', 65),
+            (b'c', 0),
+            (b'c', 0),
+            (b'p', 66),
+            (b't', 0),
+        ],
+        &[
+            "no",
+            "no",
+            "attached 0",
+            "no",
+            "no",
+            "appended 0",
+            "closed",
+            "no",
+            "no",
+            "got 0 [65]",
+        ],
+    )
+}
+
+#[test]
+fn seats_and_what_is_kept(rt: HostRuntime) -> Result<(), Fail> {
+    // two seats at different places, of which one attaches again
+    check(
+        &rt,
+        rt.alloc(),
+        1,
+        2,
+        &[
+            (b'a', 0),
+            (b'p', 65),
+            (b'a', 1),
+            (b'p', 66),
+            (b't', 0),
+            (b't', 1),
+            (b't', 0),
+            (b'd', 0),
+            (b'a', 0),
+            (b'p', 67),
+            (b't', 0),
+            (b'd', 0),
+            (b'd', 1),
+        ],
+        &[
+            "attached 0",
+            "appended 0",
+            "attached 1",
+            "appended 1",
+            "lost 1",
+            "got 1 [66]",
+            "got 1 [66]",
+            "detached 1 1 0",
+            "attached 2",
+            "appended 2",
+            "got 2 [67]",
+            "detached 1 0 0",
+            "detached 1 0 1",
+        ],
+    )?;
+    // nothing is lost of as many packets as are kept
+    let alloc = rt.alloc();
+    for (keep, lost) in [(1, 4095), (4095, 1)] {
+        let mut log = PlainLog::new(alloc, keep, 1, 0)?;
+        log.attach(0);
+        for _ in 0..4096 {
+            assert!(rt; !log.is_closed());
+            let _ = log.publish(1, &[])?;
+        }
+        assert!(rt; log.is_attached(0) && log.packet_bytes() == 0);
+        let mut tap = PlainTap::new(log, 0);
+        assert_eq!(rt; tap.take(&mut []), Taken::Lost(lost));
+        assert_eq!(rt;
+            tap.take(&mut []),
+            Taken::Packet {
+                number: lost,
+                tag: 1,
+                len: 0
+            }
+        );
+    }
+    Ok(())
+}
+
+/// Publishes two packets at any feed.
+fn publish_two<F: Feed>(
+    feed: &mut F,
+    short: &[u8],
+    long: &[u8],
+) -> (Result<u64, Refused>, Result<u64, Refused>) {
+    (feed.publish(2, short), feed.publish(3, long))
+}
+
+#[test]
+fn a_feed_takes_packets_up_to_its_bound(rt: HostRuntime) -> Result<(), Fail> {
+    let mut feed = PlainFeed::new(PlainLog::new(rt.alloc(), 2, 1, 3)?);
+    assert_eq!(rt; feed.packet_bytes(), 3);
+    let (short, long) = publish_two(&mut feed, &[1, 2, 3], &[1, 2, 3, 4]);
+    assert_eq!(rt; short?, 0);
+    assert_eq!(rt; long.map_or_else(Refused::number, |_| 0), 2);
+    let mut log = feed.into_log();
+    assert!(rt; log.is_free(0));
+    log.attach(0);
+    log.close();
+    assert!(rt; log.is_attached(0));
+    let left = log.detach(0);
+    assert_eq!(rt; (left.taken, left.lost, left.left), (0, 0, 0));
+    PlainFeed::new(PlainLog::new(rt.alloc(), 2, 0, 3)?).close();
+    Ok(())
+}
+
+#[test]
+fn a_pump_takes_up_to_the_end(rt: HostRuntime) -> Result<(), Fail> {
+    let alloc = rt.alloc();
+    let mut log = PlainLog::new(alloc, 2, 1, 1)?;
+    log.attach(0);
+    for byte in [65, 66, 67] {
+        assert!(rt; !log.is_closed());
+        let _ = log.publish(0, &[byte])?;
+    }
+    assert!(rt; log.is_attached(0));
+    let mut tap = PlainTap::new(log, 0);
+    let mut out = Vec::new(alloc);
+    let account = pump(alloc, &mut tap, 9, &mut out).map_err(|stopped| stopped.takes)?;
+    assert_eq!(rt;
+        account,
+        Account {
+            start: 0,
+            taken: 2,
+            lost: 1
+        }
+    );
+    assert_eq!(rt; out.len(), 2);
+    assert_eq!(rt; out[0].bytes.as_slice(), [66].as_slice());
+    assert_eq!(rt; out[1].bytes.as_slice(), [67].as_slice());
+    assert_eq!(rt; tap.cursor(), 3);
+    let log = tap.into_log();
+    assert!(rt; log.is_attached(0));
+    assert_eq!(rt; log.account(0), account);
+    Ok(())
+}
+
+#[test]
+fn a_list_is_taken_and_then_ended(rt: HostRuntime) -> Result<(), Fail> {
+    let alloc = rt.alloc();
+    let mut list = Vec::with_capacity(alloc, 4)?;
+    list.push(Delivery::Got {
+        number: 3,
+        packet: packet(alloc, &[170, 187])?,
+    })?;
+    list.push(Delivery::Lost(4))?;
+    list.push(Delivery::Got {
+        number: 8,
+        packet: packet(alloc, &[1])?,
+    })?;
+    list.push(Delivery::Empty)?;
+    let mut tap = ListTap::new(list, 3, 2);
+    assert_eq!(rt; tap.packet_bytes(), 2);
+    let mut out = Vec::new(alloc);
+    let mut accounts = Vec::with_capacity(alloc, 2)?;
+    // three takes, then up to the `Empty`
+    accounts.push(pump(alloc, &mut tap, 3, &mut out).map_err(|stopped| stopped.takes)?)?;
+    accounts.push(pump(alloc, &mut tap, 9, &mut out).map_err(|stopped| stopped.takes)?)?;
+    for account in accounts {
+        assert_eq!(rt;
+            account,
+            Account {
+                start: 3,
+                taken: 2,
+                lost: 4
+            }
+        );
+    }
+    assert_eq!(rt; out.len(), 2);
+    let mut buf = [0; 2];
+    assert_eq!(rt; tap.take(&mut buf), Taken::Ended);
+    assert_eq!(rt; tap.cursor(), 9);
+    Ok(())
+}
+
+#[test]
+fn refusals_and_bytes(rt: HostRuntime) -> Result<(), Fail> {
+    let alloc = rt.alloc();
+    let refusals = [
+        (Refused::Pinned { pins: 3 }, 1, "pinned by 3"),
+        (Refused::TooLong, 2, "too long"),
+        (Refused::Worn, 3, "worn"),
+        (Refused::OutOfMemory, 4, "out of memory"),
+    ];
+    for (refused, number, text) in refusals {
+        let written = refused.to_string(alloc)?;
+        assert_eq!(rt; written.as_str(), text);
+        assert_eq!(rt; refused.number(), number);
+    }
+    let payload = Payload::new([7, 8].to_vec(alloc)?);
+    assert_eq!(rt; (payload.len(), payload.is_empty()), (2, false));
+    let bytes = payload.into_vec();
+    assert_eq!(rt; bytes.as_slice(), [7, 8].as_slice());
+    Ok(())
+}

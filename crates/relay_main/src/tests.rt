@@ -1,0 +1,205 @@
+//! Worked exchanges, byte for byte.
+use crate::talk::{TalkEnd, run_talk, talk_end};
+use crate::words::{FixedWord, Words};
+use interleaved::{ListSink, ListSource, Sink, Source};
+use rtsp_message::Fault;
+use std::alloc::Global;
+use std::process::Abort;
+use std::test::Fail;
+
+const OPTIONS: &[u8] = b"OPTIONS * RTSP/1.0\r\nCSeq: 1\r\n\r\n";
+
+const OPTIONS_REPLY: &[u8] =
+    b"RTSP/1.0 200 OK\r\nCSeq: 1\r\nPublic: OPTIONS, DESCRIBE, ANNOUNCE, SETUP, PLAY, PAUSE, RECORD, TEARDOWN, GET_PARAMETER\r\n\r\n";
+
+/// What is written for this input, read at most so many bytes at a time, and how the talk ends.
+fn talk(
+    alloc: Global,
+    input: &[u8],
+    piece: usize,
+    fail_at: Option<usize>,
+    room: usize,
+) -> Result<(Vec<u8>, TalkEnd), Fail> {
+    let source = ListSource::new(Vec::from_slice(alloc, input)?, piece.max(1), fail_at);
+    let mut sink = ListSink::new(alloc, room)?;
+    let end = run_talk(alloc, source, &mut sink, &mut FixedWord(7));
+    Ok((sink.into_vec(), end))
+}
+
+/// The answer to an input, whatever the pieces are that it comes in.
+fn expect_answer(
+    rt: &impl Abort,
+    alloc: Global,
+    input: &[u8],
+    want: &[u8],
+    want_end: TalkEnd,
+) -> Result<(), Fail> {
+    for piece in [1, 2, 7, 100_000] {
+        let (out, end) = talk(alloc, input, piece, None, 1000)?;
+        assert_eq!(rt; out.as_slice(), want, "{piece}");
+        assert!(rt; end == want_end, "{piece}");
+    }
+    Ok(())
+}
+
+#[test]
+fn options_in_any_pieces(rt: HostRuntime) -> Result<(), Fail> {
+    for piece in 1..40 {
+        let (out, end) = talk(rt.alloc(), OPTIONS, piece, None, 1000)?;
+        assert_eq!(rt; out.as_slice(), OPTIONS_REPLY, "{piece}");
+        assert!(rt; end == TalkEnd::Done);
+    }
+    expect_answer(&rt, rt.alloc(), b"", b"", TalkEnd::Done)?;
+    expect_answer(&rt, rt.alloc(), &OPTIONS[..30], b"", TalkEnd::Done)
+}
+
+#[test]
+fn bare_lf_and_unknown_method(rt: HostRuntime) -> Result<(), Fail> {
+    let bare = b"OPTIONS * RTSP/1.0\ncseq:7\n\n";
+    let reply =
+        b"RTSP/1.0 200 OK\r\nCSeq: 7\r\nPublic: OPTIONS, DESCRIBE, ANNOUNCE, SETUP, PLAY, PAUSE, RECORD, TEARDOWN, GET_PARAMETER\r\n\r\n";
+    expect_answer(&rt, rt.alloc(), bare, reply, TalkEnd::Done)?;
+    let unknown = b"options * RTSP/1.0\ncseq:7\n\n";
+    expect_answer(
+        &rt,
+        rt.alloc(),
+        unknown,
+        b"RTSP/1.0 501 Not Implemented\r\nCSeq: 7\r\n\r\n",
+        TalkEnd::Done,
+    )?;
+    // A dollar sign is a byte of a method as long as frames are not read.
+    let dollar = b"$x * RTSP/1.0\r\nCSeq: 00003\r\n\r\n";
+    expect_answer(
+        &rt,
+        rt.alloc(),
+        dollar,
+        b"RTSP/1.0 501 Not Implemented\r\nCSeq: 3\r\n\r\n",
+        TalkEnd::Done,
+    )
+}
+
+#[test]
+fn bad_requests(rt: HostRuntime) -> Result<(), Fail> {
+    let plain = b"RTSP/1.0 400 Bad Request\r\n\r\n".as_slice();
+    expect_answer(
+        &rt,
+        rt.alloc(),
+        b"OPTIONS * RTSP/1.0\r\n\r\n",
+        plain,
+        TalkEnd::Done,
+    )?;
+    expect_answer(
+        &rt,
+        rt.alloc(),
+        b"OPTIONS * RTSP/1.0\r\nCSeq: 4294967296\r\n\r\n",
+        plain,
+        TalkEnd::Done,
+    )?;
+    expect_answer(
+        &rt,
+        rt.alloc(),
+        b"OPTIONS * RTSP/2.0\r\nCSeq: 9\r\n\r\n",
+        b"RTSP/1.0 505 RTSP Version Not Supported\r\nCSeq: 9\r\n\r\n",
+        TalkEnd::Done,
+    )?;
+    expect_answer(
+        &rt,
+        rt.alloc(),
+        b"HELLO\r\n",
+        plain,
+        TalkEnd::StreamFault(Fault::BadLine),
+    )
+}
+
+#[test]
+fn each_fault_behind_a_reply(rt: HostRuntime) -> Result<(), Fail> {
+    let alloc = rt.alloc();
+    let bad = b"RTSP/1.0 400 Bad Request\r\n\r\n".as_slice();
+    let long = b"RTSP/1.0 413 Request Entity Too Large\r\n\r\n".as_slice();
+    let many = Vec::from_elem(alloc, b'A', 8192)?;
+    let rows = [
+        (
+            b" OPTIONS * RTSP/1.0\r\n".as_slice(),
+            bad,
+            TalkEnd::StreamFault(Fault::BadLine),
+        ),
+        (
+            b"OPTIONS * RTSP/1.0\r\nCSeq : 1\r\n".as_slice(),
+            bad,
+            TalkEnd::StreamFault(Fault::BadHeader),
+        ),
+        (
+            b"OPTIONS * RTSP/1.0\r\ncontent-LENGTH: 0\r\n".as_slice(),
+            bad,
+            TalkEnd::StreamFault(Fault::BadLength),
+        ),
+        (
+            many.as_slice(),
+            long,
+            TalkEnd::StreamFault(Fault::HeadTooLong),
+        ),
+    ];
+    for (input, reply, end) in rows {
+        let mut whole = Vec::from_slice(alloc, OPTIONS)?;
+        whole.extend_from_slice(input)?;
+        let mut want = Vec::from_slice(alloc, OPTIONS_REPLY)?;
+        want.extend_from_slice(reply)?;
+        expect_answer(&rt, rt.alloc(), whole.as_slice(), want.as_slice(), end)?;
+    }
+    Ok(())
+}
+
+#[test]
+fn source_fails_at_each_place(rt: HostRuntime) -> Result<(), Fail> {
+    for place in 0..32 {
+        let (out, end) = talk(rt.alloc(), OPTIONS, 5, Some(place), 1000)?;
+        let want = if place < 31 {
+            b"".as_slice()
+        } else {
+            OPTIONS_REPLY
+        };
+        assert_eq!(rt; out.as_slice(), want, "{place}");
+        assert!(rt; end == TalkEnd::ReadFailed, "{place}");
+    }
+    Ok(())
+}
+
+#[test]
+fn sink_of_each_room(rt: HostRuntime) -> Result<(), Fail> {
+    for room in 0..OPTIONS_REPLY.len() {
+        let (out, end) = talk(rt.alloc(), OPTIONS, 100, None, room)?;
+        assert_eq!(rt; out.as_slice(), &OPTIONS_REPLY[..room], "{room}");
+        assert!(rt; end == TalkEnd::WriteFailed, "{room}");
+    }
+    let (out, end) = talk(rt.alloc(), OPTIONS, 100, None, OPTIONS_REPLY.len())?;
+    assert_eq!(rt; out.as_slice(), OPTIONS_REPLY);
+    assert!(rt; end == TalkEnd::Done);
+    Ok(())
+}
+
+#[test]
+fn ends_are_reported(rt: HostRuntime) -> Result<(), Fail> {
+    let rows = [
+        (TalkEnd::Done, 0, ""),
+        (
+            TalkEnd::StreamFault(Fault::BadLine),
+            1,
+            "relay: stream fault 1",
+        ),
+        (
+            TalkEnd::StreamFault(Fault::HeadTooLong),
+            1,
+            "relay: stream fault 4",
+        ),
+        (TalkEnd::ReadFailed, 1, "relay: read failed"),
+        (TalkEnd::WriteFailed, 1, "relay: write failed"),
+        (TalkEnd::OutOfMemory, 1, "relay: out of memory"),
+    ];
+    for (end, want, text) in rows {
+        let (status, line) = talk_end(rt.alloc(), &end)?;
+        assert_eq!(rt; status, want);
+        assert_eq!(rt; line.as_str(), text);
+    }
+    assert_eq!(rt; FixedWord(7).word(), 7);
+    Ok(())
+}
