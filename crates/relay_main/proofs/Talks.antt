@@ -1,22 +1,20 @@
 -- A talk so far, and how it ends.
-use Rattle.std.proofs.Common.{◌≡◌, ℕ, ◌+◌, ◌<◌, ◌≤◌, Bool, true, List, [], ◌∷◌, ◌++◌, ◌⊎◌, inl, inr, Option, None, Some, length, take, refl, sym, ap, subst, ◌∙◌, arith, append_assoc, append-nil, length-append}
-use Rattle.std.specs.Io.KnownBytes.{Consumes, Appends, IsAtEnd}
+use Rattle.std.proofs.Common.{◌≡◌, ℕ, ◌+◌, ◌<◌, ◌≤◌, Bool, true, List, [], ◌∷◌, ◌++◌, ◌⊎◌, inl, inr, Option, None, length, take, refl, sym, ap, subst, ◌∙◌, arith, append_assoc, append-nil, length-append}
+use Rattle.std.specs.Io.KnownBytes.{Appends, IsAtEnd}
 use Rattle.std.proofs.KnownBytes.{Appends-trans, Appends-nil}
 use Rattle.std.proofs.Math.Seq.{take-append-add}
 use Rattle.std.proofs.lemmas.List.{take-append-le}
 use Rattle.rtsp_message.specs.declared.fault.Fault.{Fault}
 use Rattle.rtsp_message.specs.declared.unit.Unit.{Unit as StreamUnit}
 use Rattle.rtsp_message.specs.declared.unit.Unit.TheVariants.{Message}
-use Rattle.rtsp_message.specs.declared.request.Request.{Request}
 use Rattle.rtsp_message.specs.Reply.{reply_text}
-use Rattle.rtsp_message.specs.Stream.{Ending, Waits, Fails, Reads, fault_of}
+use Rattle.rtsp_message.specs.Stream.{Ending, Waits, Fails, fault_of}
 use Rattle.rtsp_message.specs.Intakes.{IntakeState, HandsOut, IsDrained, fresh}
 use Rattle.rtsp_message.proofs.Compose.{nothing_reads}
 use Rattle.rtsp_message.proofs.HandingOut.{HandsOut-trans, holds_same}
-use Rattle.relay_main.specs.declared.talk.TalkEnd.{TalkEnd}
 use Rattle.relay_main.specs.declared.talk.TalkEnd.TheVariants as ends
 use Rattle.relay_main.specs.Decide.{reply_to}
-use Rattle.relay_main.specs.Talk.{IsAnswer, AreAnswers, closing_of, refusal, Talk, IsTalk, EndsSo, Talks}
+use Rattle.relay_main.specs.Talk.{AreAnswers, closing_of, refusal, Talk, IsTalk, Talks}
 
 pub AreAnswers-append : (us vs : List StreamUnit) (a b : List ℕ) → AreAnswers us a → AreAnswers vs b → AreAnswers (us ++ vs) (a ++ b)
 AreAnswers-append [] vs a b p q = subst (λ (l : List ℕ). AreAnswers vs (l ++ b)) (sym p) q

@@ -1,5 +1,5 @@
 -- The reply to a request (RFC 2326, 7.1.1, 10.1, 12.17).
-use Rattle.std.specs.Prelude.{◌≡◌, ℕ, not, if◌then◌else◌, List, [], Option, None, Some, codes}
+use Rattle.std.specs.Prelude.{ℕ, not, if◌then◌else◌, List, [], Option, None, Some, codes}
 use Rattle.std.specs.Str.{bytes_eq}
 use Rattle.rtsp_message.specs.declared.request.Request.{Request}
 use Rattle.rtsp_message.specs.declared.reply.Reply.{Reply}

@@ -1,12 +1,12 @@
 -- Reading header fields line by line.
-use Rattle.std.proofs.Common.{◌≡◌, ℕ, ◌+◌, ◌-◌, ◌<◌, ◌≤◌, Bool, false, List, [], ◌∷◌, ◌++◌, length, take, drop, refl, sym, ap, subst, ◌∙◌, arith, append_assoc, append-nil, length-append}
+use Rattle.std.proofs.Common.{◌≡◌, ℕ, ◌-◌, ◌<◌, false, List, [], ◌∷◌, ◌++◌, length, take, refl, sym, ap, subst, ◌∙◌, arith, append_assoc, append-nil, length-append}
 use Rattle.std.proofs.Math.Seq.{take-append_seam}
 use Rattle.std.proofs.lemmas.List.Concat.{flat_map-append}
 use Rattle.rtsp_message.specs.declared.headers.Header.{Header}
 use Rattle.rtsp_message.specs.declared.fault.Fault.{Fault}
 use Rattle.rtsp_message.specs.declared.head.HeaderBlock.TheVariants.{Ended}
-use Rattle.rtsp_message.specs.Lines.{IsHeaderLine, IsFirstLine, HasNoLf, ended, said}
-use Rattle.rtsp_message.specs.Heads.{joined, AreHeaders, IsGoodHeader, IsBadHeader, is_content_length, EndsHeaders, BreaksHeaders, LeavesHeaders}
+use Rattle.rtsp_message.specs.Lines.{IsHeaderLine, IsFirstLine, HasNoLf, ended}
+use Rattle.rtsp_message.specs.Heads.{joined, AreHeaders, IsGoodHeader, IsBadHeader, is_content_length, BreaksHeaders, LeavesHeaders}
 use Rattle.rtsp_message.specs.Fronts.{IsBlock}
 
 -- The text begins with these header fields, and then goes on with the rest.

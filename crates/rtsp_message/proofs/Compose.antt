@@ -9,8 +9,8 @@ use Rattle.rtsp_message.specs.declared.unit.Unit.{Unit as StreamUnit}
 use Rattle.rtsp_message.specs.declared.fault.Fault.{Fault}
 use Rattle.rtsp_message.specs.declared.fault.Fault.TheVariants.{BadLine, BadHeader, BadLength, HeadTooLong}
 use Rattle.rtsp_message.specs.Lines.{ended}
-use Rattle.rtsp_message.specs.Heads.{joined, BeginsWithNoPad, HasFault, HasBadRequestLine, HasRequestLine, BreaksHeaders, GoesOn}
-use Rattle.rtsp_message.specs.Stream.{Piece, bytes_of, units_of, Ending, Waits, Fails, EndsAs, Reads, ReadsOn, ReadsPieces}
+use Rattle.rtsp_message.specs.Heads.{joined, HasFault, HasBadRequestLine, HasRequestLine, BreaksHeaders, GoesOn}
+use Rattle.rtsp_message.specs.Stream.{bytes_of, units_of, Ending, Waits, Fails, EndsAs, Reads, ReadsOn, ReadsPieces}
 use Rattle.rtsp_message.proofs.Pieces.{bytes_of-append, units_of-append, ArePieces-append, empty_waits}
 
 -- the front of bytes with more behind them is their front, and some of what is behind

@@ -1,10 +1,9 @@
 -- A header line is cut into its name and value in one way only.
-use Rattle.std.proofs.Common.{◌≡◌, ℕ, ◌<◌, false, List, [], ◌∷◌, ◌++◌, length, reverse, refl, sym, ap, subst, ◌∙◌, arith, append_assoc, append-nil}
+use Rattle.std.proofs.Common.{◌≡◌, ℕ, List, [], ◌∷◌, ◌++◌, reverse, refl, sym, ap, subst, ◌∙◌}
 use Rattle.std.proofs.lemmas.List.{reverse-append, reverse-reverse}
 use Rattle.rtsp_message.specs.declared.headers.Header.{Header}
-use Rattle.rtsp_message.specs.declared.byte_class.ByteClass.{ByteClass}
-use Rattle.rtsp_message.specs.declared.byte_class.ByteClass.TheVariants.{Token, Blank, Value}
-use Rattle.rtsp_message.specs.Lines.{is_in, Each, BeginsOutside, IsHeaderLine, IsTrimOf, IsFrontRun}
+use Rattle.rtsp_message.specs.declared.byte_class.ByteClass.TheVariants.{Token, Blank}
+use Rattle.rtsp_message.specs.Lines.{Each, BeginsOutside, IsHeaderLine, IsTrimOf, IsFrontRun}
 use Rattle.rtsp_message.proofs.Runs.{false_is_true, same_run, Each-append, Each-left, Each-right, Each-reverse}
 use Rattle.rtsp_message.proofs.RequestLines.{same_cut}
 

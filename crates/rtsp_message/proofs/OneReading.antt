@@ -1,23 +1,22 @@
 -- A stream reads in one way.
-use Rattle.std.proofs.Common.{◌≡◌, ℕ, ◌+◌, ◌-◌, ◌<◌, ◌≤◌, Bool, true, false, eqb, List, [], ◌∷◌, ◌++◌, Option, length, take, drop, refl, sym, ap, subst, ◌∙◌, inl, inr, arith, append_assoc, length-append}
-use Rattle.std.proofs.lemmas.List.{take_all, length-take}
+use Rattle.std.proofs.Common.{◌≡◌, ℕ, ◌+◌, ◌-◌, ◌≤◌, Bool, true, false, List, [], ◌∷◌, ◌++◌, length, take, drop, refl, sym, ap, subst, ◌∙◌, inl, inr, arith, append_assoc, length-append}
+use Rattle.std.proofs.lemmas.List.{take_all}
 use Rattle.std.proofs.lemmas.Bool.Decides.{nat_tests, eqb_tells}
 use Rattle.std.proofs.Math.Seq.{take-append-add, take-append_seam, drop-append_seam}
 use Rattle.rtsp_message.specs.declared.TheConstants.{MAX_HEAD}
 use Rattle.rtsp_message.specs.declared.byte_class.ByteClass.TheVariants.{Token}
-use Rattle.rtsp_message.specs.declared.headers.Header.{Header}
 use Rattle.rtsp_message.specs.declared.request.Request.{Request}
 use Rattle.rtsp_message.specs.declared.unit.Unit.{Unit as StreamUnit}
 use Rattle.rtsp_message.specs.declared.unit.Unit.TheVariants.{Message}
 use Rattle.rtsp_message.specs.declared.fault.Fault.{Fault}
 use Rattle.rtsp_message.specs.declared.fault.Fault.TheVariants.{BadLine, BadHeader, BadLength, HeadTooLong}
 use Rattle.rtsp_message.specs.Headers.{cseq_of}
-use Rattle.rtsp_message.specs.Lines.{is_in, OneOrMore, IsRequestLine, ended, said}
-use Rattle.rtsp_message.specs.Heads.{is_pad, BeginsWithNoPad, joined, BreaksHeaders, LeavesHeaders, HasRequestLine, IsHead, HasFault, GoesOn, IsUnfinished}
+use Rattle.rtsp_message.specs.Lines.{is_in, OneOrMore, ended, said}
+use Rattle.rtsp_message.specs.Heads.{is_pad, BeginsWithNoPad, joined, BreaksHeaders, HasRequestLine, IsHead, HasFault, GoesOn, IsUnfinished}
 use Rattle.rtsp_message.specs.Stream.{Piece, Pad, Whole, ArePieces, bytes_of, units_of, Ending, Waits, Fails, EndsAs, Reads}
 use Rattle.rtsp_message.proofs.Runs.{false_is_true}
 use Rattle.rtsp_message.proofs.HeaderLines.{same_tail}
-use Rattle.rtsp_message.proofs.Windows.{same_head, Stop, Blank, Broken, Open, StopsAs, FieldsThen, Window, NoLine, NoRequest, After, WindowIs, same_window}
+use Rattle.rtsp_message.proofs.Windows.{same_head, Blank, Broken, Open, FieldsThen, Window, NoLine, NoRequest, After, WindowIs, same_window}
 
 -- a whole head stands there
 abbrev is_whole : Window → Bool

@@ -1,13 +1,13 @@
 -- Pieces of a stream, one after another.
-use Rattle.std.proofs.Common.{◌≡◌, ℕ, ◌+◌, ◌-◌, ◌<◌, ◌≤◌, Bool, true, false, List, [], ◌∷◌, ◌++◌, length, take, drop, get_or, refl, sym, ap, subst, ◌∙◌, inl, arith, append_assoc, append-nil, length-append, length-drop, drop-cons, lit<, take-append-drop, Option, None, Some}
+use Rattle.std.proofs.Common.{◌≡◌, ℕ, ◌+◌, ◌<◌, ◌≤◌, true, false, List, [], ◌∷◌, ◌++◌, length, take, drop, get_or, refl, sym, ap, subst, ◌∙◌, inl, arith, append_assoc, append-nil, length-append, length-drop, drop-cons, lit<, take-append-drop, Option, None, Some}
 use Rattle.std.proofs.Math.Seq.{take-add}
 use Rattle.rtsp_message.specs.declared.request.Request.{Request}
 use Rattle.rtsp_message.specs.declared.fault.Fault.{Fault}
 use Rattle.rtsp_message.specs.declared.unit.Unit.{Unit as StreamUnit}
 use Rattle.rtsp_message.specs.declared.unit.Unit.TheVariants.{Message}
 use Rattle.rtsp_message.specs.Lines.{ended}
-use Rattle.rtsp_message.specs.Heads.{is_pad, BeginsWithNoPad, IsHead, HasFault, IsUnfinished}
-use Rattle.rtsp_message.specs.Stream.{Piece, Pad, Whole, IsPiece, ArePieces, bytes_of, units_of, Ending, EndsAs, Waits, Fails, Reads, ReadsOn, ReadsSoFar, IsScan}
+use Rattle.rtsp_message.specs.Heads.{is_pad, BeginsWithNoPad, IsHead}
+use Rattle.rtsp_message.specs.Stream.{Piece, Pad, Whole, IsPiece, ArePieces, bytes_of, units_of, Ending, EndsAs, Waits, Reads, ReadsOn, ReadsSoFar, IsScan}
 use Rattle.rtsp_message.specs.Readers.{ending_from}
 
 pub bytes_of-append : (ps qs : List Piece) → bytes_of (ps ++ qs) ≡ bytes_of ps ++ bytes_of qs

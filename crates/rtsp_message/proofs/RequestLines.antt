@@ -1,7 +1,7 @@
 -- A request line is cut into its parts in one way only.
 use Rattle.std.proofs.Common.{◌≡◌, ℕ, List, ◌++◌, refl, sym, ◌∙◌}
-use Rattle.rtsp_message.specs.declared.byte_class.ByteClass.TheVariants.{Token, Visible, Space, Blank, Value}
-use Rattle.rtsp_message.specs.Lines.{IsRequestLine, IsFrontRun, BeginsOutside}
+use Rattle.rtsp_message.specs.declared.byte_class.ByteClass.TheVariants.{Token, Visible, Space, Blank}
+use Rattle.rtsp_message.specs.Lines.{IsRequestLine, IsFrontRun}
 use Rattle.rtsp_message.proofs.Runs.{outside, Each-outside, cut_same, space_in_no_token, space_not_visible, visible_no_space, blank_not_visible}
 
 module _ {line method uri version : List ℕ} (q : IsRequestLine line method uri version) where

@@ -1,15 +1,10 @@
 -- What stands in the first bytes of a stream is one thing only.
-use Rattle.std.proofs.Common.{◌≡◌, ℕ, zero, suc, ◌+◌, ◌-◌, ◌<◌, ◌≤◌, Bool, true, false, List, [], ◌∷◌, ◌++◌, length, take, drop, eqb, refl, sym, ap, subst, ◌∙◌, inl, inr, arith, append_assoc, append-nil, length-append}
-use Rattle.std.proofs.lemmas.List.{take_all, length-take, take-append-le}
-use Rattle.std.proofs.Math.Seq.{take-append-add, take-append_seam}
-use Rattle.rtsp_message.specs.declared.TheConstants.{MAX_HEAD}
+use Rattle.std.proofs.Common.{◌≡◌, ℕ, false, List, [], ◌∷◌, ◌++◌, length, eqb, refl, sym, ap, subst, ◌∙◌, arith, append_assoc, length-append}
 use Rattle.rtsp_message.specs.declared.headers.Header.{Header}
-use Rattle.rtsp_message.specs.declared.request.Request.{Request}
 use Rattle.rtsp_message.specs.declared.fault.Fault.{Fault}
 use Rattle.rtsp_message.specs.declared.fault.Fault.TheVariants.{BadLine, BadHeader, BadLength, HeadTooLong}
-use Rattle.rtsp_message.specs.Headers.{cseq_of}
 use Rattle.rtsp_message.specs.Lines.{IsRequestLine, IsHeaderLine, HasNoLf, ended, said}
-use Rattle.rtsp_message.specs.Heads.{joined, AreHeaders, IsGoodHeader, IsBadHeader, is_content_length, EndsHeaders, BreaksHeaders, LeavesHeaders, HasRequestLine, IsHead, HasFault, GoesOn, IsUnfinished}
+use Rattle.rtsp_message.specs.Heads.{joined, AreHeaders, IsGoodHeader, IsBadHeader, is_content_length}
 use Rattle.rtsp_message.proofs.Runs.{false_is_true}
 use Rattle.rtsp_message.proofs.RequestLines.{same_request_line}
 use Rattle.rtsp_message.proofs.HeaderLines.{same_header_line, same_tail}

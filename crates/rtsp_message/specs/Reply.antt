@@ -1,5 +1,5 @@
 -- The text of a reply (RFC 2326, 7 and 12). Only these fields are written, each where it is given, in this order.
-use Rattle.std.specs.Prelude.{◌≡◌, ℕ, List, [], ◌∷◌, ◌++◌, Option, None, Some, length, codes, decimal}
+use Rattle.std.specs.Prelude.{ℕ, List, [], ◌∷◌, ◌++◌, Option, None, Some, length, codes, decimal}
 use Rattle.rtsp_message.specs.declared.status.Status.{Status}
 use Rattle.rtsp_message.specs.declared.status.Status.TheVariants.{Ok, BadRequest, Forbidden, NotFound, NotAcceptable, RequestEntityTooLarge, UnsupportedMediaType, ParameterNotUnderstood, NotEnoughBandwidth, SessionNotFound, MethodNotValidInThisState, AggregateOperationNotAllowed, OnlyAggregateOperationAllowed, UnsupportedTransport, NotImplemented, ServiceUnavailable, VersionNotSupported, OptionNotSupported}
 use Rattle.rtsp_message.specs.declared.reply.Reply.{Reply}

@@ -1,8 +1,7 @@
-use Rattle.std.proofs.Common.{◌≡◌, List, [], ◌∷◌, ℕ, None, inl, inr, refl, sym, ap, ◌∙◌}
+use Rattle.std.proofs.Common.{◌≡◌, [], ◌∷◌, None, inl, inr, refl, sym, ap, ◌∙◌}
 use Rattle.rtsp_message.specs.declared.status.Status.{Status}
 use Rattle.rtsp_message.specs.declared.status.Status.TheVariants.{ServiceUnavailable}
 use Rattle.rtsp_message.specs.Reply.{plain_text}
-use Rattle.rtsp_message.specs.Stream.{Fails}
 use Rattle.relay_main.specs.Talk.{closing_of}
 use Rattle.relay_main.proofs.Talks.{answered, ends_done, ends_read_failed, ends_with_fault, ends_out_of_memory, ends_cut_closing, ends_cut_answer}
 use Rattle.relay_main.proofs.talk.run_talk.Goals as goal

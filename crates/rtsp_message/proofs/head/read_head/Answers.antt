@@ -1,5 +1,4 @@
-use Rattle.std.proofs.Common.{inl, inr, sym, subst}
-use Rattle.rtsp_message.specs.Lines.{HasNoLf}
+use Rattle.std.proofs.Common.{inl, inr, subst}
 use Rattle.rtsp_message.specs.Heads.{GoesOn, LeavesHeaders, HasBadRequestLine}
 use Rattle.rtsp_message.specs.Fronts.{IsBlock}
 use Rattle.rtsp_message.proofs.HeadParts.{bad_first, good_first, bad_after, whole_head}

@@ -1,4 +1,4 @@
-use Rattle.std.proofs.Common.{subst, Ok, Err, MatchResult, false, ◌≡◌, length, sym}
+use Rattle.std.proofs.Common.{subst, MatchResult, false, ◌≡◌, length, sym}
 use Rattle.std.proofs.lemmas.Bool.{eqb-true}
 use Rattle.std.proofs.lemmas.List.{nil_from_length}
 use Rattle.rtsp_message.specs.Lines.{IsHeaderLine}

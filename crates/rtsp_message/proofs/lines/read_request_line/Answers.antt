@@ -1,4 +1,4 @@
-use Rattle.std.proofs.Common.{refl, sym}
+use Rattle.std.proofs.Common.{refl}
 use Rattle.rtsp_message.specs.declared.byte_class.ByteClass.TheVariants.{Token, Visible, Space, Blank}
 use Rattle.rtsp_message.proofs.Runs.{no_run, not_each}
 use Rattle.rtsp_message.proofs.RequestLines.{after_method, after_first_gap, after_uri, after_second_gap, method_cut, first_gap_cut, uri_cut, second_gap_cut, version_cut, same_cut}

@@ -1,4 +1,4 @@
-use Rattle.std.proofs.Common.{◌≡◌, List, ℕ, ◌++◌, take, drop, reverse, sym, ap, subst, ◌∙◌, take-append-drop}
+use Rattle.std.proofs.Common.{List, ℕ, ◌++◌, take, drop, reverse, sym, ap, subst, ◌∙◌, take-append-drop}
 use Rattle.rtsp_message.specs.declared.byte_class.ByteClass.TheVariants.{Blank}
 use Rattle.rtsp_message.specs.Lines.{BeginsOutside}
 use Rattle.rtsp_message.proofs.Runs.{BeginsOutside-drop, BeginsOutside-take, ends_outside}

@@ -1,4 +1,4 @@
-use Rattle.std.proofs.Common.{◌≡◌, ◌+◌, ◌≤◌, min, true, take}
+use Rattle.std.proofs.Common.{◌≡◌, ◌+◌, min, true, take}
 use Rattle.std.specs.List.{list_all}
 use Rattle.std.specs.Char.{is_ascii_digit}
 use Rattle.rtsp_message.specs.Headers.{decimal_value}

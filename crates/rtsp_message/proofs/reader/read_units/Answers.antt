@@ -1,7 +1,6 @@
-use Rattle.std.proofs.Common.{◌≡◌, ◌≤◌, ◌-◌, List, ℕ, length, take, drop, sym, subst, arith, length-drop}
+use Rattle.std.proofs.Common.{◌≡◌, ◌-◌, List, ℕ, length, take, drop, sym, subst, arith, length-drop}
 use Rattle.std.proofs.lemmas.List.{take_all}
 use Rattle.rtsp_message.specs.Fronts.{IsFront}
-use Rattle.rtsp_message.specs.Stream.{ReadsSoFar}
 use Rattle.rtsp_message.proofs.Pieces.{pad_more, unit_more}
 use Rattle.rtsp_message.proofs.reader.read_units.Goals as goal
 
