@@ -1,0 +1,14 @@
+pub mod Places
+pub mod Seats
+pub mod Loads
+pub mod Pinning
+pub mod Reading
+pub mod Begins
+pub mod Writing
+pub mod Bounds
+pub mod Keeping
+pub mod Opening
+pub mod Growing
+pub mod Acting
+pub mod Running
+pub mod NoChoice

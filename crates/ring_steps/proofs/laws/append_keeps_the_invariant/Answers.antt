@@ -1,0 +1,5 @@
+use Rattle.ring_steps.proofs.Writing.{append_keeps}
+use Rattle.ring_steps.proofs.laws.append_keeps_the_invariant.Goals as goal
+
+pub returns : goal.returns
+returns c = append_keeps

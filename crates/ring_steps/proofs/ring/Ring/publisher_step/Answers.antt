@@ -1,0 +1,6 @@
+use Rattle.ring_steps.proofs.Keeping.{kept_either, publisher_step_keeps}
+use Rattle.ring_steps.proofs.ring.Ring.publisher_step.Goals as goal
+
+pub returns-clause-invariant : goal.returns-clause-invariant
+returns-clause-invariant c =
+    kept_either _ _ _ _ c.requires.invariant (λ t step. publisher_step_keeps _ _ _ step c.requires.invariant) c.publisher_goes_on.ensures.step c.publisher_goes_on.ensures.err

@@ -1,0 +1,6 @@
+pub mod Ring
+pub mod Step
+pub mod Slots
+pub mod Bounds
+pub mod Runs
+pub mod Answers

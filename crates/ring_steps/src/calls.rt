@@ -1,0 +1,51 @@
+use super::buffers::Bytes;
+use super::words::{Head, Word};
+use cursor::Answer;
+
+/// Who makes a step.
+#[derive(Clone, Copy, Debug, PartialEq, Eq)]
+pub enum Actor {
+    /// The publisher.
+    P,
+    Seat(u16),
+}
+
+/// A call of the publisher.
+#[derive(Debug, Drop)]
+pub enum PublisherCall {
+    Publish(Bytes),
+    Close,
+}
+
+/// A call of a seat.
+#[derive(Clone, Copy, Debug, PartialEq, Eq)]
+pub enum SeatCall {
+    Attach,
+    Take,
+    Detach,
+}
+
+/// What one step did, with the word that it saw before.
+#[derive(Clone, Copy, Debug, PartialEq, Eq)]
+pub enum Observed {
+    Load(Head),
+    Pin(Word),
+    Unpin(Word),
+    Begin(Word),
+    Finish(Word),
+    /// The length cell, written or read.
+    Length(usize),
+    /// One byte, written or read.
+    Byte(u8),
+    /// The head was stored with this length.
+    Append(u64),
+    /// The head was stored with its closed bit.
+    Close,
+}
+
+/// What one step did, and the answer of the call that it ended, if it ended one.
+#[derive(Debug, Drop)]
+pub struct Stepped {
+    pub saw: Observed,
+    pub answer: Option<Answer>,
+}

@@ -1,0 +1,69 @@
+//! Writing a description for players (RFC 2326, C.1.1).
+ghost use Rattle.std.specs.Prelude.{◌≡◌, ◌++◌, ◌∷◌, [], IfOk, OnOk};
+ghost use Rattle.std.specs.List.{flat_map};
+ghost use Rattle.sdp.specs.Fields.{control_prefix};
+ghost use Rattle.sdp.specs.Written.{written, without_controls, track_control, track_lines, lines_from, description_text};
+
+use crate::description::Description;
+use crate::field::control_value;
+use crate::text::Text;
+use crate::track::Track;
+use itoa::Buffer;
+use std::alloc::{AllocError, Global};
+
+/// Appends lines, but for control attributes, each with CRLF.
+fn write_lines(out: &mut Vec<u8>, lines: &[Text]) -> Result<(), AllocError>
+    ensures { OnOk result (out.new.items ≡ out.old.items ++ flat_map written (without_controls lines.now)) }
+{
+    for line in lines {
+        if control_value(line.as_slice()).is_none() {
+            out.extend_from_slice(line.as_slice())?;
+            out.extend_from_slice(b"\r\n")?;
+        }
+    }
+    Ok(())
+}
+
+/// Appends a control attribute.
+fn write_control(out: &mut Vec<u8>, control: &[u8]) -> Result<(), AllocError>
+    ensures { OnOk result (out.new.items ≡ out.old.items ++ written (control_prefix ++ control.now)) }
+{
+    out.extend_from_slice(b"a=control:")?;
+    out.extend_from_slice(control)?;
+    out.extend_from_slice(b"\r\n")
+}
+
+/// Appends a track, with the control of its number.
+fn write_track(out: &mut Vec<u8>, number: usize, track: &Track) -> Result<(), AllocError>
+    ensures { OnOk result (out.new.items ≡ out.old.items ++ flat_map written (track_lines number track.now)) }
+{
+    let mut digits = Buffer::new();
+    write_lines(out, track.lines.as_slice())?;
+    out.extend_from_slice(b"a=control:trackID=")?;
+    out.extend_from_slice(digits.format(number).as_bytes())?;
+    out.extend_from_slice(b"\r\n")?;
+    Ok(())
+}
+
+/// Appends tracks, numbered from 0.
+fn write_tracks(out: &mut Vec<u8>, tracks: &[Track]) -> Result<(), AllocError>
+    ensures { OnOk result (out.new.items ≡ out.old.items ++ flat_map written (lines_from 0 tracks.now)) }
+{
+    for (number, track) in tracks.iter().enumerate() {
+        write_track(out, number, track)?;
+    }
+    Ok(())
+}
+
+/// The text of a description for players: its lines without the announced controls, with the control `*` for
+/// the session and `trackID=k` for the track of number k, counted from 0 (RFC 2326, C.1.1). Each line
+/// ends with CRLF.
+pub fn write(alloc: Global, description: &Description) -> Result<Vec<u8>, AllocError>
+    ensures { IfOk result (λ out. out.items ≡ description_text description.now) }
+{
+    let mut out = Vec::new(alloc);
+    write_lines(&mut out, description.session())?;
+    write_control(&mut out, b"*")?;
+    write_tracks(&mut out, description.tracks())?;
+    Ok(out)
+}
