@@ -1,5 +1,5 @@
 -- When a line is wrong behind good ones, and by which fault.
-use Rattle.std.specs.Prelude.{ℕ, nat_lt, if◌then◌else◌, List, [], ◌∷◌, Option, None, Some, length}
+use Rattle.std.specs.Prelude.{ℕ, nat_lt, if◌then◌else◌, List, [], ◌∷◌, Option, None, Some, length, codes}
 use Rattle.std.specs.Str.{bytes_eq}
 use Rattle.sdp.specs.declared.TheConstants.{MAX_TRACKS}
 use Rattle.sdp.specs.declared.fault.SdpFault.{SdpFault}
@@ -19,6 +19,16 @@ fault_number BadMedia = 4
 fault_number NoMedia = 5
 fault_number TooManyTracks = 6
 fault_number OutOfMemory = 7
+
+-- the words that a fault prints
+abbrev pub fault_text : SdpFault → List ℕ
+fault_text NoVersion = codes "no version line"
+fault_text BadLine = codes "bad line"
+fault_text UnknownLetter = codes "unknown letter"
+fault_text BadMedia = codes "bad media line"
+fault_text NoMedia = codes "no media line"
+fault_text TooManyTracks = codes "too many tracks"
+fault_text OutOfMemory = codes "out of memory"
 
 -- the first line tells the version (RFC 4566, 5.1)
 abbrev pub first_line_fault : List ℕ → Option SdpFault

@@ -44,17 +44,21 @@ impl SdpFault {
 }
 
 impl fmt::Display for SdpFault {
+    ghost use Rattle.std.specs.Prelude.{Some};
+    ghost use Rattle.sdp.specs.Faults.{fault_text};
+
+    ghost output = { λ fault. Some (fault_text fault) };
+
     fn fmt<W: fmt::Write>(&self, f: &mut fmt::Formatter<W>) -> fmt::Result {
-        let text = match self {
-            SdpFault::NoVersion => "no version line",
-            SdpFault::BadLine => "bad line",
-            SdpFault::UnknownLetter => "unknown letter",
-            SdpFault::BadMedia => "bad media line",
-            SdpFault::NoMedia => "no media line",
-            SdpFault::TooManyTracks => "too many tracks",
-            SdpFault::OutOfMemory => "out of memory",
-        };
-        write!(f, "{text}")
+        match self {
+            SdpFault::NoVersion => write!(f, "no version line"),
+            SdpFault::BadLine => write!(f, "bad line"),
+            SdpFault::UnknownLetter => write!(f, "unknown letter"),
+            SdpFault::BadMedia => write!(f, "bad media line"),
+            SdpFault::NoMedia => write!(f, "no media line"),
+            SdpFault::TooManyTracks => write!(f, "too many tracks"),
+            SdpFault::OutOfMemory => write!(f, "out of memory"),
+        }
     }
 }
 

@@ -1,4 +1,4 @@
-use crate::{Description, SdpFault, read, write};
+use crate::{Description, SdpFault, Text, TextList, one_reading, read, write, written_reads};
 use std::alloc::Global;
 use std::process::Abort;
 use std::test::Fail;
@@ -187,5 +187,24 @@ fn tells_its_faults(rt: HostRuntime) -> Result<(), Fail> {
         let printed = format!(in rt.alloc(); "{fault}")?;
         assert_eq!(rt; printed.as_str(), text);
     }
+    Ok(())
+}
+
+#[test]
+fn gives_texts_back(rt: HostRuntime) -> Result<(), Fail> {
+    one_reading();
+    written_reads();
+    let text = Text::new(b"96".to_vec(rt.alloc())?);
+    let mut texts = Vec::new(rt.alloc());
+    texts.push(text)?;
+    let mut list = TextList::from_vec(texts);
+    list.push(Text::from_slice(rt.alloc(), b"97")?)?;
+    assert_eq!(rt; list.as_slice().len(), 2);
+    let mut kept = list.into_vec();
+    match kept.pop() {
+        Some(last) => assert_eq!(rt; last.into_vec().as_slice(), b"97".as_slice()),
+        None => assert!(rt; false, "no text"),
+    }
+    assert_eq!(rt; kept.len(), 1);
     Ok(())
 }
