@@ -1,5 +1,7 @@
 -- Blocks of binary data between the messages of a connection (RFC 2326, 10.12).
-use Rattle.std.specs.Prelude.{◌≡◌, ℕ, ◌+◌, ◌*◌, ◌/◌, ◌%◌, ◌<◌, ◌≤◌, List, [], ◌∷◌, ◌++◌, length, take, slice_index}
+use Rattle.std.specs.Prelude.{◌≡◌, ℕ, ◌+◌, ◌*◌, ◌/◌, ◌%◌, ◌<◌, ◌≤◌, List, [], ◌∷◌, ◌++◌, length, take, slice_index, codes}
+use Rattle.interleaved.specs.declared.frame.PutFault.{PutFault}
+use Rattle.interleaved.specs.declared.frame.PutFault.TheVariants.{TooLong, OutOfMemory}
 use Rattle.interleaved.specs.declared.frame.FrameAt.{FrameAt}
 use Rattle.interleaved.specs.declared.frame.FrameAt.TheVariants.{Whole, NeedMore}
 
@@ -28,6 +30,11 @@ head_of channel len = 0x24 ∷ channel ∷ len / 256 ∷ len % 256 ∷ []
 -- the bytes of a frame
 abbrev pub frame_of : ℕ → List ℕ → List ℕ
 frame_of channel payload = head_of channel (length payload) ++ payload
+
+-- what is said of a refused frame
+abbrev pub put_fault_text : PutFault → List ℕ
+put_fault_text TooLong = codes "the data is too long for a frame"
+put_fault_text OutOfMemory = codes "out of memory"
 
 -- no frame begins another: frames at the front of one list of bytes are the same frame
 abbrev pub NoFrameBeginsAnother : Type 0

@@ -54,6 +54,11 @@ impl PutFault {
 }
 
 impl fmt::Display for PutFault {
+    ghost use Rattle.std.specs.Prelude.{Some};
+    ghost use Rattle.interleaved.specs.Frame.{put_fault_text};
+
+    ghost output = { λ fault. Some (put_fault_text fault) };
+
     fn fmt<W: fmt::Write>(&self, f: &mut fmt::Formatter<W>) -> fmt::Result {
         match self {
             PutFault::TooLong => write!(f, "the data is too long for a frame"),
@@ -99,10 +104,12 @@ pub fn put_frame(out: &mut Vec<u8>, channel: u8, payload: &[u8]) -> Result<(), P
     Ok(())
 }
 
-/// What stands at the front of the bytes, at a place where a frame may begin.
+/// What stands at the front of the bytes, at a place where a frame may begin. Bytes that need more are fewer than the
+/// 65,539 that a frame may have.
 pub fn frame_at(bytes: &[u8]) -> FrameAt
     requires { MayBeginFrame bytes.now }
-    ensures { StandsAt bytes.now result }
+    ensures stands { StandsAt bytes.now result }
+    ensures short { result ≡ FrameAt.NeedMore → length bytes.now < 65_539 }
 {
     match bytes {
         [_, _, high, low, ..] => {

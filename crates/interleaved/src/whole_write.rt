@@ -14,6 +14,10 @@ pub struct WriteCut {
 }
 
 impl fmt::Display for WriteCut {
+    ghost use Rattle.std.specs.Prelude.{◌++◌, Some, codes, decimal};
+
+    ghost output = { λ cut. Some (codes "the sink failed after " ++ (decimal cut.written ++ codes " bytes")) };
+
     fn fmt<W: fmt::Write>(&self, f: &mut fmt::Formatter<W>) -> fmt::Result {
         write!(f, "the sink failed after {} bytes", self.written)
     }

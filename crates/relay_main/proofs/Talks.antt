@@ -6,7 +6,7 @@ use Rattle.std.proofs.Math.Seq.{take-append-add}
 use Rattle.std.proofs.lemmas.List.{take-append-le}
 use Rattle.rtsp_message.specs.declared.fault.Fault.{Fault}
 use Rattle.rtsp_message.specs.declared.unit.Unit.{Unit as StreamUnit}
-use Rattle.rtsp_message.specs.declared.unit.Unit.TheVariants.{Message}
+use Rattle.rtsp_message.specs.declared.unit.Unit.TheVariants.{Message, Frame}
 use Rattle.rtsp_message.specs.Reply.{reply_text}
 use Rattle.rtsp_message.specs.Stream.{Ending, Waits, Fails, fault_of}
 use Rattle.rtsp_message.specs.Intakes.{IntakeState, HandsOut, IsDrained, fresh}
@@ -20,11 +20,13 @@ pub AreAnswers-append : (us vs : List StreamUnit) (a b : List ℕ) → AreAnswer
 AreAnswers-append [] vs a b p q = subst (λ (l : List ℕ). AreAnswers vs (l ++ b)) (sym p) q
 AreAnswers-append (Message r ∷ us) vs a b (first, others, is, rest, all) q =
     (first, others ++ b, is, AreAnswers-append us vs others b rest q, ap (λ (l : List ℕ). l ++ b) all ∙ append_assoc first others b)
+AreAnswers-append (Frame frame ∷ us) vs a b p q = AreAnswers-append us vs a b p q
 
 -- each message has an answer
 pub all_answers : (us : List StreamUnit) → (text : List ℕ) × AreAnswers us text
 all_answers [] = ([], refl)
 all_answers (Message r ∷ us) = let rest = all_answers us in (reply_text (reply_to r) ++ rest.0, (reply_text (reply_to r), rest.0, inl refl, rest.1, refl))
+all_answers (Frame frame ∷ us) = all_answers us
 
 module _ {R W : Type 0} (incoming : R → Option (List ℕ)) (written : W → Option (List ℕ)) where
   -- These units were handed out, and their answers were written.

@@ -5,9 +5,9 @@ use Rattle.rtsp_message.specs.declared.request.Request.{Request}
 use Rattle.rtsp_message.specs.declared.status.Status.{Status}
 use Rattle.rtsp_message.specs.declared.status.Status.TheVariants as statuses
 use Rattle.rtsp_message.specs.declared.fault.Fault.{Fault}
-use Rattle.rtsp_message.specs.declared.fault.Fault.TheVariants.{BadLine, BadHeader, BadLength, HeadTooLong}
+use Rattle.rtsp_message.specs.declared.fault.Fault.TheVariants.{BadLine, BadHeader, BadLength, HeadTooLong, BodyTooLong}
 use Rattle.rtsp_message.specs.declared.unit.Unit.{Unit as StreamUnit}
-use Rattle.rtsp_message.specs.declared.unit.Unit.TheVariants.{Message}
+use Rattle.rtsp_message.specs.declared.unit.Unit.TheVariants.{Message, Frame}
 use Rattle.rtsp_message.specs.Stream.{Ending, Waits, Fails, Reads, fault_of, fault_number}
 use Rattle.rtsp_message.specs.Reply.{reply_text, plain_text}
 use Rattle.relay_main.specs.Decide.{reply_to}
@@ -18,10 +18,11 @@ use Rattle.relay_main.specs.declared.talk.TalkEnd.TheVariants as ends
 abbrev pub IsAnswer : Request → List ℕ → Type 0
 IsAnswer request text = (text ≡ reply_text (reply_to request)) ⊎ (text ≡ plain_text statuses.ServiceUnavailable request.cseq)
 
--- the answers to the messages among the units, in order
+-- the answers to the messages among the units, in order: frames have none
 abbrev pub AreAnswers : List StreamUnit → List ℕ → Type 0
 AreAnswers [] text = text ≡ []
 AreAnswers (Message request ∷ units) text = (first : List ℕ) × (others : List ℕ) × IsAnswer request first × AreAnswers units others × (text ≡ first ++ others)
+AreAnswers (Frame frame ∷ units) text = AreAnswers units text
 
 -- what is said of a fault
 abbrev pub status_of : Fault → Status
@@ -29,6 +30,7 @@ status_of BadLine = statuses.BadRequest
 status_of BadHeader = statuses.BadRequest
 status_of BadLength = statuses.BadRequest
 status_of HeadTooLong = statuses.RequestEntityTooLarge
+status_of BodyTooLong = statuses.RequestEntityTooLarge
 
 -- the fixed text behind the answers, where the stream has a fault
 abbrev pub closing_of : Ending → List ℕ

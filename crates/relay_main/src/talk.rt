@@ -61,7 +61,7 @@ pub fn run_talk<R: Source + Drop, W: Sink, V: Words>(
     }
 }
 
-/// Answers a message.
+/// Answers a message. A frame is dropped, since nothing is published yet.
 fn answer_unit<W: Sink>(alloc: Global, writer: &mut W, unit: &Unit) -> Result<(), WriteCut>
     ensures ok { OnOk result ((text : _) × AreAnswers (unit.now ∷ []) text × Appends (W.written writer.old) (W.written writer.new) text) }
     ensures cut { IfErr result (λ cut. (text : _) × AreAnswers (unit.now ∷ []) text × (cut.written < length text) × Appends (W.written writer.old) (W.written writer.new) (take cut.written text)) }
@@ -69,6 +69,7 @@ fn answer_unit<W: Sink>(alloc: Global, writer: &mut W, unit: &Unit) -> Result<()
 {
     match unit {
         Unit::Message(request) => answer(alloc, writer, request),
+        Unit::Frame(_) => Ok(()),
     }
 }
 
@@ -110,7 +111,7 @@ fn status_of(fault: Fault) -> Status
 {
     match fault {
         Fault::BadLine | Fault::BadHeader | Fault::BadLength => Status::BadRequest,
-        Fault::HeadTooLong => Status::RequestEntityTooLarge,
+        Fault::HeadTooLong | Fault::BodyTooLong => Status::RequestEntityTooLarge,
     }
 }
 

@@ -67,12 +67,11 @@ fn bare_lf_and_unknown_method(rt: HostRuntime) -> Result<(), Fail> {
         b"RTSP/1.0 501 Not Implemented\r\nCSeq: 7\r\n\r\n",
         TalkEnd::Done,
     )?;
-    // A dollar sign is a byte of a method as long as frames are not read.
-    let dollar = b"$x * RTSP/1.0\r\nCSeq: 00003\r\n\r\n";
+    let zeros = b"x * RTSP/1.0\r\nCSeq: 00003\r\n\r\n";
     expect_answer(
         &rt,
         rt.alloc(),
-        dollar,
+        zeros,
         b"RTSP/1.0 501 Not Implemented\r\nCSeq: 3\r\n\r\n",
         TalkEnd::Done,
     )
@@ -129,7 +128,7 @@ fn each_fault_behind_a_reply(rt: HostRuntime) -> Result<(), Fail> {
             TalkEnd::StreamFault(Fault::BadHeader),
         ),
         (
-            b"OPTIONS * RTSP/1.0\r\ncontent-LENGTH: 0\r\n".as_slice(),
+            b"OPTIONS * RTSP/1.0\r\ncontent-LENGTH: x\r\n".as_slice(),
             bad,
             TalkEnd::StreamFault(Fault::BadLength),
         ),
@@ -137,6 +136,11 @@ fn each_fault_behind_a_reply(rt: HostRuntime) -> Result<(), Fail> {
             many.as_slice(),
             long,
             TalkEnd::StreamFault(Fault::HeadTooLong),
+        ),
+        (
+            b"OPTIONS * RTSP/1.0\r\nContent-Length: 65537\r\n",
+            long,
+            TalkEnd::StreamFault(Fault::BodyTooLong),
         ),
     ];
     for (input, reply, end) in rows {
@@ -147,6 +151,23 @@ fn each_fault_behind_a_reply(rt: HostRuntime) -> Result<(), Fail> {
         expect_answer(&rt, rt.alloc(), whole.as_slice(), want.as_slice(), end)?;
     }
     Ok(())
+}
+
+#[test]
+fn frames_are_dropped(rt: HostRuntime) -> Result<(), Fail> {
+    let alloc = rt.alloc();
+    let mut input = Vec::from_slice(alloc, b"$\x00\x00\x00\r\n")?;
+    input.extend_from_slice(OPTIONS)?;
+    // The data of a frame is no message, whatever it looks like.
+    input.extend_from_slice(b"$\x01\x00\x1f")?;
+    input.extend_from_slice(OPTIONS)?;
+    input.extend_from_slice(b"OPTIONS * RTSP/1.0\r\nContent-Length: 2\r\nCSeq: 1\r\n\r\n$\n")?;
+    let mut want = Vec::from_slice(alloc, OPTIONS_REPLY)?;
+    want.extend_from_slice(OPTIONS_REPLY)?;
+    expect_answer(&rt, alloc, input.as_slice(), want.as_slice(), TalkEnd::Done)?;
+    // The beginning of one more.
+    input.extend_from_slice(b"$\x00\x00\x01")?;
+    expect_answer(&rt, alloc, input.as_slice(), want.as_slice(), TalkEnd::Done)
 }
 
 #[test]
@@ -190,6 +211,11 @@ fn ends_are_reported(rt: HostRuntime) -> Result<(), Fail> {
             TalkEnd::StreamFault(Fault::HeadTooLong),
             1,
             "relay: stream fault 4",
+        ),
+        (
+            TalkEnd::StreamFault(Fault::BodyTooLong),
+            1,
+            "relay: stream fault 5",
         ),
         (TalkEnd::ReadFailed, 1, "relay: read failed"),
         (TalkEnd::WriteFailed, 1, "relay: write failed"),

@@ -7,7 +7,7 @@ use Rattle.std.proofs.Math.Seq.{take-append-add}
 use Rattle.rtsp_message.specs.declared.TheConstants.{MAX_HEAD}
 use Rattle.rtsp_message.specs.declared.unit.Unit.{Unit as StreamUnit}
 use Rattle.rtsp_message.specs.declared.fault.Fault.{Fault}
-use Rattle.rtsp_message.specs.declared.fault.Fault.TheVariants.{BadLine, BadHeader, BadLength, HeadTooLong}
+use Rattle.rtsp_message.specs.declared.fault.Fault.TheVariants.{BadLine, BadHeader, BadLength, HeadTooLong, BodyTooLong}
 use Rattle.rtsp_message.specs.Lines.{ended}
 use Rattle.rtsp_message.specs.Heads.{joined, HasFault, HasBadRequestLine, HasRequestLine, BreaksHeaders, GoesOn}
 use Rattle.rtsp_message.specs.Stream.{bytes_of, units_of, Ending, Waits, Fails, EndsAs, Reads, ReadsOn, ReadsPieces}
@@ -64,19 +64,11 @@ fault_grows : (bytes more : List ℕ) (fault : Fault) → HasFault bytes fault �
 fault_grows bytes more BadLine p = subst HasBadRequestLine (sym (take-append MAX_HEAD bytes more)) (bad_first_grows (take MAX_HEAD bytes) (take (MAX_HEAD - length bytes) more) p)
 fault_grows bytes more BadHeader p = subst (λ (w : List ℕ). HasRequestLine w (λ rest. BreaksHeaders rest BadHeader)) (sym (take-append MAX_HEAD bytes more)) (bad_header_grows (take MAX_HEAD bytes) (take (MAX_HEAD - length bytes) more) BadHeader p)
 fault_grows bytes more BadLength p = subst (λ (w : List ℕ). HasRequestLine w (λ rest. BreaksHeaders rest BadLength)) (sym (take-append MAX_HEAD bytes more)) (bad_header_grows (take MAX_HEAD bytes) (take (MAX_HEAD - length bytes) more) BadLength p)
+fault_grows bytes more BodyTooLong p = subst (λ (w : List ℕ). HasRequestLine w (λ rest. BreaksHeaders rest BodyTooLong)) (sym (take-append MAX_HEAD bytes more)) (bad_header_grows (take MAX_HEAD bytes) (take (MAX_HEAD - length bytes) more) BodyTooLong p)
 fault_grows bytes more HeadTooLong p = (subst GoesOn (sym (take-append-le MAX_HEAD bytes more p.1)) p.0, omega (arith, p.1, length-append bytes more))
 
-nothing_has_no_fault : (fault : Fault) → HasFault [] fault → ⊥
-nothing_has_no_fault BadLine p = no_ended p.line p.more p.whole
-  where
-    no_ended : (line more : List ℕ) → [] ≡ ended line ++ more → ⊥
-    no_ended line more e = omega (arith, ap length e, length-append (ended line) more, length-append line (10 ∷ []))
-nothing_has_no_fault BadHeader p = omega (arith, ap length p.whole, length-append (ended p.first) p.rest, length-append p.first (10 ∷ []))
-nothing_has_no_fault BadLength p = omega (arith, ap length p.whole, length-append (ended p.first) p.rest, length-append p.first (10 ∷ []))
-nothing_has_no_fault HeadTooLong p = omega (arith, p.1)
-
 fails_on : (bytes more : List ℕ) (fault : Fault) → EndsAs bytes (Fails fault) → EndsAs (bytes ++ more) (Fails fault)
-fails_on [] more fault p = absurd (nothing_has_no_fault fault p.1)
+fails_on [] more fault p = absurd p.0
 fails_on (b ∷ bytes) more fault p = (p.0, fault_grows (b ∷ bytes) more fault p.1)
 
 pub readings_compose : (stream more : List ℕ) (us vs : List StreamUnit) (d e : Ending) → Reads stream us d → ReadsOn d more vs e → Reads (stream ++ more) (us ++ vs) e

@@ -1,12 +1,11 @@
 -- What an intake hands out, one step after another.
 use Rattle.std.proofs.Common.{◌≡◌, ℕ, List, [], ◌∷◌, ◌++◌, Option, ◌⊎◌, inl, inr, ◌+◌, ◌≤◌, length, refl, sym, ap, subst, ◌∙◌, arith, append_assoc, append-nil, length-append}
-use Rattle.rtsp_message.specs.declared.unit.Unit.TheVariants.{Message}
-use Rattle.rtsp_message.proofs.Pieces.{head_is_some}
+use Rattle.rtsp_message.proofs.Pieces.{unit_is_some}
 use Rattle.std.specs.Io.KnownBytes.{Consumes}
 use Rattle.std.proofs.KnownBytes.{Consumes-trans, Consumes-nil}
 use Rattle.rtsp_message.specs.declared.unit.Unit.{Unit as StreamUnit}
-use Rattle.rtsp_message.specs.Stream.{Piece, Pad, Whole, ArePieces, bytes_of, units_of, Ending, Waits, Fails, EndsAs, Reads, ReadsOn}
-use Rattle.rtsp_message.specs.Intakes.{IntakeState, HandsOut, waiting_len}
+use Rattle.rtsp_message.specs.Stream.{Piece, Pad, Whole, ArePieces, bytes_of, units_of, Ending, Waits, Fails, EndsAs, Reads, ReadsOn, waiting_len}
+use Rattle.rtsp_message.specs.Intakes.{IntakeState, HandsOut}
 use Rattle.rtsp_message.proofs.Compose.{readings_compose}
 
 -- reading on twice is reading on once
@@ -17,7 +16,7 @@ reads_twice (Fails fault) m e a b us vs p q =
     (ap (λ (l : List StreamUnit). l ++ vs) p.0 ∙ on.0, on.1)
 
 rest_reads : (rest bytes : List ℕ) → EndsAs bytes (Waits rest) → Reads (rest ++ []) [] (Waits rest)
-rest_reads rest bytes p = record { pieces = []; rest = rest; whole = append-nil rest; are_pieces = tt; units_are = refl; ends = (refl, p.1, p.2) }
+rest_reads rest bytes p = record { pieces = []; rest = rest; whole = append-nil rest; are_pieces = tt; units_are = refl; ends = subst (λ (l : List ℕ). EndsAs l (Waits rest)) p.0 p }
 
 -- where a reading has come to, reading nothing more gives nothing
 pub settled : (d m : Ending) (a : List ℕ) (us : List StreamUnit) → ReadsOn d a us m → ReadsOn m [] [] m
@@ -29,7 +28,7 @@ settled (Fails fault) (Fails other) a us p = (refl, refl)
 units_take_bytes : (pieces : List Piece) → ArePieces pieces → length (units_of pieces) ≤ length (bytes_of pieces)
 units_take_bytes [] p = omega arith
 units_take_bytes (Pad byte ∷ pieces) p = omega (arith, units_take_bytes pieces p.1)
-units_take_bytes (Whole bytes (Message request) ∷ pieces) p = omega (arith, units_take_bytes pieces p.1, head_is_some p.0, length-append bytes (bytes_of pieces))
+units_take_bytes (Whole bytes content ∷ pieces) p = omega (arith, units_take_bytes pieces p.1, unit_is_some bytes content p.0, length-append bytes (bytes_of pieces))
 
 reading_takes_bytes : (stream : List ℕ) (us : List StreamUnit) (m : Ending) → Reads stream us m → length us + waiting_len m ≤ length stream
 reading_takes_bytes stream us (Waits rest) p =

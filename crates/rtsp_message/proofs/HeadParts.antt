@@ -6,12 +6,12 @@ use Rattle.rtsp_message.specs.declared.TheConstants.{MAX_HEAD}
 use Rattle.rtsp_message.specs.declared.headers.Header.{Header}
 use Rattle.rtsp_message.specs.declared.request.Request.{Request}
 use Rattle.rtsp_message.specs.declared.fault.Fault.{Fault}
-use Rattle.rtsp_message.specs.declared.fault.Fault.TheVariants.{BadLine, BadHeader, BadLength, HeadTooLong}
-use Rattle.rtsp_message.specs.declared.head.Front.TheVariants.{Message}
+use Rattle.rtsp_message.specs.declared.fault.Fault.TheVariants.{BadLine, BadHeader, BadLength, HeadTooLong, BodyTooLong}
+use Rattle.rtsp_message.specs.declared.head.HeadFront.TheVariants.{Whole}
 use Rattle.rtsp_message.specs.Headers.{cseq_of}
 use Rattle.rtsp_message.specs.Lines.{IsRequestLine, IsFirstLine, ended}
 use Rattle.rtsp_message.specs.Heads.{HasBadRequestLine, HasRequestLine, HasFault, EndsHeaders, BreaksHeaders, IsHead}
-use Rattle.rtsp_message.specs.Fronts.{IsFront}
+use Rattle.rtsp_message.specs.Fronts.{IsHeadFront}
 
 pub bad_first : {bytes line rest : List ℕ} → IsFirstLine bytes line rest → ((method uri version : List ℕ) → IsRequestLine line method uri version → ⊥) → HasBadRequestLine bytes
 bad_first {rest = rest} p bad = record {
@@ -40,6 +40,7 @@ pub bad_after : (bytes : List ℕ) {window line rest method uri version : List �
 bad_after bytes BadLine w p q bad = absurd bad.bad
 bad_after bytes BadHeader w p q bad = subst (λ (b : List ℕ). HasRequestLine b (λ rest. BreaksHeaders rest BadHeader)) w (good_first (λ rest. BreaksHeaders rest BadHeader) p q bad)
 bad_after bytes BadLength w p q bad = subst (λ (b : List ℕ). HasRequestLine b (λ rest. BreaksHeaders rest BadLength)) w (good_first (λ rest. BreaksHeaders rest BadLength) p q bad)
+bad_after bytes BodyTooLong w p q bad = subst (λ (b : List ℕ). HasRequestLine b (λ rest. BreaksHeaders rest BodyTooLong)) w (good_first (λ rest. BreaksHeaders rest BodyTooLong) p q bad)
 bad_after bytes HeadTooLong w p q bad = absurd bad.bad
 
 -- The request is that of these parts.
@@ -51,7 +52,7 @@ pub record Holds (request : Request) (m u v : List ℕ) (hs : List Header) : Typ
   pub headers : request.headers ≡ hs
 
 pub whole_head : (bytes : List ℕ) {window line rest m u v : List ℕ} {headers : List Header} {request : Request} (len : ℕ) → window ≡ take MAX_HEAD bytes → IsFirstLine window line rest → IsRequestLine line m u v
-    → (len ≤ length rest) × EndsHeaders (take len rest) headers → Holds request m u v headers → IsFront bytes (Message request (length window - length rest + len))
+    → (len ≤ length rest) × EndsHeaders (take len rest) headers → Holds request m u v headers → IsHeadFront bytes (Whole request (length window - length rest + len))
 whole_head bytes {window} {line} {rest} {m} {u} {v} {headers} {request} len w p q block h =
     let first = ended p.line in
     let sizes : length window ≡ length first + length rest = ap length p.whole ∙ length-append first rest in
@@ -70,4 +71,4 @@ whole_head bytes {window} {line} {rest} {m} {u} {v} {headers} {request} len w p 
       cseq = h.cseq ∙ ap cseq_of (sym h.headers);
       short = omega (arith, length-take (length first + len) bytes);
     } in
-    subst (λ (n : ℕ). IsFront bytes (Message request n)) (sym count) (fits, head)
+    subst (λ (n : ℕ). IsHeadFront bytes (Whole request n)) (sym count) (fits, head)

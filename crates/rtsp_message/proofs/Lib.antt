@@ -6,7 +6,11 @@ pub mod Blocks
 pub mod HeadParts
 pub mod Pieces
 pub mod Windows
+pub mod OneHead
+pub mod OneUnit
 pub mod OneReading
+pub mod Undecided
+pub mod Fronts
 pub mod Compose
 pub mod HandingOut
 pub mod Fetching

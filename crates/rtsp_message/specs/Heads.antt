@@ -1,56 +1,50 @@
 -- The head of a message, and what may stand in its place (RFC 2326, 4 and 6).
-use Rattle.std.specs.Prelude.{◌≡◌, ℕ, ◌<◌, ◌≤◌, Bool, true, false, ◌||◌, ◌==◌, List, [], ◌∷◌, ◌++◌, ◌⊎◌, length, take, codes}
+use Rattle.std.specs.Prelude.{◌≡◌, ℕ, ◌<◌, ◌≤◌, List, [], ◌∷◌, ◌++◌, ◌⊎◌, None, Some, length, take}
 use Rattle.std.specs.List.{flat_map}
-use Rattle.std.specs.Str.{str_eq_ignore_ascii_case}
 use Rattle.rtsp_message.specs.declared.TheConstants.{MAX_HEAD}
 use Rattle.rtsp_message.specs.declared.headers.Header.{Header}
 use Rattle.rtsp_message.specs.declared.request.Request.{Request}
 use Rattle.rtsp_message.specs.declared.fault.Fault.{Fault}
-use Rattle.rtsp_message.specs.declared.fault.Fault.TheVariants.{BadLine, BadHeader, BadLength, HeadTooLong}
+use Rattle.rtsp_message.specs.declared.fault.Fault.TheVariants.{BadLine, BadHeader, BadLength, HeadTooLong, BodyTooLong}
 use Rattle.rtsp_message.specs.Lines.{IsRequestLine, IsHeaderLine, HasNoLf, ended, said}
 use Rattle.rtsp_message.specs.Headers.{cseq_of}
-
--- a CR or an LF, which may stand between messages
-abbrev pub is_pad : ℕ → Bool
-is_pad b = b == 13 || b == 10
-
-abbrev pub BeginsWithNoPad : List ℕ → Type 0
-BeginsWithNoPad [] = Unit {0}
-BeginsWithNoPad (b ∷ bs) = is_pad b ≡ false
+use Rattle.rtsp_message.specs.Lengths.{field_fault}
 
 -- lines one after another, each with its LF
 abbrev pub joined : List (List ℕ) → List ℕ
 joined lines = flat_map ended lines
 
-abbrev pub is_content_length : List ℕ → Bool
-is_content_length name = str_eq_ignore_ascii_case name (codes "Content-Length")
-
--- A header line that a head may have. A Content-Length field is refused as long as bodies are not read.
-pub record IsGoodHeader (line : List ℕ) (header : Header) : Type 0 where
+-- A header line that a head may have behind these header fields.
+pub record IsGoodHeader (before : List Header) (line : List ℕ) (header : Header) : Type 0 where
   pub unbroken : HasNoLf line
   pub field : IsHeaderLine (said line) header
-  pub allowed : is_content_length header.name ≡ false
+  pub allowed : field_fault before header ≡ None
 
--- the lines are these header fields, in order
-abbrev pub AreHeaders : List (List ℕ) → List Header → Type 0
-AreHeaders [] [] = Unit {0}
-AreHeaders [] (header ∷ headers) = ⊥
-AreHeaders (line ∷ lines) [] = ⊥
-AreHeaders (line ∷ lines) (header ∷ headers) = IsGoodHeader line header × AreHeaders lines headers
+-- behind the fields before, the lines are these header fields, in order
+abbrev pub AreHeaders : (before : List Header) → List (List ℕ) → List Header → Type 0
+AreHeaders before [] [] = Unit {0}
+AreHeaders before [] (header ∷ headers) = ⊥
+AreHeaders before (line ∷ lines) [] = ⊥
+AreHeaders before (line ∷ lines) (header ∷ headers) = IsGoodHeader before line header × AreHeaders (before ++ header ∷ []) lines headers
 
--- what is wrong with a line that stands where a header line is due
-abbrev pub IsBadHeader : List ℕ → Fault → Type 0
-IsBadHeader text BadHeader = (0 < length text) × ((header : Header) → IsHeaderLine text header → ⊥)
-IsBadHeader text BadLength = (header : Header) × IsHeaderLine text header × (is_content_length header.name ≡ true)
-IsBadHeader text BadLine = ⊥
-IsBadHeader text HeadTooLong = ⊥
+-- a header line with this fault in its field
+abbrev pub HasBadField : (before : List Header) → List ℕ → Fault → Type 0
+HasBadField before text fault = (header : Header) × IsHeaderLine text header × (field_fault before header ≡ Some fault)
+
+-- what is wrong with a line that stands where a header line is due, behind these header fields
+abbrev pub IsBadHeader : (before : List Header) → List ℕ → Fault → Type 0
+IsBadHeader before text BadHeader = (0 < length text) × ((header : Header) → IsHeaderLine text header → ⊥)
+IsBadHeader before text BadLength = HasBadField before text BadLength
+IsBadHeader before text BodyTooLong = HasBadField before text BodyTooLong
+IsBadHeader before text BadLine = ⊥
+IsBadHeader before text HeadTooLong = ⊥
 
 -- What follows a request line: these header fields, and an empty line.
 pub record EndsHeaders (text : List ℕ) (headers : List Header) : Type 0 where
   pub lines : List (List ℕ)
   pub last : List ℕ
   pub whole : text ≡ joined lines ++ ended last
-  pub are_headers : AreHeaders lines headers
+  pub are_headers : AreHeaders [] lines headers
   pub last_unbroken : HasNoLf last
   pub last_empty : said last ≡ []
 
@@ -61,9 +55,9 @@ pub record BreaksHeaders (text : List ℕ) (fault : Fault) : Type 0 where
   pub line : List ℕ
   pub more : List ℕ
   pub whole : text ≡ joined lines ++ (ended line ++ more)
-  pub are_headers : AreHeaders lines headers
+  pub are_headers : AreHeaders [] lines headers
   pub unbroken : HasNoLf line
-  pub bad : IsBadHeader (said line) fault
+  pub bad : IsBadHeader headers (said line) fault
 
 -- What follows a request line: header fields, and a line that hasn't come whole.
 pub record LeavesHeaders (text : List ℕ) : Type 0 where
@@ -71,10 +65,10 @@ pub record LeavesHeaders (text : List ℕ) : Type 0 where
   pub headers : List Header
   pub tail : List ℕ
   pub whole : text ≡ joined lines ++ tail
-  pub are_headers : AreHeaders lines headers
+  pub are_headers : AreHeaders [] lines headers
   pub unfinished : HasNoLf tail
 
--- The head of a message: a request line, header lines, and an empty line (RFC 2326, 6).
+-- The head of a message: a request line, header lines, and an empty line (RFC 2326, 6). It says nothing of the body.
 pub record IsHead (bytes : List ℕ) (request : Request) : Type 0 where
   pub first : List ℕ
   pub rest : List ℕ
@@ -114,6 +108,7 @@ abbrev pub HasFault : List ℕ → Fault → Type 0
 HasFault bytes BadLine = HasBadRequestLine (take MAX_HEAD bytes)
 HasFault bytes BadHeader = HasRequestLine (take MAX_HEAD bytes) (λ rest. BreaksHeaders rest BadHeader)
 HasFault bytes BadLength = HasRequestLine (take MAX_HEAD bytes) (λ rest. BreaksHeaders rest BadLength)
+HasFault bytes BodyTooLong = HasRequestLine (take MAX_HEAD bytes) (λ rest. BreaksHeaders rest BodyTooLong)
 HasFault bytes HeadTooLong = GoesOn (take MAX_HEAD bytes) × (MAX_HEAD ≤ length bytes)
 
 -- a head that may still go on

@@ -4,7 +4,7 @@ use Rattle.std.specs.Io.KnownBytes.{Consumes, IsAtEnd}
 use Rattle.rtsp_message.specs.declared.unit.Unit.{Unit as StreamUnit}
 use Rattle.rtsp_message.specs.declared.intake.Next.{Next}
 use Rattle.rtsp_message.specs.declared.intake.Next.TheVariants as answers
-use Rattle.rtsp_message.specs.Stream.{Ending, Waits, Fails, ReadsOn, fault_of}
+use Rattle.rtsp_message.specs.Stream.{Ending, Waits, Fails, ReadsOn, fault_of, waiting_len}
 
 -- An intake: its source, the units that are read and not handed out, where the reading stands,
 -- the bytes that the source gave and the reader has not taken, and whether the source gave all.
@@ -37,11 +37,6 @@ pub record HandsOut {S : Type 0} (incoming : S → Option (List ℕ)) (old new :
   pub kept : old.held ++ read ≡ taken ++ new.held
   pub reads : ReadsOn old.reading taken found new.reading
   pub order : old.queue ++ found ≡ units ++ new.queue
-
--- how many bytes wait for more
-abbrev pub waiting_len : Ending → ℕ
-waiting_len (Waits rest) = length rest
-waiting_len (Fails fault) = 0
 
 -- At least as many bytes and units as an intake may still hand out: each unit takes bytes.
 abbrev pub weight : {S : Type 0} → (S → ℕ) → IntakeState S → ℕ

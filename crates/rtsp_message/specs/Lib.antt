@@ -1,8 +1,9 @@
 pub mod Lines
 pub mod Headers
+pub mod Lengths
 pub mod Heads
-pub mod Fronts
 pub mod Stream
+pub mod Fronts
 pub mod Readers
 pub mod Reply
 pub mod Intakes

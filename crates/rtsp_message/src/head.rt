@@ -1,27 +1,28 @@
 //! The head of a message, read from the front of a stream.
-ghost use Rattle.std.specs.Prelude.{◌≡◌, ◌<◌, false, length, take, IfOk, MatchResult};
+ghost use Rattle.std.specs.Prelude.{◌≡◌, ◌<◌, None, length, take, IfOk, MatchResult};
 ghost use Rattle.rtsp_message.specs.declared.headers.Header.{Header};
 ghost use Rattle.rtsp_message.specs.Lines.{IsRequestLine, IsHeaderLine};
-ghost use Rattle.rtsp_message.specs.Heads.{GoesOn, IsBadHeader, is_content_length, HasRequestLine};
+ghost use Rattle.rtsp_message.specs.Heads.{GoesOn, IsBadHeader, HasRequestLine};
 ghost use Rattle.rtsp_message.specs.Headers.{cseq_of};
-ghost use Rattle.rtsp_message.specs.Fronts.{IsFront, IsBlock};
+ghost use Rattle.rtsp_message.specs.Lengths.{field_fault, length_fault as fault_in_length};
+ghost use Rattle.rtsp_message.specs.Fronts.{IsHeadFront, IsBlock};
 
-use crate::MAX_HEAD;
 use crate::fault::Fault;
 use crate::headers::{Header, Headers, is_same_name};
 use crate::lines::{RequestLine, first_line, read_header_line, read_request_line};
-use crate::numbers::read_number;
+use crate::numbers::{is_numeral, read_number};
 use crate::request::Request;
 use crate::text::Text;
+use crate::{MAX_BODY, MAX_HEAD};
 use std::alloc::{AllocError, Global};
 
-/// What stands at the front of a stream, where a message may begin.
+/// What stands at the front of a stream, where a message begins.
 #[derive(Drop)]
-pub enum Front {
-    /// A message, of `len` bytes.
-    Message { request: Request, len: usize },
+pub enum HeadFront {
+    /// A head of `len` bytes, as a request that has no body yet.
+    Whole { request: Request, len: usize },
     Bad(Fault),
-    /// The beginning of a message, at most.
+    /// The beginning of a head, at most.
     Unfinished,
 }
 
@@ -35,23 +36,23 @@ pub enum HeaderBlock {
 }
 
 /// Reads the head at the front of the bytes (RFC 2326, 6). It looks at no more than the first `MAX_HEAD` bytes.
-pub fn read_head(alloc: Global, bytes: &[u8]) -> Result<Front, AllocError>
-    ensures { IfOk result (IsFront bytes.now) }
+pub fn read_head(alloc: Global, bytes: &[u8]) -> Result<HeadFront, AllocError>
+    ensures { IfOk result (IsHeadFront bytes.now) }
 {
     let window = head_window(bytes);
     let Some((line, rest)) = first_line(window) else {
         return Ok(unfinished(bytes));
     };
     let Some(start) = read_request_line(line) else {
-        return Ok(Front::Bad(Fault::BadLine));
+        return Ok(HeadFront::Bad(Fault::BadLine));
     };
     match read_headers(alloc, rest)? {
         HeaderBlock::Ended { headers, len } => {
             let len = window.len() - rest.len() + len;
             let request = new_request(alloc, start, headers)?;
-            Ok(Front::Message { request, len })
+            Ok(HeadFront::Whole { request, len })
         }
-        HeaderBlock::Bad(fault) => Ok(Front::Bad(fault)),
+        HeaderBlock::Bad(fault) => Ok(HeadFront::Bad(fault)),
         HeaderBlock::Unfinished => Ok(unfinished(bytes)),
     }
 }
@@ -68,15 +69,15 @@ fn head_window(bytes: &[u8]) -> &[u8]
 }
 
 /// A head that goes on: more of it may come, unless it is too long already.
-fn unfinished(bytes: &[u8]) -> Front
+fn unfinished(bytes: &[u8]) -> HeadFront
     requires { GoesOn (take MAX_HEAD bytes.now) }
-    ensures { IsFront bytes.now result }
+    ensures { IsHeadFront bytes.now result }
 {
     let is_long = bytes.len() >= MAX_HEAD;
     if is_long {
-        Front::Bad(Fault::HeadTooLong)
+        HeadFront::Bad(Fault::HeadTooLong)
     } else {
-        Front::Unfinished
+        HeadFront::Unfinished
     }
 }
 
@@ -91,7 +92,7 @@ fn read_headers(alloc: Global, text: &[u8]) -> Result<HeaderBlock, AllocError>
             let len = text.len() - after.len();
             return Ok(HeaderBlock::Ended { headers, len });
         }
-        match read_header(alloc, line)? {
+        match read_header(alloc, &headers, line)? {
             Ok(header) => headers.push(header)?,
             Err(fault) => return Ok(HeaderBlock::Bad(fault)),
         }
@@ -100,20 +101,42 @@ fn read_headers(alloc: Global, text: &[u8]) -> Result<HeaderBlock, AllocError>
     Ok(HeaderBlock::Unfinished)
 }
 
-/// Reads the header field of a line that isn't empty, or says what is wrong with it.
-fn read_header(alloc: Global, line: &[u8]) -> Result<Result<Header, Fault>, AllocError>
+/// Reads the header field of a line that isn't empty, or says what is wrong with it behind the fields before.
+fn read_header(
+    alloc: Global,
+    before: &Headers,
+    line: &[u8],
+) -> Result<Result<Header, Fault>, AllocError>
     requires { 0 < length line.now }
-    ensures { IfOk result (λ read. MatchResult read (λ header. IsHeaderLine line.now header × (is_content_length header.name ≡ false)) (IsBadHeader line.now)) }
+    ensures { IfOk result (λ read. MatchResult read (λ header. IsHeaderLine line.now header × (field_fault before.now header ≡ None)) (IsBadHeader before.now line.now)) }
 {
     let Some(parts) = read_header_line(line) else {
         return Ok(Err(Fault::BadHeader));
     };
     if is_same_name(parts.name, b"Content-Length") {
-        return Ok(Err(Fault::BadLength));
+        if let Some(fault) = length_fault(before.announced(), parts.value) {
+            return Ok(Err(fault));
+        }
     }
     let name = Text::from_slice(alloc, parts.name)?;
     let value = Text::from_slice(alloc, parts.value)?;
     Ok(Ok(Header { name, value }))
+}
+
+/// What is wrong with the value of a Content-Length field, where a field before announced this length.
+fn length_fault(before: Option<u32>, value: &[u8]) -> Option<Fault>
+    ensures { result ≡ fault_in_length before value.now }
+{
+    if !is_numeral(value) {
+        return Some(Fault::BadLength);
+    }
+    let Some(len) = read_number(value, MAX_BODY as u32) else {
+        return Some(Fault::BodyTooLong);
+    };
+    match before {
+        Some(announced) if announced != len => Some(Fault::BadLength),
+        _ => None,
+    }
 }
 
 fn new_request(
@@ -137,6 +160,7 @@ fn new_request(
         version,
         cseq,
         headers,
+        body: Text::new(Vec::new(alloc)),
     })
 }
 

@@ -3,6 +3,8 @@ ghost use Rattle.std.specs.Prelude.{◌≡◌, ◌++◌, ◌∷◌, [], OnOk, On
 ghost use Rattle.std.specs.Option.{option_copied};
 ghost use Rattle.std.specs.Str.{str_eq_ignore_ascii_case};
 
+use crate::MAX_BODY;
+use crate::numbers::read_number;
 use crate::text::Text;
 use std::alloc::{AllocError, Global};
 use std::marker::Model;
@@ -31,6 +33,7 @@ impl Model for Headers {
 
 impl Headers {
     ghost use Rattle.rtsp_message.specs.Headers.{value_of};
+    ghost use Rattle.rtsp_message.specs.Lengths.{announced, body_len};
 
     pub fn new(alloc: Global) -> Headers
         ensures { result ≡ [] }
@@ -66,6 +69,22 @@ impl Headers {
     {
         self.fields.push(header)?;
         Ok(())
+    }
+
+    /// The length of the body that the first Content-Length field announces (RFC 2326, 12.14). `None` where there is
+    /// none, or its value is no number up to `MAX_BODY`.
+    pub(crate) fn announced(&self) -> Option<u32>
+        ensures { result ≡ announced self.now }
+    {
+        let value = self.value(b"Content-Length")?;
+        read_number(value.as_slice(), MAX_BODY as u32)
+    }
+
+    /// How many bytes the body has (RFC 2326, 4.4).
+    pub(crate) fn body_len(&self) -> usize
+        ensures { result ≡ body_len self.now }
+    {
+        self.announced().unwrap_or(0) as usize
     }
 
     /// The value of the first field of that name, whatever the case of its ASCII letters.

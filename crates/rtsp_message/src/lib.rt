@@ -1,9 +1,10 @@
-//! Messages of RTSP 1.0 (RFC 2326, sections 4 to 7): requests from a stream of bytes, in whatever pieces it comes,
-//! and the text of replies.
+//! Messages of RTSP 1.0 (RFC 2326, sections 4 to 7): requests and frames from a stream of bytes, in whatever pieces it
+//! comes, and the text of replies.
 #![tactic(auto)]
 
 mod byte_class;
 mod fault;
+mod front;
 mod head;
 mod headers;
 mod intake;
@@ -15,6 +16,8 @@ mod reader;
 mod reply;
 mod request;
 mod status;
+#[cfg(test)]
+mod stream_tests;
 #[cfg(test)]
 mod tests;
 mod text;
@@ -34,3 +37,6 @@ pub use unit::Unit;
 
 /// The most bytes that a head may have, its empty line included.
 pub const MAX_HEAD: usize = 8192;
+
+/// The most bytes that a body may have.
+pub const MAX_BODY: usize = 65_536;

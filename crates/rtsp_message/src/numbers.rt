@@ -1,6 +1,21 @@
 //! Decimal numbers in header fields.
 ghost use Rattle.std.specs.Prelude.{◌≡◌};
-ghost use Rattle.rtsp_message.specs.Headers.{number_up_to};
+ghost use Rattle.std.specs.List.{list_all};
+ghost use Rattle.std.specs.Char.{is_ascii_digit};
+ghost use Rattle.rtsp_message.specs.Headers.{number_up_to, is_numeral as is_numeral_text};
+
+/// Whether a text is one or more decimal digits.
+pub fn is_numeral(text: &[u8]) -> bool
+    ensures { result ≡ is_numeral_text text.now }
+{
+    !text.is_empty() && is_all_digits(text)
+}
+
+fn is_all_digits(text: &[u8]) -> bool
+    ensures { result ≡ list_all is_ascii_digit text.now }
+{
+    text.iter().all(|byte| byte.is_ascii_digit())
+}
 
 /// The number that a text of decimal digits gives. `None` for another text, an empty one, or a number over the limit.
 pub fn read_number(text: &[u8], limit: u32) -> Option<u32>

@@ -1,10 +1,10 @@
 //! A stream read in the pieces that it comes in.
-ghost use Rattle.std.specs.Prelude.{◌≡◌, ◌++◌, OnErr, IfOk, OnOk, [], length, drop, ◌≤◌};
-ghost use Rattle.rtsp_message.specs.Heads.{is_pad as is_pad_byte};
-ghost use Rattle.rtsp_message.specs.Stream.{Waits, Fails, ReadsOn, fault_of, ReadsSoFar, IsScan};
+ghost use Rattle.std.specs.Prelude.{◌≡◌, ◌++◌, ◌+◌, ◌<◌, OnErr, IfOk, []};
+ghost use Rattle.rtsp_message.specs.declared.TheConstants.{MAX_HEAD, MAX_BODY};
+ghost use Rattle.rtsp_message.specs.Stream.{Waits, ReadsOn, fault_of, waiting_len, is_pad as is_pad_byte, IsScan};
 
 use crate::fault::Fault;
-use crate::head::{Front, read_head};
+use crate::front::{Front, read_front};
 use crate::unit::Unit;
 use bytes::BytesMut;
 use std::alloc::{AllocError, Global};
@@ -19,9 +19,10 @@ pub struct Fed {
     pub fault: Option<Fault>,
 }
 
-/// Reads the units of a stream, in whatever pieces its bytes come (RFC 2326, 4 and 6).
+/// Reads the units of a stream, in whatever pieces its bytes come (RFC 2326, 4, 6 and 10.12).
 ///
-/// It keeps the bytes that wait for more, fewer than `MAX_HEAD` of them. Once there was a fault it keeps that alone.
+/// It keeps the bytes that wait for more, fewer than `MAX_HEAD + MAX_BODY` of them. Once there was a fault it keeps
+/// that alone.
 #[derive(Drop)]
 pub struct Reader {
     rest: BytesMut,
@@ -74,6 +75,7 @@ impl Reader {
     pub fn feed(&mut self, piece: &[u8]) -> Result<Fed, AllocError>
         ensures units { IfOk result (λ fed. ReadsOn self.old piece.now fed.units.items self.new) }
         ensures fault { IfOk result (λ fed. fed.fault ≡ fault_of self.new) }
+        ensures bound { waiting_len self.new < MAX_HEAD + MAX_BODY }
         ensures err { OnErr result (self.new ≡ self.old) }
     {
         let alloc = *self.rest.allocator();
@@ -116,10 +118,10 @@ fn read_units(alloc: Global, bytes: &[u8]) -> Result<Scan, AllocError>
             len += 1;
             continue;
         }
-        match read_head(alloc, &bytes[len..])? {
-            Front::Message { request, len: head } => {
-                units.push(Unit::Message(request))?;
-                len += head;
+        match read_front(alloc, &bytes[len..])? {
+            Front::Whole { unit, len: taken } => {
+                units.push(unit)?;
+                len += taken;
             }
             Front::Bad(fault) => {
                 return Ok(Scan {
@@ -138,7 +140,7 @@ fn read_units(alloc: Global, bytes: &[u8]) -> Result<Scan, AllocError>
     })
 }
 
-/// Whether a byte may stand between messages: a CR or an LF.
+/// Whether a byte may stand between units: a CR or an LF.
 fn is_pad(byte: u8) -> bool
     ensures { result ≡ is_pad_byte byte }
 {

@@ -14,6 +14,8 @@ pub struct Request {
     /// The number of its CSeq field, where that can be read (RFC 2326, 12.17).
     pub cseq: Option<u32>,
     pub headers: Headers,
+    /// As many bytes as the Content-Length field announces, none without it (RFC 2326, 4.4).
+    pub body: Text,
 }
 
 impl Request {

@@ -23,8 +23,10 @@ fn feed_all(alloc: Global, pieces: &[&[u8]]) -> Result<(Vec<Request>, Option<Fau
     for piece in pieces {
         let Fed { units, fault } = reader.feed(piece)?;
         for unit in units {
-            let Unit::Message(request) = unit;
-            requests.push(request)?;
+            match unit {
+                Unit::Message(request) => requests.push(request)?,
+                Unit::Frame(_) => {}
+            }
         }
         last = fault;
     }
@@ -61,7 +63,7 @@ fn each_fault_stays(rt: HostRuntime) -> Result<(), Fail> {
         (b"A B C\n X: 1\n", Fault::BadHeader),
         (b"A B C\nX: \x01\n", Fault::BadHeader),
         (b"A B C\nX: 1\r\r\n", Fault::BadHeader),
-        (b"A B C\nCONTENT-length:5\n", Fault::BadLength),
+        (b"A B C\nCONTENT-length:5x\n", Fault::BadLength),
     ];
     for (bytes, want) in rows {
         let mut reader = Reader::new(rt.alloc());
@@ -261,6 +263,7 @@ fn faults_have_numbers_and_words(rt: HostRuntime) -> Result<(), Fail> {
         (Fault::BadHeader, 2, "bad header line"),
         (Fault::BadLength, 3, "bad Content-Length"),
         (Fault::HeadTooLong, 4, "head too long"),
+        (Fault::BodyTooLong, 5, "body too long"),
     ];
     for (fault, number, words) in rows {
         assert_eq!(rt; fault.number(), number);

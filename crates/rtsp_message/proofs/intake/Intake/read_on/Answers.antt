@@ -3,10 +3,10 @@ use Rattle.std.proofs.lemmas.List.{length-take-le}
 use Rattle.std.proofs.KnownBytes.{Consumes-nil, Consumes-kept}
 use Rattle.std.specs.Io.KnownBytes.{Consumes}
 use Rattle.rtsp_message.specs.declared.unit.Unit.{Unit as StreamUnit}
-use Rattle.rtsp_message.specs.Stream.{Ending, ReadsOn}
+use Rattle.rtsp_message.specs.Stream.{Ending, ReadsOn, waiting_len}
 use Rattle.rtsp_message.specs.IntakeFields.{state_of}
 use Rattle.rtsp_message.proofs.HandingOut.{units_found, settled, holds_more, holds_same}
-use Rattle.rtsp_message.specs.Intakes.{IntakeState, HandsOut, waiting_len}
+use Rattle.rtsp_message.specs.Intakes.{IntakeState, HandsOut}
 use Rattle.rtsp_message.proofs.Fetching.{Fetched}
 use Rattle.rtsp_message.proofs.intake.Intake.read_on.Given.{Over}
 use Rattle.rtsp_message.proofs.intake.Intake.read_on.Goals.{After-feed, then-self-eq0+in-Ok, else-self-eq0}
