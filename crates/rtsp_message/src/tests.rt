@@ -100,25 +100,49 @@ fn heads_near_the_limit(rt: HostRuntime) -> Result<(), Fail> {
     Ok(())
 }
 
+/// What an intake answered, without the unit.
+#[derive(Clone, Copy, Debug, PartialEq, Eq)]
+enum Kind {
+    Unit,
+    End,
+    Fault(Fault),
+    ReadFailed,
+    OutOfMemory,
+}
+
+fn kind_of(next: Next) -> Kind {
+    match next {
+        Next::Unit(_) => Kind::Unit,
+        Next::End => Kind::End,
+        Next::Fault(fault) => Kind::Fault(fault),
+        Next::ReadFailed => Kind::ReadFailed,
+        Next::OutOfMemory => Kind::OutOfMemory,
+    }
+}
+
+/// What an intake answers to so many calls.
+fn kinds(alloc: Global, source: ListSource, count: usize) -> Result<Vec<Kind>, Fail> {
+    let mut intake = Intake::new(alloc, source);
+    let mut kinds = Vec::new(alloc);
+    for _ in 0..count {
+        kinds.push(kind_of(intake.next()))?;
+    }
+    Ok(kinds)
+}
+
 #[test]
 fn intake_answers_for_good(rt: HostRuntime) -> Result<(), Fail> {
     let alloc = rt.alloc();
     for piece in [1, 3, 1000] {
         let source = ListSource::new(Vec::from_slice(alloc, STREAM)?, piece, None);
-        let mut intake = Intake::new(alloc, source);
-        assert!(rt; matches!(&intake.next(), Next::Unit(_)));
-        assert!(rt; matches!(&intake.next(), Next::Unit(_)));
-        assert!(rt; matches!(&intake.next(), Next::End));
-        assert!(rt; matches!(&intake.next(), Next::End));
+        let want = [Kind::Unit, Kind::Unit, Kind::End, Kind::End];
+        assert_eq!(rt; kinds(alloc, source, 4)?.as_slice(), want.as_slice());
         let source = ListSource::new(Vec::from_slice(alloc, STREAM)?, piece, Some(40));
-        let mut intake = Intake::new(alloc, source);
-        assert!(rt; matches!(&intake.next(), Next::Unit(_)));
-        assert!(rt; matches!(&intake.next(), Next::ReadFailed));
-        assert!(rt; matches!(&intake.next(), Next::ReadFailed));
+        let want = [Kind::Unit, Kind::ReadFailed, Kind::ReadFailed];
+        assert_eq!(rt; kinds(alloc, source, 3)?.as_slice(), want.as_slice());
         let source = ListSource::new(Vec::from_slice(alloc, b"\nA\nB")?, piece, None);
-        let mut intake = Intake::new(alloc, source);
-        assert!(rt; matches!(&intake.next(), Next::Fault(Fault::BadLine)));
-        assert!(rt; matches!(&intake.next(), Next::Fault(Fault::BadLine)));
+        let want = [Kind::Fault(Fault::BadLine), Kind::Fault(Fault::BadLine)];
+        assert_eq!(rt; kinds(alloc, source, 2)?.as_slice(), want.as_slice());
     }
     Ok(())
 }
