@@ -11,7 +11,7 @@ use std::fmt;
 const DOLLAR: u8 = 0x24;
 
 /// A dollar sign, the channel and the two bytes of the length stand before the data.
-const HEAD_BYTES: usize = 4;
+pub const FRAME_HEAD: usize = 4;
 
 /// A block of binary data on a channel.
 #[derive(Debug, Drop)]
@@ -80,7 +80,7 @@ impl From<AllocError> for PutFault {
 }
 
 /// The four bytes that stand before `len` bytes of data on the channel.
-pub fn frame_head(channel: u8, len: u16) -> [u8; HEAD_BYTES]
+pub fn frame_head(channel: u8, len: u16) -> [u8; FRAME_HEAD]
     ensures { result ≡ head_of channel len }
 {
     let [high, low] = len.to_be_bytes();
@@ -98,7 +98,7 @@ pub fn put_frame(out: &mut Vec<u8>, channel: u8, payload: &[u8]) -> Result<(), P
         return Err(PutFault::TooLong);
     };
     let head = frame_head(channel, len);
-    out.reserve(HEAD_BYTES + payload.len())?;
+    out.reserve(FRAME_HEAD + payload.len())?;
     out.extend_from_slice(&head).unwrap();
     out.extend_from_slice(payload).unwrap();
     Ok(())
@@ -113,7 +113,7 @@ pub fn frame_at(bytes: &[u8]) -> FrameAt
 {
     match bytes {
         [_, _, high, low, ..] => {
-            let len = HEAD_BYTES + usize::from(u16::from_be_bytes([*high, *low]));
+            let len = FRAME_HEAD + usize::from(u16::from_be_bytes([*high, *low]));
             if len <= bytes.len() {
                 FrameAt::Whole(len)
             } else {

@@ -15,7 +15,7 @@ mod whole_write;
 mod writing;
 
 pub use device::{Failed, Sink, Source};
-pub use frame::{Frame, FrameAt, PutFault, frame_at, frame_head, put_frame};
+pub use frame::{FRAME_HEAD, Frame, FrameAt, PutFault, frame_at, frame_head, put_frame};
 pub use laws::no_frame_begins_another;
 pub use list_sink::ListSink;
 pub use list_source::ListSource;

@@ -7,11 +7,8 @@ use crate::fault::Fault;
 use crate::head::{HeadFront, read_head};
 use crate::text::Text;
 use crate::unit::Unit;
-use interleaved::{Frame, FrameAt, Payload, frame_at};
+use interleaved::{FRAME_HEAD, Frame, FrameAt, Payload, frame_at};
 use std::alloc::{AllocError, Global};
-
-/// The bytes of a frame before its data: a dollar sign, the channel, and the length in two bytes.
-const HEAD_BYTES: usize = 4;
 
 /// What stands at the front of a stream, where a unit may begin.
 #[derive(Drop)]
@@ -45,7 +42,7 @@ fn read_frame(alloc: Global, bytes: &[u8]) -> Result<Front, AllocError>
         return Ok(Front::Unfinished);
     };
     let channel = bytes[1];
-    let (_, data) = bytes[..len].split_at(HEAD_BYTES);
+    let (_, data) = bytes[..len].split_at(FRAME_HEAD);
     let payload = Payload::new(Vec::from_slice(alloc, data)?);
     Ok(Front::Whole {
         unit: Unit::Frame(Frame { channel, payload }),
