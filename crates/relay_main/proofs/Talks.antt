@@ -5,6 +5,7 @@ use Rattle.std.proofs.KnownBytes.{Appends-trans, Appends-nil}
 use Rattle.std.proofs.Math.Seq.{take-append-add}
 use Rattle.std.proofs.lemmas.List.{take-append-le}
 use Rattle.rtsp_message.specs.declared.fault.Fault.{Fault}
+use Rattle.rtsp_message.specs.declared.request.Request.{Request}
 use Rattle.rtsp_message.specs.declared.unit.Unit.{Unit as StreamUnit}
 use Rattle.rtsp_message.specs.declared.unit.Unit.TheVariants.{Message, Frame}
 use Rattle.rtsp_message.specs.Reply.{reply_text}
@@ -14,13 +15,17 @@ use Rattle.rtsp_message.proofs.Compose.{nothing_reads}
 use Rattle.rtsp_message.proofs.HandingOut.{HandsOut-trans, holds_same}
 use Rattle.relay_main.specs.declared.talk.TalkEnd.TheVariants as ends
 use Rattle.relay_main.specs.Decide.{reply_to}
-use Rattle.relay_main.specs.Talk.{AreAnswers, closing_of, refusal, Talk, IsTalk, Talks}
+use Rattle.relay_main.specs.Talk.{IsAnswer, AreAnswers, closing_of, refusal, Talk, IsTalk, Talks}
 
 pub AreAnswers-append : (us vs : List StreamUnit) (a b : List ℕ) → AreAnswers us a → AreAnswers vs b → AreAnswers (us ++ vs) (a ++ b)
 AreAnswers-append [] vs a b p q = subst (λ (l : List ℕ). AreAnswers vs (l ++ b)) (sym p) q
 AreAnswers-append (Message r ∷ us) vs a b (first, others, is, rest, all) q =
     (first, others ++ b, is, AreAnswers-append us vs others b rest q, ap (λ (l : List ℕ). l ++ b) all ∙ append_assoc first others b)
 AreAnswers-append (Frame frame ∷ us) vs a b p q = AreAnswers-append us vs a b p q
+
+-- the answer to one message
+pub one_answer : {request : Request} {text : List ℕ} (unit : StreamUnit) → unit ≡ Message request → IsAnswer request text → AreAnswers (unit ∷ []) text
+one_answer {text = text} unit is answer = subst (λ (u : StreamUnit). AreAnswers (u ∷ []) text) (sym is) (text, [], answer, refl, sym (append-nil text))
 
 -- each message has an answer
 pub all_answers : (us : List StreamUnit) → (text : List ℕ) × AreAnswers us text

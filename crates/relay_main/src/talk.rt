@@ -39,7 +39,7 @@ pub fn run_talk<R: Source + Drop, W: Sink, V: Words>(
     loop {
         match intake.next() {
             Next::Unit(unit) => {
-                if let Err(_) = answer_unit(alloc, writer, &unit) {
+                if let Err(_) = answer_unit(alloc, writer, unit) {
                     return TalkEnd::WriteFailed;
                 }
             }
@@ -62,13 +62,13 @@ pub fn run_talk<R: Source + Drop, W: Sink, V: Words>(
 }
 
 /// Answers a message. A frame is dropped, since nothing is published yet.
-fn answer_unit<W: Sink>(alloc: Global, writer: &mut W, unit: &Unit) -> Result<(), WriteCut>
-    ensures ok { OnOk result ((text : _) × AreAnswers (unit.now ∷ []) text × Appends (W.written writer.old) (W.written writer.new) text) }
-    ensures cut { IfErr result (λ cut. (text : _) × AreAnswers (unit.now ∷ []) text × (cut.written < length text) × Appends (W.written writer.old) (W.written writer.new) (take cut.written text)) }
+fn answer_unit<W: Sink>(alloc: Global, writer: &mut W, unit: Unit) -> Result<(), WriteCut>
+    ensures ok { OnOk result ((text : _) × AreAnswers (unit ∷ []) text × Appends (W.written writer.old) (W.written writer.new) text) }
+    ensures cut { IfErr result (λ cut. (text : _) × AreAnswers (unit ∷ []) text × (cut.written < length text) × Appends (W.written writer.old) (W.written writer.new) (take cut.written text)) }
     ensures failed { IfErr result (λ _. W.failed writer.new ≡ true) }
 {
     match unit {
-        Unit::Message(request) => answer(alloc, writer, request),
+        Unit::Message(request) => answer(alloc, writer, &request),
         Unit::Frame(_) => Ok(()),
     }
 }
