@@ -4,3 +4,5 @@ pub mod Slots
 pub mod Bounds
 pub mod Runs
 pub mod Answers
+pub mod Faults
+pub mod Scripts

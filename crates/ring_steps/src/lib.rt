@@ -4,18 +4,26 @@
 
 mod buffers;
 mod calls;
+mod config;
+mod fault;
 pub mod laws;
 mod machine;
 mod publishing;
 mod readiness;
 mod ring;
+mod script;
 mod steps;
+mod trace;
 mod views;
 mod words;
 
 pub use buffers::Bytes;
 pub use calls::{Actor, Observed, PublisherCall, SeatCall, Stepped};
+pub use config::Config;
+pub use fault::StepFault;
 pub use ring::Ring;
+pub use script::{Script, SeatCalls};
+pub use trace::{Trace, TraceEvent, TraceStep};
 pub use views::{Publisher, PublisherPhase, Seat, SeatPhase};
 pub use words::{Head, Slot, Word};
 
