@@ -12,3 +12,8 @@ pub mod Growing
 pub mod Acting
 pub mod Running
 pub mod NoChoice
+pub mod Checks
+pub mod Ready
+pub mod Frames
+pub mod Turning
+pub mod Telling

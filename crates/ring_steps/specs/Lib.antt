@@ -6,3 +6,7 @@ pub mod Runs
 pub mod Answers
 pub mod Faults
 pub mod Scripts
+pub mod Checking
+pub mod Agreeing
+pub mod Traces
+pub mod Acting

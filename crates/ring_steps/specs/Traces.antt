@@ -1,0 +1,50 @@
+use Rattle.std.specs.Prelude.{◌≡◌, ◌<◌, ℕ, Option, Some, List, map, slice_get}
+use Rattle.cursor.specs.declared.calls.Answer.{Answer}
+use Rattle.ring_steps.specs.declared.calls.Actor.{Actor}
+use Rattle.ring_steps.specs.declared.calls.Actor.TheVariants.{P, Seat}
+use Rattle.ring_steps.specs.declared.config.Config.{Config}
+use Rattle.ring_steps.specs.declared.made.Made.{Made}
+use Rattle.ring_steps.specs.declared.trace.Trace.{Trace}
+use Rattle.ring_steps.specs.declared.trace.TraceStep.{TraceStep}
+use Rattle.ring_steps.specs.Acting.{acted, event_of, only_packet, reply_to}
+use Rattle.ring_steps.specs.Faults.{actors}
+use Rattle.ring_steps.specs.Runs.{At, Calls, Ran, Turn, start}
+
+-- a turn without its call
+abbrev pub made_of : Turn → Made
+made_of t = record { actor = t.actor; saw = t.saw; answer = t.answer }
+
+-- a turn as a trace tells it
+abbrev pub step_of : Turn → TraceStep
+step_of t = record { actor = t.actor; saw = t.saw }
+
+-- turns of a whole schedule from the start, and what they saw and answered
+pub record Makes (config : Config) (calls : Calls) (schedule : List Actor) (steps : List Made) : Type 0 where
+  pub turns : List Turn
+  pub end : At
+  pub ran : Ran calls (start config.keep config.seats) turns end
+  pub by : actors turns ≡ schedule
+  pub made : steps ≡ map made_of turns
+
+-- the publisher, or one of so many seats
+abbrev pub IsOneOf : (seats : ℕ) → Actor → Type 0
+IsOneOf n P = Unit {0}
+IsOneOf n (Seat s) = s < n
+
+abbrev pub IsByOneOf : (seats : ℕ) → Made → Type 0
+IsByOneOf n m = IsOneOf n m.actor
+
+-- these are the packets that each seat is answered in these turns before it loads the head
+abbrev pub Waits : (packets : List (Option Answer)) → List Turn → Type 0
+Waits packets later = (i : ℕ) (r : Option Answer) → slice_get packets i ≡ Some r → r ≡ only_packet (reply_to i later)
+
+-- a trace of a whole schedule: each step is a step of the run, from the empty ring on, by its actor and
+-- within its next call; and the events are those of the calls that act, in the order of their acting
+-- steps
+pub record IsTrace (config : Config) (calls : Calls) (schedule : List Actor) (trace : Trace) : Type 0 where
+  pub turns : List Turn
+  pub end : At
+  pub ran : Ran calls (start config.keep config.seats) turns end
+  pub by : actors turns ≡ schedule
+  pub steps : trace.steps.items ≡ map step_of turns
+  pub events : trace.events.items ≡ map event_of (acted 0 turns)
