@@ -17,3 +17,8 @@ pub mod Ready
 pub mod Frames
 pub mod Turning
 pub mod Telling
+pub mod Pending
+pub mod History
+pub mod Choices
+pub mod Located
+pub mod Refusing

@@ -30,23 +30,23 @@ pub record IsTold (turns : List Turn) (made : List Made) (steps : List TraceStep
   pub events_told : reverse events ≡ map event_of (acted (length front) back)
   pub waits : Waits packets back
 
-reply_skips : (i : ℕ) (t : Turn) (later : List Turn) → is_reply i t ≡ false → reply_to i (t ∷ later) ≡ reply_to i later
+pub reply_skips : (i : ℕ) (t : Turn) (later : List Turn) → is_reply i t ≡ false → reply_to i (t ∷ later) ≡ reply_to i later
 reply_skips i t later h = rw h refl
 
-reply_ends : (i : ℕ) (t : Turn) (later : List Turn) → is_reply i t ≡ true → reply_to i (t ∷ later) ≡ t.answer
+pub reply_ends : (i : ℕ) (t : Turn) (later : List Turn) → is_reply i t ≡ true → reply_to i (t ∷ later) ≡ t.answer
 reply_ends i t later h = rw h refl
 
 -- a turn of the publisher is no reply, nor is a turn of another seat, or one without answer and load
-not_publishers : (i : ℕ) (t : Turn) → t.actor ≡ P → is_reply i t ≡ false
+pub not_publishers : (i : ℕ) (t : Turn) → t.actor ≡ P → is_reply i t ≡ false
 not_publishers i t by = rw by refl
 
-others : (i j : ℕ) (t : Turn) → t.actor ≡ Seat j → i ≢ j → is_reply i t ≡ false
+pub others : (i j : ℕ) (t : Turn) → t.actor ≡ Seat j → i ≢ j → is_reply i t ≡ false
 others i j t by ne = elim (eqb_tells i j) [ inl e ↦ absurd (ne e.1) | inr e ↦ rw (by, e.0) refl ]
 
-silent : (i : ℕ) (t : Turn) → (is_some t.answer || is_load t.saw) ≡ false → is_reply i t ≡ false
+pub silent : (i : ℕ) (t : Turn) → (is_some t.answer || is_load t.saw) ≡ false → is_reply i t ≡ false
 silent i t none = rw none (and-false (is_seat i t.actor))
 
-own : (i : ℕ) (t : Turn) → t.actor ≡ Seat i → (is_some t.answer || is_load t.saw) ≡ true → is_reply i t ≡ true
+pub own : (i : ℕ) (t : Turn) → t.actor ≡ Seat i → (is_some t.answer || is_load t.saw) ≡ true → is_reply i t ≡ true
 own i t by some = elim (eqb_tells i i) [ inl e ↦ rw (by, e.0, some) refl | inr e ↦ absurd (e.1 refl) ]
 
 -- the packets that wait, before a turn that is no reply

@@ -14,6 +14,7 @@ mod progress;
 mod publishing;
 mod readiness;
 mod ring;
+pub mod run_laws;
 mod runs;
 mod script;
 mod steps;
