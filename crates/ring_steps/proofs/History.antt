@@ -11,8 +11,11 @@ use Rattle.cursor.specs.declared.calls.Call.{Call}
 use Rattle.cursor.specs.declared.calls.Call.TheVariants as calls
 use Rattle.cursor.specs.Counting.{read_place}
 use Rattle.cursor.specs.Account.{cursor_of}
-use Rattle.cursor.specs.Log.{Log}
-use Rattle.cursor.specs.Plain.{HasAccount, IsFree, Plain, PlainEvent, PlainRun, empty_plain, plain_of}
+use Rattle.cursor.specs.Log.{Event, LegalHistory, Log, Run, attached_at, detached_with, empty_log}
+use Rattle.cursor.specs.Plain.{HasAccount, IsFree, Plain, PlainEvent, PlainRun, empty_plain, log_of, plain_of}
+use Rattle.cursor.proofs.Accounts.{PlainRun-split, left_of_attachment}
+use Rattle.cursor.proofs.Runs.{Run-log_of, map-replicate}
+use Rattle.ring_steps.specs.Traces.{TellsAccounts}
 use Rattle.cursor.proofs.Plains.{attach_event, detach_event, same_place, take_event, with_place}
 use Rattle.ring_steps.specs.declared.calls.Actor.{Actor}
 use Rattle.ring_steps.specs.declared.calls.Actor.TheVariants.{P, Seat}
@@ -135,7 +138,7 @@ lose_turn s i x = turn_by (Seat i) (seat_call i Take) (lose s i x (floor s s.hea
 size_of : (s : State) → Invariant s → length (map packet_of s.log) ≡ s.head.length
 size_of s h = length-map s.log packet_of ∙ sym h.slots.numbers.size
 
-but_end : (b : Bool) → but_packet (Taken (if b then Ended else Empty)) ≡ Some (Taken (if b then Ended else Empty))
+pub but_end : (b : Bool) → but_packet (Taken (if b then Ended else Empty)) ≡ Some (Taken (if b then Ended else Empty))
 but_end true = refl
 but_end false = refl
 
@@ -336,7 +339,7 @@ publisher_advances call s o ts acts h =
     (publisher_step_advances s.publisher.phase call s o ts refl acts h)
 
 -- a turn is that of its actor and its call
-same_turn : (t : Turn) (actor : Actor) (call : Call) (s : State) → t.actor ≡ actor → t.call ≡ call → turn_by actor call (outcome_of s t) ≡ t
+pub same_turn : (t : Turn) (actor : Actor) (call : Call) (s : State) → t.actor ≡ actor → t.call ≡ call → turn_by actor call (outcome_of s t) ≡ t
 same_turn t actor call s by named = rw (← by, ← named) refl
 
 move_advances : (actor : Actor) (calls : Calls) (old : At) (t : Turn) (new : At) (ts : List Turn) → t.actor ≡ actor → MoveBy actor calls old t new → Invariant old.ring
@@ -373,3 +376,22 @@ pub history_plain : (calls : Calls) (keep seats : ℕ) (turns : List Turn) (end 
 history_plain calls keep seats turns end low ran =
     subst (λ (ps : List (Option Account)). PlainRun (plain_of keep 0 [] false ps) (history_of turns) (plain_at end.ring [])) (places_empty 0 seats turns)
     (ran_plain calls (start keep seats) turns end 0 ran (empty_keeps keep seats low))
+
+-- and a legal history
+pub history_legal : (calls : Calls) (keep seats : ℕ) (turns : List Turn) (end : At) → 1 ≤ keep → Ran calls (start keep seats) turns end
+    → LegalHistory keep seats (history_of turns) (log_of (plain_at end.ring []))
+history_legal calls keep seats turns end low ran =
+    let empty : log_of (empty_plain keep seats 0) ≡ empty_log seats =
+    ap (λ (cs : List (Option ℕ)). let log : Log = record { packets = []; closed = false; cursors = cs } in log) (map-replicate seats) in
+    subst (λ (l : Log). Run keep l (history_of turns) (log_of (plain_at end.ring []))) empty
+    (Run-log_of (empty_plain keep seats 0) (history_of turns) (plain_at end.ring []) (history_plain calls keep seats turns end low ran))
+
+-- in which each detachment tells its account
+pub history_accounts : (calls : Calls) (keep seats : ℕ) (turns : List Turn) (end : At) → 1 ≤ keep → Ran calls (start keep seats) turns end → TellsAccounts (history_of turns)
+history_accounts calls keep seats turns end low ran seat from left before during after is stays =
+    let now = plain_at end.ring [] in
+    let middle : List Event = attached_at seat from ∷ during ++ detached_with seat left ∷ [] in
+    let run = subst (λ (es : List Event). PlainRun (empty_plain keep seats 0) es now) is (history_plain calls keep seats turns end low ran) in
+    let first = PlainRun-split (empty_plain keep seats 0) (before ++ middle) after now run in
+    let second = PlainRun-split (empty_plain keep seats 0) before middle first.0 first.1 in
+    left_of_attachment seat from during left second.0 first.0 second.2 stays

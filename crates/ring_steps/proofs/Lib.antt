@@ -22,3 +22,4 @@ pub mod History
 pub mod Choices
 pub mod Located
 pub mod Refusing
+pub mod EachOnce

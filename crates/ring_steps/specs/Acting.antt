@@ -1,14 +1,16 @@
-use Rattle.std.specs.Prelude.{ℕ, ◌+◌, ◌==◌, ◌&&◌, ◌||◌, Bool, true, false, Option, Some, None, List, [], ◌∷◌, ◌++◌, map, is_some, if◌then◌else◌}
+use Rattle.std.specs.Prelude.{ℕ, ◌+◌, ◌==◌, ◌&&◌, ◌||◌, Bool, true, false, Option, Some, None, List, [], ◌∷◌, ◌++◌, map, is_some, slice_index_or, if◌then◌else◌}
 use Rattle.cursor.specs.declared.calls.Answer.{Answer}
 use Rattle.cursor.specs.declared.calls.Answer.TheVariants.{Taken}
 use Rattle.cursor.specs.declared.takes.Delivery.TheVariants.{Got}
+use Rattle.cursor.specs.declared.calls.Call.{Call}
 use Rattle.cursor.specs.Log.{Event}
 use Rattle.ring_steps.specs.declared.calls.Actor.{Actor}
 use Rattle.ring_steps.specs.declared.calls.Actor.TheVariants.{P, Seat}
 use Rattle.ring_steps.specs.declared.calls.Observed.{Observed}
 use Rattle.ring_steps.specs.declared.calls.Observed.TheVariants as saw
 use Rattle.ring_steps.specs.declared.trace.TraceEvent.{TraceEvent}
-use Rattle.ring_steps.specs.Runs.{Turn}
+use Rattle.ring_steps.specs.Answers.{publisher_call, seat_call}
+use Rattle.ring_steps.specs.Runs.{At, Calls, Turn}
 
 -- where each call of a run acts. An appended publish acts at its append, a refused one at its failed
 -- begin, a close at its store, and an attachment or a detachment at its load: each where it is
@@ -83,3 +85,24 @@ history_of turns = map (λ (a : Acted). a.event) (acted 0 turns)
 -- an acting call as a trace tells it
 abbrev pub event_of : Acted → TraceEvent
 event_of a = record { step = a.step; actor = a.actor; answer = a.event.answer }
+
+-- an actor's calls, by the names that they have in the history of the log
+abbrev pub calls_of_actor : Calls → Actor → List Call
+calls_of_actor script P = map publisher_call script.publisher
+calls_of_actor script (Seat s) = map (seat_call s) (slice_index_or script.seats s [])
+
+-- how many of an actor's calls are answered
+abbrev pub answered_of : At → Actor → ℕ
+answered_of at P = at.publisher
+answered_of at (Seat s) = slice_index_or at.seats s 0
+
+abbrev pub is_actor : Actor → Actor → Bool
+is_actor P P = true
+is_actor P (Seat t) = false
+is_actor (Seat s) P = false
+is_actor (Seat s) (Seat t) = s == t
+
+-- the calls of an actor among those that act, in order
+abbrev pub acted_calls : Actor → List Acted → List Call
+acted_calls actor [] = []
+acted_calls actor (a ∷ rest) = (if is_actor actor a.actor then a.event.call ∷ [] else []) ++ acted_calls actor rest

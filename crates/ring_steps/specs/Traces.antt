@@ -1,4 +1,8 @@
-use Rattle.std.specs.Prelude.{◌≡◌, ◌<◌, ℕ, Option, Some, List, map, slice_get}
+use Rattle.std.specs.Prelude.{◌≡◌, ◌<◌, ◌∷◌, ◌++◌, [], ℕ, Option, Some, List, length, map, slice_get, take}
+use Rattle.cursor.specs.declared.takes.Left.{Left}
+use Rattle.cursor.specs.Account.{StaysAttached, lost, received, takes_of}
+use Rattle.cursor.specs.Log.{Event, LegalHistory, Log, attached_at, detached_with}
+use Rattle.ring_steps.specs.Ring.{State}
 use Rattle.cursor.specs.declared.calls.Answer.{Answer}
 use Rattle.ring_steps.specs.declared.calls.Actor.{Actor}
 use Rattle.ring_steps.specs.declared.calls.Actor.TheVariants.{P, Seat}
@@ -48,3 +52,18 @@ pub record IsTrace (config : Config) (calls : Calls) (schedule : List Actor) (tr
   pub by : actors turns ≡ schedule
   pub steps : trace.steps.items ≡ map step_of turns
   pub events : trace.events.items ≡ map event_of (acted 0 turns)
+
+-- every state on the way of these turns has the property, the first and the last too
+abbrev pub EachState : Config → Calls → List Turn → (State → Type 0) → Type 0
+EachState config calls turns Holds = (n : ℕ) (mid : At) → Ran calls (start config.keep config.seats) (take n turns) mid → Holds mid.ring
+
+-- these events are a legal history of some log
+abbrev pub IsLegal : (keep seats : ℕ) → List Event → Type 0
+IsLegal keep seats events = (log : Log) × LegalHistory keep seats events log
+
+-- each detachment tells what its seat took and lost since it was attached
+abbrev pub TellsAccounts : List Event → Type 0
+TellsAccounts events = (seat from : ℕ) (left : Left) (before during after : List Event)
+    → events ≡ before ++ (attached_at seat from ∷ during ++ detached_with seat left ∷ []) ++ after
+    → StaysAttached seat during
+    → (left.taken ≡ length (received (takes_of seat during))) × (left.lost ≡ lost (takes_of seat during))

@@ -1,19 +1,19 @@
 //! What holds of each run, whatever its script and its schedule.
 
-ghost use Rattle.std.specs.Prelude.{◌≡◌, ◌≤◌, ◌∷◌, ◌++◌, [], ℕ, List, Some, length, map, slice_get};
+ghost use Rattle.std.specs.Prelude.{◌≡◌, ◌≤◌, ℕ, List, Some, map, slice_get, take};
 ghost use Rattle.cursor.specs.declared.calls.Answer.TheVariants.{Refused};
-ghost use Rattle.cursor.specs.declared.takes.Left.{Left};
-ghost use Rattle.cursor.specs.Account.{StaysAttached, lost, received, takes_of};
-ghost use Rattle.cursor.specs.Log.{Event, LegalHistory, Log, attached_at, detached_with};
+ghost use Rattle.cursor.specs.Log.{LegalHistory, Log};
 ghost use Rattle.cursor.specs.Plain.{Plain, PlainRun, empty_plain};
+ghost use Rattle.ring_steps.specs.declared.calls.Actor.{Actor};
 ghost use Rattle.ring_steps.specs.declared.calls.Observed.TheVariants.{Begin};
-ghost use Rattle.ring_steps.specs.Acting.{Acted, acted, history_of};
+ghost use Rattle.ring_steps.specs.Acting.{Acted, acted, acted_calls, answered_of, calls_of_actor, history_of};
 ghost use Rattle.ring_steps.specs.Answers.{packet_of};
 ghost use Rattle.ring_steps.specs.Faults.{actors};
 ghost use Rattle.ring_steps.specs.Ring.{word};
 ghost use Rattle.ring_steps.specs.Runs.{At, Calls, Move, Ran, Turn, start};
 ghost use Rattle.ring_steps.specs.Slots.{pins_of};
 ghost use Rattle.ring_steps.specs.Step.{next_place};
+ghost use Rattle.ring_steps.specs.Traces.{TellsAccounts};
 
 /// The events of a run, in the order of their acting steps, are a legal history of the broadcast log,
 /// which leads to a log with the packets that the publisher appended.
@@ -39,17 +39,20 @@ pub fn runs_have_no_choice()
 /// A detachment tells the packets that were taken and lost since its seat was attached.
 pub fn detachments_tell_their_account()
     ensures { (script : Calls) (keep seats : ℕ) (turns : List Turn) (end : At) → 1 ≤ keep → Ran script (start keep seats) turns end
-        → (seat from : ℕ) (left : Left) (before during after : List Event)
-        → history_of turns ≡ before ++ (attached_at seat from ∷ during ++ detached_with seat left ∷ []) ++ after
-        → StaysAttached seat during
-        → let answers = takes_of seat during in
-        (left.taken ≡ length (received answers)) × (left.lost ≡ lost answers) }
+        → TellsAccounts (history_of turns) }
 {}
 
 /// A call acts at a step of its own actor and within it.
 pub fn calls_act_at_their_own_steps()
     ensures { (turns : List Turn) (n : ℕ) (a : Acted) → slice_get (acted 0 turns) n ≡ Some a
         → (t : Turn) × (slice_get turns a.step ≡ Some t) × (t.actor ≡ a.actor) × (t.call ≡ a.event.call) }
+{}
+
+/// Each answered call has one event and no other call has one: in the acting order the calls of an actor
+/// are its answered calls, in their order.
+pub fn answered_calls_have_one_event()
+    ensures { (script : Calls) (keep seats : ℕ) (turns : List Turn) (end : At) → Ran script (start keep seats) turns end
+        → (actor : Actor) → acted_calls actor (acted 0 turns) ≡ take (answered_of end actor) (calls_of_actor script actor) }
 {}
 
 /// A refused publish of a run saw as many pins as seats stood between their pin and unpin in that slot,

@@ -1,8 +1,10 @@
 //! Runs of a script over a whole schedule.
 ghost use Rattle.std.specs.Prelude.{IfOk, IfErr, OnOk};
+ghost use Rattle.ring_steps.specs.Acting.{history_of};
 ghost use Rattle.ring_steps.specs.Faults.{IsRefusal};
 ghost use Rattle.ring_steps.specs.Scripts.{IsGoodConfig, IsGoodScript, calls_of};
-ghost use Rattle.ring_steps.specs.Traces.{IsTrace, Makes};
+ghost use Rattle.ring_steps.specs.Slots.{Invariant};
+ghost use Rattle.ring_steps.specs.Traces.{EachState, IsLegal, IsTrace, Makes, TellsAccounts};
 
 use super::calls::Actor;
 use super::checking::{first_bad_call, is_good_config};
@@ -18,6 +20,9 @@ use std::alloc::Global;
 /// Runs a script over a ring that nobody used yet. Step i of the schedule is made by its i-th actor,
 /// within the first of its calls that isn't answered yet.
 ///
+/// Every state on the way has the invariant, the events are a legal history of the broadcast log in the
+/// order of their acting steps, and each detachment tells its account.
+///
 /// A refusal tells the first of its reasons: the config, then the script, then the schedule, or that
 /// memory was refused on the way.
 pub fn run(
@@ -31,6 +36,15 @@ pub fn run(
     ensures script { OnOk result (IsGoodScript (calls_of script.now)) }
     ensures trace { IfOk result (λ trace.
         IsTrace config.now (calls_of script.now) schedule.now trace) }
+    ensures states { IfOk result (λ trace.
+        (told : IsTrace config.now (calls_of script.now) schedule.now trace)
+        → EachState config.now (calls_of script.now) told.turns Invariant) }
+    ensures history { IfOk result (λ trace.
+        (told : IsTrace config.now (calls_of script.now) schedule.now trace)
+        → IsLegal config.now.keep config.now.seats (history_of told.turns)) }
+    ensures accounts { IfOk result (λ trace.
+        (told : IsTrace config.now (calls_of script.now) schedule.now trace)
+        → TellsAccounts (history_of told.turns)) }
 {
     if !is_good_config(config, script) {
         return Err(StepFault::BadConfig);
