@@ -23,3 +23,4 @@ pub mod Choices
 pub mod Located
 pub mod Refusing
 pub mod EachOnce
+pub mod Potential

@@ -10,3 +10,4 @@ pub mod Checking
 pub mod Agreeing
 pub mod Traces
 pub mod Acting
+pub mod Atomic

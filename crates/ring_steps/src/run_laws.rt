@@ -1,6 +1,6 @@
 //! What holds of each run, whatever its script and its schedule.
 
-ghost use Rattle.std.specs.Prelude.{◌≡◌, ◌≤◌, ℕ, List, Some, map, slice_get, take};
+ghost use Rattle.std.specs.Prelude.{◌≡◌, ◌≤◌, ◌∷◌, ◌++◌, [], ℕ, List, Some, map, slice_get, take};
 ghost use Rattle.cursor.specs.declared.calls.Answer.TheVariants.{Refused};
 ghost use Rattle.cursor.specs.Log.{LegalHistory, Log};
 ghost use Rattle.cursor.specs.Plain.{Plain, PlainRun, empty_plain};
@@ -8,6 +8,7 @@ ghost use Rattle.ring_steps.specs.declared.calls.Actor.{Actor};
 ghost use Rattle.ring_steps.specs.declared.calls.Observed.TheVariants.{Begin};
 ghost use Rattle.ring_steps.specs.Acting.{Acted, acted, acted_calls, answered_of, calls_of_actor, history_of};
 ghost use Rattle.ring_steps.specs.Answers.{packet_of};
+ghost use Rattle.ring_steps.specs.Atomic.{IsUnanswered, atomic_steps, most_atomic};
 ghost use Rattle.ring_steps.specs.Faults.{actors};
 ghost use Rattle.ring_steps.specs.Ring.{word};
 ghost use Rattle.ring_steps.specs.Runs.{At, Calls, Move, Ran, Turn, start};
@@ -53,6 +54,14 @@ pub fn calls_act_at_their_own_steps()
 pub fn answered_calls_have_one_event()
     ensures { (script : Calls) (keep seats : ℕ) (turns : List Turn) (end : At) → Ran script (start keep seats) turns end
         → (actor : Actor) → acted_calls actor (acted 0 turns) ≡ take (answered_of end actor) (calls_of_actor script actor) }
+{}
+
+/// A take makes at most 4 atomic steps, a publish at most 3, and every other call 1: so many does an
+/// actor make from one answer to its next.
+pub fn calls_make_few_atomic_steps()
+    ensures { (script : Calls) (keep seats : ℕ) (before during after : List Turn) (t : Turn) (end : At)
+        → Ran script (start keep seats) (before ++ during ++ t ∷ after) end → IsUnanswered t.actor during
+        → atomic_steps t.actor (during ++ t ∷ []) ≤ most_atomic t.call }
 {}
 
 /// A refused publish of a run saw as many pins as seats stood between their pin and unpin in that slot,
