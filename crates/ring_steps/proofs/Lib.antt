@@ -24,3 +24,4 @@ pub mod Located
 pub mod Refusing
 pub mod EachOnce
 pub mod Potential
+pub mod Meeting

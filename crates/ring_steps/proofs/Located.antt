@@ -3,6 +3,7 @@ use Rattle.std.proofs.lemmas.Option.{same_Some}
 use Rattle.cursor.specs.declared.calls.Answer.{Answer}
 use Rattle.ring_steps.specs.Acting.{Acted, acted, acted_at, acting}
 use Rattle.ring_steps.specs.Runs.{Turn}
+use Rattle.ring_steps.specs.Traces.{ActsWithin}
 
 -- an acting call is one of its step's turn
 pub record IsAt (turns : List Turn) (first : ℕ) (a : Acted) : Type 0 where
@@ -27,3 +28,10 @@ at_one (Some b) t ts first (suc n) a later at = at_later t ts first a (later n a
 pub acted_located : (turns : List Turn) (first n : ℕ) (a : Acted) → slice_get (acted first turns) n ≡ Some a → IsAt turns first a
 acted_located [] first n a at = absurd (cc)
 acted_located (t ∷ ts) first n a at = at_one (acting t ts) t ts first n a (λ m h. acted_located ts (first + 1) m a h) at
+
+pub acts_within : (turns : List Turn) → ActsWithin turns
+acts_within turns n a at =
+    let h = acted_located turns 0 n a at in
+    let step = h.step in
+    let same : a.step ≡ h.place = omega arith in
+    (h.turn, ap (slice_get turns) same ∙ h.there, h.actor, h.call)

@@ -1,4 +1,4 @@
-use Rattle.std.proofs.Common.{◌≡◌, ℕ, ◌+◌, ◌==◌, ◌&&◌, ◌≤◌, true, Bool, Some, None, List, [], ◌∷◌, ◌++◌, length, refl, ◌∙◌, ap, arith, inl, inr, get_or, get_or-set_other, slice_get, slice_set, nat_lt}
+use Rattle.std.proofs.Common.{subst, ◌≡◌, ℕ, ◌+◌, ◌==◌, ◌&&◌, ◌≤◌, true, Bool, Some, None, List, [], ◌∷◌, ◌++◌, length, refl, ◌∙◌, ap, arith, inl, inr, get_or, get_or-set_other, slice_get, slice_set, nat_lt}
 use Rattle.std.specs.Prelude.{if◌then◌else◌}
 use Rattle.std.proofs.lemmas.Bool.Decides.{eqb_tells}
 use Rattle.std.proofs.lemmas.Option.{get_or_from_slice_get}
@@ -20,6 +20,7 @@ use Rattle.ring_steps.specs.Answers.{publisher_call, seat_call}
 use Rattle.ring_steps.specs.Atomic.{IsUnanswered, atomic_steps, is_atomic, most_atomic}
 use Rattle.ring_steps.specs.Ring.{State, cursor, floor, new_seat, place, seat_at, word}
 use Rattle.ring_steps.specs.Runs.{At, Calls, MoveBy, Ran, Turn, outcome_of}
+use Rattle.ring_steps.specs.Traces.{StepsAreFew}
 use Rattle.ring_steps.specs.Step.{Outcome, PublisherActs, SeatActs, holds, is_known, next_place}
 use Rattle.ring_steps.proofs.Frames.{publisher_frame, seat_frame}
 use Rattle.ring_steps.proofs.Places.{by_test}
@@ -152,7 +153,7 @@ turn_most (Seat i) script old t new by move =
     let before : made_so_far (Seat i) old.ring ≡ made_by_seat x.phase = ap (λ (y : views.Seat). made_by_seat y.phase) (get_or_from_slice_get old.ring.seats i x new_seat move.step.there) in
     rw move.named (omega arith)
 
-ran_split : (script : Calls) (old : At) (xs ys : List Turn) (new : At) → Ran script old (xs ++ ys) new → (mid : At) × Ran script old xs mid × Ran script mid ys new
+pub ran_split : (script : Calls) (old : At) (xs ys : List Turn) (new : At) → Ran script old (xs ++ ys) new → (mid : At) × Ran script old xs mid × Ran script mid ys new
 ran_split script old [] ys new ran = (old, refl, ran)
 ran_split script old (x ∷ xs) ys new ran = let rest = ran_split script ran.0 xs ys new ran.2 in (rest.0, (ran.0, ran.1, rest.1), rest.2)
 
@@ -175,3 +176,7 @@ steps_most script old before during after t new ran none self =
 pub self_actor : (actor : Actor) → is_actor actor actor ≡ true
 self_actor P = refl
 self_actor (Seat i) = elim (eqb_tells i i) [ inl e ↦ e.0 | inr e ↦ absurd (e.1 refl) ]
+
+pub steps_few : (script : Calls) (old : At) (turns : List Turn) (new : At) → Ran script old turns new → StepsAreFew turns
+steps_few script old turns new ran before during after t split none =
+    steps_most script old before during after t new (subst (λ (ts : List Turn). Ran script old ts new) split ran) none (self_actor t.actor)

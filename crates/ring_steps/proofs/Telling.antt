@@ -16,7 +16,7 @@ use Rattle.ring_steps.specs.declared.calls.Observed.TheVariants as saw
 use Rattle.ring_steps.specs.declared.made.Made.{Made}
 use Rattle.ring_steps.specs.declared.trace.TraceEvent.{TraceEvent}
 use Rattle.ring_steps.specs.declared.trace.TraceStep.{TraceStep}
-use Rattle.ring_steps.specs.Acting.{Acted, acted, acted_at, acting, acting_answer, but_packet, event_of, is_load, is_reply, is_seat, only_packet, reply_to}
+use Rattle.ring_steps.specs.Acting.{Acted, acted, acted_at, acting, acting_answer, but_packet, event_at, event_of, is_load, is_reply, is_seat, only_packet, reply_to}
 use Rattle.ring_steps.specs.Runs.{Turn}
 use Rattle.ring_steps.specs.Traces.{Waits, made_of, step_of}
 
@@ -143,12 +143,8 @@ acts_waiting made t later packets place seat packet same by at none load within 
     let there = slice_get_read packets (length packets) place packet refl below read in
     waits place packet there ∙ ap (λ i. only_packet (reply_to i later)) at ∙ sym (acts_loading t later seat actor silent loads)
 
--- the event that a step has, if a call acts there
-abbrev pub event_for : (step : ℕ) → Made → Option Answer → List TraceEvent
-event_for n m None = []
-event_for n m (Some a) = record { step = n; actor = m.actor; answer = a } ∷ []
-
-event_for_turn : (n : ℕ) (m : Made) (t : Turn) (answer : Option Answer) → m ≡ made_of t → event_for n m answer ≡ map event_of (acted_at n t answer)
+-- the event that a step has, as its turn tells it
+event_for_turn : (n : ℕ) (m : Made) (t : Turn) (answer : Option Answer) → m ≡ made_of t → event_at n m.actor answer ≡ map event_of (acted_at n t answer)
 event_for_turn n m t None same = refl
 event_for_turn n m t (Some a) same = rw same refl
 
@@ -167,7 +163,7 @@ one_told n t (Some a) rest events new h e =
 -- one step more is told
 pub tells_more : (turns : List Turn) (made rest : List Made) (last : Made) (steps new_steps : List TraceStep) (events new_events : List TraceEvent) (packets new_packets : List (Option Answer)) (answer : Option Answer)
     → made ≡ rest ++ last ∷ [] → new_steps ≡ steps ++ record { actor = last.actor; saw = last.saw } ∷ []
-    → new_events ≡ events ++ event_for (length rest) last answer
+    → new_events ≡ events ++ event_at (length rest) last.actor answer
     → ((t : Turn) (later : List Turn) → last ≡ made_of t → Waits packets later → answer ≡ acting t later)
     → ((t : Turn) (later : List Turn) → last ≡ made_of t → Waits packets later → Waits new_packets (t ∷ later))
     → IsTold turns made steps events packets → IsTold turns rest new_steps new_events new_packets
@@ -188,7 +184,7 @@ tells_more turns made rest last steps new_steps events new_events packets new_pa
           ∙ ap (λ (s : TraceStep). s ∷ reverse steps) (ap (λ (m : Made). let s : TraceStep = record { actor = m.actor; saw = m.saw } in s) found.4)
           ∙ ap (λ (xs : List TraceStep). step_of t ∷ xs) h.steps_told;
       events_told = one_told (length front) t (acting t h.back) (acted (length front + 1) h.back) events new_events before
-          (evented ∙ ap (λ (xs : List TraceEvent). events ++ xs) (ap (λ n. event_for n last answer) where_ ∙ event_for_turn (length front) last t answer found.4 ∙ ap (λ a. map event_of (acted_at (length front) t a)) is));
+          (evented ∙ ap (λ (xs : List TraceEvent). events ++ xs) (ap (λ n. event_at n last.actor answer) where_ ∙ event_for_turn (length front) last t answer found.4 ∙ ap (λ a. map event_of (acted_at (length front) t a)) is));
       waits = waits t h.back found.4 h.waits;
     }
 

@@ -86,6 +86,11 @@ history_of turns = map (λ (a : Acted). a.event) (acted 0 turns)
 abbrev pub event_of : Acted → TraceEvent
 event_of a = record { step = a.step; actor = a.actor; answer = a.event.answer }
 
+-- the event of a step, if a call acts there
+abbrev pub event_at : (step : ℕ) → Actor → Option Answer → List TraceEvent
+event_at n actor None = []
+event_at n actor (Some a) = record { step = n; actor = actor; answer = a } ∷ []
+
 -- an actor's calls, by the names that they have in the history of the log
 abbrev pub calls_of_actor : Calls → Actor → List Call
 calls_of_actor script P = map publisher_call script.publisher

@@ -1,16 +1,21 @@
-use Rattle.std.specs.Prelude.{◌≡◌, ◌<◌, ◌∷◌, ◌++◌, [], ℕ, Option, Some, List, length, map, slice_get, take}
+use Rattle.std.specs.Prelude.{◌≡◌, ◌<◌, ◌≤◌, ◌∷◌, ◌++◌, [], ℕ, Option, Some, List, length, map, slice_get, take}
 use Rattle.cursor.specs.declared.takes.Left.{Left}
 use Rattle.cursor.specs.Account.{StaysAttached, lost, received, takes_of}
 use Rattle.cursor.specs.Log.{Event, LegalHistory, Log, attached_at, detached_with}
-use Rattle.ring_steps.specs.Ring.{State}
+use Rattle.ring_steps.specs.Ring.{State, word}
+use Rattle.ring_steps.specs.Slots.{pins_of}
+use Rattle.ring_steps.specs.Step.{next_place}
 use Rattle.cursor.specs.declared.calls.Answer.{Answer}
+use Rattle.cursor.specs.declared.calls.Answer.TheVariants.{Refused}
+use Rattle.ring_steps.specs.declared.calls.Observed.TheVariants.{Begin}
 use Rattle.ring_steps.specs.declared.calls.Actor.{Actor}
 use Rattle.ring_steps.specs.declared.calls.Actor.TheVariants.{P, Seat}
 use Rattle.ring_steps.specs.declared.config.Config.{Config}
 use Rattle.ring_steps.specs.declared.made.Made.{Made}
 use Rattle.ring_steps.specs.declared.trace.Trace.{Trace}
 use Rattle.ring_steps.specs.declared.trace.TraceStep.{TraceStep}
-use Rattle.ring_steps.specs.Acting.{acted, event_of, only_packet, reply_to}
+use Rattle.ring_steps.specs.Acting.{Acted, acted, acted_calls, answered_of, calls_of_actor, event_of, only_packet, reply_to}
+use Rattle.ring_steps.specs.Atomic.{IsUnanswered, atomic_steps, most_atomic}
 use Rattle.ring_steps.specs.Faults.{actors}
 use Rattle.ring_steps.specs.Runs.{At, Calls, Ran, Turn, start}
 
@@ -67,3 +72,26 @@ TellsAccounts events = (seat from : ℕ) (left : Left) (before during after : Li
     → events ≡ before ++ (attached_at seat from ∷ during ++ detached_with seat left ∷ []) ++ after
     → StaysAttached seat during
     → (left.taken ≡ length (received (takes_of seat during))) × (left.lost ≡ lost (takes_of seat during))
+
+-- each answered call has one event and no other call has one: in the acting order the calls of an actor
+-- are its answered calls, in their order
+abbrev pub ActsOnce : Calls → List Turn → (end : At) → Type 0
+ActsOnce calls turns end = (actor : Actor) → acted_calls actor (acted 0 turns) ≡ take (answered_of end actor) (calls_of_actor calls actor)
+
+-- a call acts at a step of its own actor, and within it
+abbrev pub ActsWithin : List Turn → Type 0
+ActsWithin turns = (n : ℕ) (a : Acted) → slice_get (acted 0 turns) n ≡ Some a → (t : Turn) × (slice_get turns a.step ≡ Some t) × (t.actor ≡ a.actor) × (t.call ≡ a.event.call)
+
+-- each call makes no more atomic steps than it may
+abbrev pub StepsAreFew : List Turn → Type 0
+StepsAreFew turns = (before during after : List Turn) (t : Turn) → turns ≡ before ++ during ++ t ∷ after → IsUnanswered t.actor during
+    → atomic_steps t.actor (during ++ t ∷ []) ≤ most_atomic t.call
+
+-- a refused publish saw as many pins as seats stood between their pin and unpin in its slot, and at least
+-- one
+abbrev pub MeetsPins : State → Turn → Type 0
+MeetsPins s t = t.answer ≡ Some Refused → let w = word s (next_place s) in (t.saw ≡ Begin w) × (w.pins ≡ pins_of s.keep s.seats (next_place s)) × (1 ≤ w.pins)
+
+-- each turn, with the state before it
+abbrev pub EachTurn : Config → Calls → List Turn → (State → Turn → Type 0) → Type 0
+EachTurn config calls turns Holds = (n : ℕ) (mid : At) (t : Turn) → Ran calls (start config.keep config.seats) (take n turns) mid → slice_get turns n ≡ Some t → Holds mid.ring t

@@ -1,20 +1,13 @@
 //! What holds of each run, whatever its script and its schedule.
 
-ghost use Rattle.std.specs.Prelude.{◌≡◌, ◌≤◌, ◌∷◌, ◌++◌, [], ℕ, List, Some, map, slice_get, take};
-ghost use Rattle.cursor.specs.declared.calls.Answer.TheVariants.{Refused};
+ghost use Rattle.std.specs.Prelude.{◌≡◌, ◌≤◌, ℕ, List, map};
 ghost use Rattle.cursor.specs.Log.{LegalHistory, Log};
 ghost use Rattle.cursor.specs.Plain.{Plain, PlainRun, empty_plain};
-ghost use Rattle.ring_steps.specs.declared.calls.Actor.{Actor};
-ghost use Rattle.ring_steps.specs.declared.calls.Observed.TheVariants.{Begin};
-ghost use Rattle.ring_steps.specs.Acting.{Acted, acted, acted_calls, answered_of, calls_of_actor, history_of};
+ghost use Rattle.ring_steps.specs.Acting.{history_of};
 ghost use Rattle.ring_steps.specs.Answers.{packet_of};
-ghost use Rattle.ring_steps.specs.Atomic.{IsUnanswered, atomic_steps, most_atomic};
 ghost use Rattle.ring_steps.specs.Faults.{actors};
-ghost use Rattle.ring_steps.specs.Ring.{word};
 ghost use Rattle.ring_steps.specs.Runs.{At, Calls, Move, Ran, Turn, start};
-ghost use Rattle.ring_steps.specs.Slots.{pins_of};
-ghost use Rattle.ring_steps.specs.Step.{next_place};
-ghost use Rattle.ring_steps.specs.Traces.{TellsAccounts};
+ghost use Rattle.ring_steps.specs.Traces.{ActsOnce, ActsWithin, MeetsPins, StepsAreFew, TellsAccounts};
 
 /// The events of a run, in the order of their acting steps, are a legal history of the broadcast log,
 /// which leads to a log with the packets that the publisher appended.
@@ -45,30 +38,26 @@ pub fn detachments_tell_their_account()
 
 /// A call acts at a step of its own actor and within it.
 pub fn calls_act_at_their_own_steps()
-    ensures { (turns : List Turn) (n : ℕ) (a : Acted) → slice_get (acted 0 turns) n ≡ Some a
-        → (t : Turn) × (slice_get turns a.step ≡ Some t) × (t.actor ≡ a.actor) × (t.call ≡ a.event.call) }
+    ensures { (turns : List Turn) → ActsWithin turns }
 {}
 
 /// Each answered call has one event and no other call has one: in the acting order the calls of an actor
 /// are its answered calls, in their order.
 pub fn answered_calls_have_one_event()
     ensures { (script : Calls) (keep seats : ℕ) (turns : List Turn) (end : At) → Ran script (start keep seats) turns end
-        → (actor : Actor) → acted_calls actor (acted 0 turns) ≡ take (answered_of end actor) (calls_of_actor script actor) }
+        → ActsOnce script turns end }
 {}
 
 /// A take makes at most 4 atomic steps, a publish at most 3, and every other call 1: so many does an
 /// actor make from one answer to its next.
 pub fn calls_make_few_atomic_steps()
-    ensures { (script : Calls) (keep seats : ℕ) (before during after : List Turn) (t : Turn) (end : At)
-        → Ran script (start keep seats) (before ++ during ++ t ∷ after) end → IsUnanswered t.actor during
-        → atomic_steps t.actor (during ++ t ∷ []) ≤ most_atomic t.call }
+    ensures { (script : Calls) (keep seats : ℕ) (turns : List Turn) (end : At) → Ran script (start keep seats) turns end
+        → StepsAreFew turns }
 {}
 
 /// A refused publish of a run saw as many pins as seats stood between their pin and unpin in that slot,
 /// and at least one.
 pub fn refused_publishes_met_pins()
     ensures { (script : Calls) (keep seats : ℕ) (turns : List Turn) (mid new : At) (t : Turn) → 1 ≤ keep → Ran script (start keep seats) turns mid → Move script mid t new
-        → t.answer ≡ Some Refused
-        → let w = word mid.ring (next_place mid.ring) in
-        (t.saw ≡ Begin w) × (w.pins ≡ pins_of mid.ring.keep mid.ring.seats (next_place mid.ring)) × (1 ≤ w.pins) }
+        → MeetsPins mid.ring t }
 {}

@@ -4,7 +4,7 @@ ghost use Rattle.ring_steps.specs.Acting.{history_of};
 ghost use Rattle.ring_steps.specs.Faults.{IsRefusal};
 ghost use Rattle.ring_steps.specs.Scripts.{IsGoodConfig, IsGoodScript, calls_of};
 ghost use Rattle.ring_steps.specs.Slots.{Invariant};
-ghost use Rattle.ring_steps.specs.Traces.{EachState, IsLegal, IsTrace, Makes, TellsAccounts};
+ghost use Rattle.ring_steps.specs.Traces.{ActsOnce, ActsWithin, EachState, EachTurn, IsLegal, IsTrace, Makes, MeetsPins, StepsAreFew, TellsAccounts};
 
 use super::calls::Actor;
 use super::checking::{first_bad_call, is_good_config};
@@ -21,7 +21,8 @@ use std::alloc::Global;
 /// within the first of its calls that isn't answered yet.
 ///
 /// Every state on the way has the invariant, the events are a legal history of the broadcast log in the
-/// order of their acting steps, and each detachment tells its account.
+/// order of their acting steps, and each detachment tells its account. Each answered call has one event,
+/// at one of its own steps, and a call makes few atomic steps. A refused publish met pins.
 ///
 /// A refusal tells the first of its reasons: the config, then the script, then the schedule, or that
 /// memory was refused on the way.
@@ -45,6 +46,18 @@ pub fn run(
     ensures accounts { IfOk result (λ trace.
         (told : IsTrace config.now (calls_of script.now) schedule.now trace)
         → TellsAccounts (history_of told.turns)) }
+    ensures events_once { IfOk result (λ trace.
+        (told : IsTrace config.now (calls_of script.now) schedule.now trace)
+        → ActsOnce (calls_of script.now) told.turns told.end) }
+    ensures events_within { IfOk result (λ trace.
+        (told : IsTrace config.now (calls_of script.now) schedule.now trace)
+        → ActsWithin told.turns) }
+    ensures few_steps { IfOk result (λ trace.
+        (told : IsTrace config.now (calls_of script.now) schedule.now trace)
+        → StepsAreFew told.turns) }
+    ensures refusals { IfOk result (λ trace.
+        (told : IsTrace config.now (calls_of script.now) schedule.now trace)
+        → EachTurn config.now (calls_of script.now) told.turns MeetsPins) }
 {
     if !is_good_config(config, script) {
         return Err(StepFault::BadConfig);

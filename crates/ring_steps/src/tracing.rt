@@ -1,5 +1,5 @@
-ghost use Rattle.std.specs.Prelude.{◌≡◌, ◌<◌, ◌∷◌, [], ℕ, All, List, length, map, option_and_then, IfOk};
-ghost use Rattle.ring_steps.specs.Acting.{acted, acting, but_packet, event_of, is_load, only_packet};
+ghost use Rattle.std.specs.Prelude.{◌≡◌, ◌<◌, ◌∷◌, ◌++◌, [], ℕ, All, List, length, map, option_and_then, IfOk, OnOk};
+ghost use Rattle.ring_steps.specs.Acting.{acted, acting, but_packet, event_at, event_of, is_load, only_packet};
 ghost use Rattle.ring_steps.specs.Runs.{Turn};
 ghost use Rattle.ring_steps.specs.Traces.{IsByOneOf, IsOneOf, Waits, made_of, step_of};
 
@@ -34,17 +34,31 @@ pub(crate) fn trace_of(
             actor,
             saw: last.saw,
         })?;
-        if let Some(answer) = answer_acting(packets, last) {
-            events.push(TraceEvent {
-                step,
-                actor,
-                answer,
-            })?;
-        }
+        let answer = answer_acting(packets, last);
+        tell(&mut events, step, actor, answer)?;
     }
     steps.reverse();
     events.reverse();
     Ok(Trace { steps, events })
+}
+
+/// Adds the event of a step, if a call acts there.
+fn tell(
+    events: &mut Vec<TraceEvent>,
+    step: usize,
+    actor: Actor,
+    answer: Option<Answer>,
+) -> Result<(), AllocError>
+    ensures { OnOk result (events.new.items ≡ events.old.items ++ event_at step actor answer) }
+{
+    if let Some(answer) = answer {
+        events.push(TraceEvent {
+            step,
+            actor,
+            answer,
+        })?;
+    }
+    Ok(())
 }
 
 /// No packet for any seat.

@@ -5,6 +5,10 @@ use Rattle.ring_steps.specs.Runs.{start}
 use Rattle.ring_steps.specs.Scripts.{calls_of}
 use Rattle.ring_steps.specs.Traces.{IsByOneOf, made_of}
 use Rattle.cursor.specs.Plain.{log_of}
+use Rattle.ring_steps.proofs.EachOnce.{each_once}
+use Rattle.ring_steps.proofs.Located.{acts_within}
+use Rattle.ring_steps.proofs.Potential.{steps_few}
+use Rattle.ring_steps.proofs.Meeting.{turn_meets}
 use Rattle.ring_steps.proofs.History.{history_accounts, history_legal, plain_at}
 use Rattle.ring_steps.proofs.Opening.{empty_keeps}
 use Rattle.ring_steps.proofs.Running.{ran_keeps}
@@ -36,3 +40,17 @@ pub returns-clause-accounts : goal.returns-clause-accounts
 returns-clause-accounts c = λ told.
     (let good = c.is_good_config.ensures.0 c.if-not-is_good_config.false in
     history_accounts (calls_of c.args.script.now) c.args.config.now.keep c.args.config.now.seats told.turns told.end good.low told.ran)
+
+pub returns-clause-events_once : goal.returns-clause-events_once
+returns-clause-events_once c = λ told. each_once (calls_of c.args.script.now) c.args.config.now.keep c.args.config.now.seats told.turns told.end told.ran
+
+pub returns-clause-events_within : goal.returns-clause-events_within
+returns-clause-events_within c = λ told. acts_within told.turns
+
+pub returns-clause-few_steps : goal.returns-clause-few_steps
+returns-clause-few_steps c = λ told. steps_few (calls_of c.args.script.now) (start c.args.config.now.keep c.args.config.now.seats) told.turns told.end told.ran
+
+pub returns-clause-refusals : goal.returns-clause-refusals
+returns-clause-refusals c = λ told n mid t ran at.
+    (let good = c.is_good_config.ensures.0 c.if-not-is_good_config.false in
+    turn_meets (calls_of c.args.script.now) c.args.config.now.keep c.args.config.now.seats told.turns told.end n mid t good.low told.ran ran at)
