@@ -12,3 +12,16 @@ pub mod Growing
 pub mod Acting
 pub mod Running
 pub mod NoChoice
+pub mod Checks
+pub mod Ready
+pub mod Frames
+pub mod Turning
+pub mod Telling
+pub mod Pending
+pub mod History
+pub mod Choices
+pub mod Located
+pub mod Refusing
+pub mod EachOnce
+pub mod Potential
+pub mod Meeting

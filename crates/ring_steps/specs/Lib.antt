@@ -4,3 +4,10 @@ pub mod Slots
 pub mod Bounds
 pub mod Runs
 pub mod Answers
+pub mod Faults
+pub mod Scripts
+pub mod Checking
+pub mod Agreeing
+pub mod Traces
+pub mod Acting
+pub mod Atomic

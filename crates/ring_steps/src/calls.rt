@@ -1,6 +1,7 @@
 use super::buffers::Bytes;
 use super::words::{Head, Word};
 use cursor::Answer;
+use std::fmt;
 
 /// Who makes a step.
 #[derive(Clone, Copy, Debug, PartialEq, Eq)]
@@ -8,6 +9,15 @@ pub enum Actor {
     /// The publisher.
     P,
     Seat(u16),
+}
+
+impl fmt::Display for Actor {
+    fn fmt<W: fmt::Write>(&self, f: &mut fmt::Formatter<W>) -> fmt::Result {
+        match self {
+            Actor::P => write!(f, "p"),
+            Actor::Seat(seat) => write!(f, "{seat}"),
+        }
+    }
 }
 
 /// A call of the publisher.

@@ -4,18 +4,33 @@
 
 mod buffers;
 mod calls;
+mod checking;
+mod config;
+mod fault;
 pub mod laws;
 mod machine;
+mod made;
+mod progress;
 mod publishing;
 mod readiness;
 mod ring;
+pub mod run_laws;
+mod runs;
+mod script;
 mod steps;
+mod trace;
+mod tracing;
 mod views;
 mod words;
 
 pub use buffers::Bytes;
 pub use calls::{Actor, Observed, PublisherCall, SeatCall, Stepped};
+pub use config::Config;
+pub use fault::StepFault;
 pub use ring::Ring;
+pub use runs::run;
+pub use script::{Script, SeatCalls};
+pub use trace::{Trace, TraceEvent, TraceStep};
 pub use views::{Publisher, PublisherPhase, Seat, SeatPhase};
 pub use words::{Head, Slot, Word};
 

@@ -5,6 +5,11 @@ use super::*;
 use std::alloc::{AllocError, Global};
 use std::process::Abort;
 
+mod faults;
+mod orders;
+mod rows;
+mod scripts;
+
 /// What a step saw, as the command writes it.
 fn told(alloc: Global, saw: Observed) -> Result<String, AllocError> {
     match saw {

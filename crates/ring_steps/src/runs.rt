@@ -1,0 +1,100 @@
+//! Runs of a script over a whole schedule.
+ghost use Rattle.std.specs.Prelude.{IfOk, IfErr, OnOk};
+ghost use Rattle.ring_steps.specs.Acting.{history_of};
+ghost use Rattle.ring_steps.specs.Faults.{IsRefusal};
+ghost use Rattle.ring_steps.specs.Scripts.{IsGoodConfig, IsGoodScript, calls_of};
+ghost use Rattle.ring_steps.specs.Slots.{Invariant};
+ghost use Rattle.ring_steps.specs.Traces.{ActsOnce, ActsWithin, EachState, EachTurn, IsLegal, IsTrace, Makes, MeetsPins, StepsAreFew, TellsAccounts};
+
+use super::calls::Actor;
+use super::checking::{first_bad_call, is_good_config};
+use super::config::Config;
+use super::fault::StepFault;
+use super::made::Made;
+use super::progress::Progress;
+use super::script::Script;
+use super::trace::Trace;
+use super::tracing::trace_of;
+use std::alloc::Global;
+
+/// Runs a script over a ring that nobody used yet. Step i of the schedule is made by its i-th actor,
+/// within the first of its calls that isn't answered yet.
+///
+/// Every state on the way has the invariant, the events are a legal history of the broadcast log in the
+/// order of their acting steps, and each detachment tells its account. Each answered call has one event,
+/// at one of its own steps, and a call makes few atomic steps. A refused publish met pins.
+///
+/// A refusal tells the first of its reasons: the config, then the script, then the schedule, or that
+/// memory was refused on the way.
+pub fn run(
+    alloc: Global,
+    config: &Config,
+    script: &Script,
+    schedule: &[Actor],
+) -> Result<Trace, StepFault>
+    ensures refused { IfErr result (IsRefusal config.now (calls_of script.now) schedule.now) }
+    ensures config { OnOk result (IsGoodConfig config.now (calls_of script.now)) }
+    ensures script { OnOk result (IsGoodScript (calls_of script.now)) }
+    ensures trace { IfOk result (λ trace.
+        IsTrace config.now (calls_of script.now) schedule.now trace) }
+    ensures states { IfOk result (λ trace.
+        (told : IsTrace config.now (calls_of script.now) schedule.now trace)
+        → EachState config.now (calls_of script.now) told.turns Invariant) }
+    ensures history { IfOk result (λ trace.
+        (told : IsTrace config.now (calls_of script.now) schedule.now trace)
+        → IsLegal config.now.keep config.now.seats (history_of told.turns)) }
+    ensures accounts { IfOk result (λ trace.
+        (told : IsTrace config.now (calls_of script.now) schedule.now trace)
+        → TellsAccounts (history_of told.turns)) }
+    ensures events_once { IfOk result (λ trace.
+        (told : IsTrace config.now (calls_of script.now) schedule.now trace)
+        → ActsOnce (calls_of script.now) told.turns told.end) }
+    ensures events_within { IfOk result (λ trace.
+        (told : IsTrace config.now (calls_of script.now) schedule.now trace)
+        → ActsWithin told.turns) }
+    ensures few_steps { IfOk result (λ trace.
+        (told : IsTrace config.now (calls_of script.now) schedule.now trace)
+        → StepsAreFew told.turns) }
+    ensures refusals { IfOk result (λ trace.
+        (told : IsTrace config.now (calls_of script.now) schedule.now trace)
+        → EachTurn config.now (calls_of script.now) told.turns MeetsPins) }
+{
+    if !is_good_config(config, script) {
+        return Err(StepFault::BadConfig);
+    }
+    if let Some((actor, call)) = first_bad_call(script) {
+        return Err(StepFault::BadScript { actor, call });
+    }
+    let made = make_steps(alloc, config, script, schedule)?;
+    Ok(trace_of(alloc, made, config.seats as usize)?)
+}
+
+/// Makes the steps of a schedule.
+fn make_steps(
+    alloc: Global,
+    config: &Config,
+    script: &Script,
+    schedule: &[Actor],
+) -> Result<Vec<Made>, StepFault>
+    requires config { IsGoodConfig config.now (calls_of script.now) }
+    requires script { IsGoodScript (calls_of script.now) }
+    ensures made { IfOk result (λ made. Makes config.now (calls_of script.now) schedule.now made.items) }
+    ensures refused { IfErr result (IsRefusal config.now (calls_of script.now) schedule.now) }
+{
+    let mut made = Vec::with_capacity(alloc, schedule.len())?;
+    let mut progress = Progress::new(alloc, config.keep, config.seats as u16)?;
+    for (i, actor) in schedule.iter().enumerate() {
+        let actor = *actor;
+        match progress.step(script, actor)? {
+            Some(stepped) => made
+                .push(Made {
+                    actor,
+                    saw: stepped.saw,
+                    answer: stepped.answer,
+                })
+                .unwrap(),
+            None => return Err(StepFault::BadSchedule(i)),
+        }
+    }
+    Ok(made)
+}
