@@ -1,5 +1,6 @@
-//! The ring's core as a machine of single atomic steps: its words, cells and views, the step, and the
-//! invariant that each step keeps.
+//! The ring's core as a machine of single atomic steps: its words, cells and views, the step, the
+//! invariant that each step keeps, and the runs of a script over any schedule, whose events are a legal
+//! history of the broadcast log.
 #![tactic(auto)]
 
 mod buffers;

@@ -1,6 +1,7 @@
 //! Schedules with the events that they must come to, and the steps at which these act.
 use super::super::*;
-use super::scripts::{check_events, script};
+use super::scripts::{check_events, schedule, script};
+use super::told;
 
 const KEEP_1: Config = Config { keep: 1, seats: 1 };
 
@@ -207,4 +208,32 @@ fn largest_keep(rt: HostRuntime) {
         "0ppppp00000",
         &["@0 0 attach 0", "@5 p appended 0", "@6 0 took 0 65"],
     );
+}
+
+/// A run tells who made a step, and what it saw.
+#[test]
+fn steps_of_a_run(rt: HostRuntime) {
+    let alloc = rt.alloc();
+    let calls = script(&rt, alloc, b"ABCD", &["att"]);
+    let actors = schedule(&rt, alloc, "0pppppppppp0pppppp00000000");
+    let trace = match run(alloc, &KEEP_2, &calls, actors.as_slice()) {
+        Ok(trace) => trace,
+        Err(fault) => panic!(&rt; "{fault}"),
+    };
+    for (place, wanted) in [
+        (0, "0 load 0 0"),
+        (5, "p append 1"),
+        (17, "p begin 0 0 1"),
+        (18, "0 pin 0 1 1"),
+        (20, "0 load 3 0"),
+        (24, "0 byte 66"),
+        (25, "0 unpin 1 0 2"),
+    ] {
+        assert!(&rt; place < trace.steps.len(), "no step {place}");
+        let step = trace.steps[place];
+        let saw = told(alloc, step.saw).expect(&rt, "memory");
+        let saw = saw.as_str();
+        let line = format!(in alloc; "{} {saw}", step.actor).expect(&rt, "memory");
+        assert_eq!(&rt; line.as_str(), wanted, "step {place}");
+    }
 }
