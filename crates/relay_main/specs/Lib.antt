@@ -1,2 +1,9 @@
 pub mod Decide
 pub mod Talk
+pub mod Lines
+pub mod LineForms
+pub mod Plans
+pub mod Drafts
+pub mod Scripts
+pub mod TraceText
+pub mod Steps

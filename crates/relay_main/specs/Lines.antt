@@ -1,0 +1,23 @@
+-- The lines of the input of the command `steps`.
+use Rattle.std.specs.Prelude.{◌≡◌, ◌==◌, ◌⊎◌, ℕ, Bool, true, false, List, [], ◌∷◌, ◌++◌}
+use Rattle.std.specs.List.{AllByRecursion}
+
+-- a line feed ends a line, and stands nowhere in it; a CR is a byte of it like any other
+abbrev pub HasNoLf : List ℕ → Type 0
+HasNoLf line = AllByRecursion (λ b. (b == 10) ≡ false) line
+
+-- a line that isn't empty
+abbrev pub has_bytes : List ℕ → Bool
+has_bytes [] = false
+has_bytes (b ∷ bs) = true
+
+-- The first line of a text, and the text behind it. An LF ends it, or the text does: what follows the last LF is a line
+-- where it has bytes.
+pub record IsFirstLine (text line rest : List ℕ) : Type 0 where
+  pub unbroken : HasNoLf line
+  pub whole : (text ≡ line ++ 10 ∷ rest) ⊎ ((text ≡ line) × (rest ≡ []) × (has_bytes line ≡ true))
+
+-- the lines of a text, the empty ones too
+abbrev pub AreLines : List ℕ → List (List ℕ) → Type 0
+AreLines text [] = text ≡ []
+AreLines text (line ∷ lines) = (rest : List ℕ) × IsFirstLine text line rest × AreLines rest lines

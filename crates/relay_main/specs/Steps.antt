@@ -1,0 +1,103 @@
+-- What the command `steps` writes for an input, and how it ends.
+use Rattle.std.specs.Prelude.{◌≡◌, ◌<◌, ℕ, Bool, true, List, [], ◌++◌, Option, length, take, codes, decimal}
+use Rattle.std.specs.Io.KnownBytes.{Consumes, Appends, IsAtEnd}
+use Rattle.ring_steps.specs.declared.fault.StepFault.{StepFault}
+use Rattle.ring_steps.specs.declared.fault.StepFault.TheVariants as faults
+use Rattle.ring_steps.specs.declared.trace.Trace.{Trace}
+use Rattle.ring_steps.specs.Faults.{IsRefusal}
+use Rattle.ring_steps.specs.Scripts.{IsGoodConfig, IsGoodScript}
+use Rattle.ring_steps.specs.Traces.{IsTrace}
+use Rattle.relay_main.specs.declared.steps.ends.StepsEnd.{StepsEnd}
+use Rattle.relay_main.specs.declared.steps.ends.StepsEnd.TheVariants as ends
+use Rattle.relay_main.specs.declared.steps.plan.Plan.{Plan}
+use Rattle.relay_main.specs.declared.steps.read_all.ReadFault.{ReadFault}
+use Rattle.relay_main.specs.declared.steps.read_all.ReadFault.TheVariants as reads
+use Rattle.relay_main.specs.Plans.{Reads, IsBadLine}
+use Rattle.relay_main.specs.Scripts.{script_of}
+use Rattle.relay_main.specs.TraceText.{trace_text, actor_text}
+
+-- the plan isn't refused, and this is the trace of its run
+pub record IsTraceOf (plan : Plan) (trace : Trace) : Type 0 where
+  pub config : IsGoodConfig plan.config (script_of plan)
+  pub script : IsGoodScript (script_of plan)
+  pub is_trace : IsTrace plan.config (script_of plan) plan.schedule trace
+
+-- the input is a plan, and this is the trace of its run
+pub record IsTraced (input : List ℕ) (trace : Trace) : Type 0 where
+  pub plan : Plan
+  pub reads : Reads input plan
+  pub runs : IsTraceOf plan trace
+
+-- The input is a plan that is refused for this reason.
+pub record IsRefusedPlan (input : List ℕ) (fault : StepFault) : Type 0 where
+  pub plan : Plan
+  pub reads : Reads input plan
+  pub refused : IsRefusal plan.config (script_of plan) plan.schedule fault
+
+-- These bytes are all that the source gave, up to its end.
+pub record IsWholeInput {R : Type 0} (incoming : R → Option (List ℕ)) (reader last : R) (input : List ℕ) : Type 0 where
+  pub given : Consumes (incoming reader) (incoming last) input
+  pub ended : IsAtEnd (incoming last)
+
+-- These bytes were read before the source failed.
+pub record IsCutInput {R : Type 0} (incoming : R → Option (List ℕ)) (failed : R → Bool) (reader last : R) (input : List ℕ) : Type 0 where
+  pub given : Consumes (incoming reader) (incoming last) input
+  pub stopped : failed last ≡ true
+
+-- the text of the trace of all that the source gives
+pub record IsTextOf {R : Type 0} (incoming : R → Option (List ℕ)) (reader : R) (text : List ℕ) : Type 0 where
+  pub last : R
+  pub input : List ℕ
+  pub trace : Trace
+  pub whole : IsWholeInput incoming reader last input
+  pub traced : IsTraced input trace
+  pub is_text : text ≡ trace_text trace
+
+-- how the command ends where nothing is written
+module _ {R : Type 0} (incoming : R → Option (List ℕ)) (failed : R → Bool) where
+  -- why a source wasn't read to its end
+  abbrev pub IsReadFault : R → R → ReadFault → Type 0
+  IsReadFault reader last reads.Failed = (input : List ℕ) × IsCutInput incoming failed reader last input
+  IsReadFault reader last reads.OutOfMemory = Unit {0}
+
+  abbrev pub EndsEarly : R → StepsEnd → Type 0
+  EndsEarly reader ends.Done = ⊥
+  EndsEarly reader (ends.BadLine number) = (last : R) × (input : List ℕ) × IsWholeInput incoming reader last input × IsBadLine input number
+  EndsEarly reader (ends.Refused fault) = (last : R) × (input : List ℕ) × IsWholeInput incoming reader last input × IsRefusedPlan input fault
+  EndsEarly reader ends.ReadFailed = (last : R) × (input : List ℕ) × IsCutInput incoming failed reader last input
+  EndsEarly reader ends.WriteFailed = ⊥
+  EndsEarly reader ends.OutOfMemory = Unit {0}
+
+module _ {R W : Type 0} (incoming : R → Option (List ℕ)) (read_failed : R → Bool) (written : W → Option (List ℕ)) (write_failed : W → Bool) where
+  -- How the command ends, and what was written: the text of the one trace, after a failed write a beginning of that, and
+  -- with another fault nothing.
+  abbrev pub StepsSo : R → W → W → StepsEnd → Type 0
+  StepsSo reader old new ends.Done = (text : List ℕ) × IsTextOf incoming reader text × Appends (written old) (written new) text
+  StepsSo reader old new ends.WriteFailed =
+      (text : List ℕ) × IsTextOf incoming reader text × (write_failed new ≡ true) × (n : ℕ) × (n < length text) × Appends (written old) (written new) (take n text)
+  StepsSo reader old new end = (new ≡ old) × EndsEarly incoming read_failed reader end
+
+-- the exit status
+abbrev pub steps_status : StepsEnd → ℕ
+steps_status ends.Done = 0
+steps_status (ends.BadLine number) = 1
+steps_status (ends.Refused fault) = 1
+steps_status ends.ReadFailed = 1
+steps_status ends.WriteFailed = 1
+steps_status ends.OutOfMemory = 1
+
+-- what is said of a refused plan
+abbrev pub refusal_text : StepFault → List ℕ
+refusal_text faults.BadConfig = codes "relay: bad config"
+refusal_text (faults.BadScript actor call) = codes "relay: bad script " ++ (actor_text actor ++ (codes " call " ++ decimal call))
+refusal_text (faults.BadSchedule place) = codes "relay: bad schedule at " ++ decimal place
+refusal_text faults.OutOfMemory = codes "relay: out of memory"
+
+-- the line on standard error
+abbrev pub steps_end_line : StepsEnd → List ℕ
+steps_end_line ends.Done = []
+steps_end_line (ends.BadLine number) = codes "relay: bad line " ++ decimal number
+steps_end_line (ends.Refused fault) = refusal_text fault
+steps_end_line ends.ReadFailed = codes "relay: read failed"
+steps_end_line ends.WriteFailed = codes "relay: write failed"
+steps_end_line ends.OutOfMemory = codes "relay: out of memory"

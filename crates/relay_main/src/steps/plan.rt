@@ -1,0 +1,39 @@
+ghost use Rattle.std.specs.Prelude.{◌≡◌};
+ghost use Rattle.relay_main.specs.declared.steps.plan.PlanFault.TheVariants.{OutOfMemory};
+
+use super::call_lines::CallLines;
+use super::schedule::Schedule;
+use ring_steps::Config;
+use std::alloc::{AllocError, AllocFailed};
+
+/// What an input asks for.
+#[derive(Debug, Drop)]
+pub struct Plan {
+    pub config: Config,
+    pub calls: CallLines,
+    pub schedule: Schedule,
+}
+
+/// Why a text is no input.
+#[derive(Clone, Copy, Debug, PartialEq, Eq)]
+pub enum PlanFault {
+    /// The first bad line, from 1 over all lines, or the line behind the last where `go` is missing.
+    BadLine(usize),
+    OutOfMemory,
+}
+
+impl From<AllocError> for PlanFault {
+    ghost from_gives = { λ _ e. e ≡ OutOfMemory };
+
+    fn from(_error: AllocError) -> PlanFault {
+        PlanFault::OutOfMemory
+    }
+}
+
+impl<T: Drop> From<AllocFailed<T>> for PlanFault {
+    ghost from_gives = { λ _ e. e ≡ OutOfMemory };
+
+    fn from(_error: AllocFailed<T>) -> PlanFault {
+        PlanFault::OutOfMemory
+    }
+}
