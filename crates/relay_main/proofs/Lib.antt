@@ -6,3 +6,4 @@ pub mod Items
 pub mod Printed
 pub mod Sorting
 pub mod Reading
+pub mod OnePlan

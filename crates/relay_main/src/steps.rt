@@ -6,6 +6,7 @@ mod draft;
 mod ends;
 mod first_line;
 mod item;
+pub mod laws;
 mod line;
 mod parts;
 mod plan;
