@@ -22,7 +22,7 @@ abbrev pub left_of : Option (List ℕ) → ℕ
 left_of None = 0
 left_of (Some text) = suc (length text)
 
-first_word : (text : List ℕ) → slice_split is_space text ≡ before_first is_space text ∷ words_of (parts_at is_space text)
+pub first_word : (text : List ℕ) → slice_split is_space text ≡ before_first is_space text ∷ words_of (parts_at is_space text)
 first_word [] = refl
 first_word (b ∷ bs) = elim (eqb_tells b 32) [
   | inl same ↦ rw same.0 refl

@@ -7,3 +7,4 @@ pub mod Printed
 pub mod Sorting
 pub mod Reading
 pub mod OnePlan
+pub mod Grammar

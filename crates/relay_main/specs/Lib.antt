@@ -2,6 +2,7 @@ pub mod Decide
 pub mod Talk
 pub mod Lines
 pub mod LineForms
+pub mod Grammar
 pub mod Plans
 pub mod Drafts
 pub mod Scripts

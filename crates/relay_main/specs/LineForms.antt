@@ -1,10 +1,10 @@
 -- What one line of the input of the command `steps` says.
-use Rattle.std.specs.Prelude.{ℕ, ◌+◌, ◌-◌, ◌*◌, ◌==◌, ◌&&◌, nat_lt, nat_le, nat_eq, min, if◌then◌else◌, Bool, List, [], ◌∷◌, ◌++◌, length, drop, fold, replicate, codes, Option, None, Some, Result, Ok, Err}
-use Rattle.std.specs.List.{list_all, list_any, slice_split, before_first, after_first, starts_with}
+use Rattle.std.specs.Prelude.{ℕ, ◌==◌, ◌&&◌, nat_lt, nat_le, nat_eq, min, if◌then◌else◌, Bool, List, [], ◌∷◌, ◌++◌, length, drop, replicate, codes, Option, None, Some, Result, Ok, Err}
+use Rattle.std.specs.List.{list_any, slice_split, before_first, after_first, starts_with}
 use Rattle.std.specs.Option.{option_map}
-use Rattle.std.specs.Char.{is_ascii_digit}
 use Rattle.std.specs.Str.{bytes_eq}
 use Rattle.hex.specs.Hex.{decode_of}
+use Rattle.rtsp_message.specs.Headers.{number_up_to}
 use Rattle.hex.specs.declared.error.FromHexError.{FromHexError}
 use Rattle.ring_steps.specs.declared.calls.Actor.{Actor}
 use Rattle.ring_steps.specs.declared.calls.Actor.TheVariants.{P, Seat}
@@ -16,16 +16,9 @@ use Rattle.relay_main.specs.declared.steps.call_line.CallLine.TheVariants.{ByPub
 use Rattle.relay_main.specs.declared.steps.line.Line.{Line}
 use Rattle.relay_main.specs.declared.steps.line.Line.TheVariants.{Keep, Seats, Call, Go}
 
--- one to nine decimal digits
-abbrev pub is_numeral : List ℕ → Bool
-is_numeral text = (nat_lt 0 (length text) && nat_le (length text) 9) && list_all is_ascii_digit text
-
--- what decimal digits stand for; leading zeros are read
-abbrev pub decimal_value : List ℕ → ℕ
-decimal_value digits = fold (λ n b. n * 10 + (b - 48)) 0 digits
-
+-- the number that one to nine decimal digits write; leading zeros are read
 abbrev pub number_of : List ℕ → Option ℕ
-number_of text = if is_numeral text then Some (decimal_value text) else None
+number_of text = if nat_le (length text) 9 then number_up_to 999999999 text else None
 
 abbrev pub is_space : ℕ → Bool
 is_space b = b == 32

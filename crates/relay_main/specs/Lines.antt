@@ -2,9 +2,13 @@
 use Rattle.std.specs.Prelude.{◌≡◌, ◌==◌, ◌⊎◌, ℕ, Bool, true, false, List, [], ◌∷◌, ◌++◌}
 use Rattle.std.specs.List.{AllByRecursion}
 
+-- no byte of the text is this one
+abbrev pub HasNone : (byte : ℕ) → List ℕ → Type 0
+HasNone byte text = AllByRecursion (λ b. (b == byte) ≡ false) text
+
 -- a line feed ends a line, and stands nowhere in it; a CR is a byte of it like any other
 abbrev pub HasNoLf : List ℕ → Type 0
-HasNoLf line = AllByRecursion (λ b. (b == 10) ≡ false) line
+HasNoLf line = HasNone 10 line
 
 -- a line that isn't empty
 abbrev pub has_bytes : List ℕ → Bool

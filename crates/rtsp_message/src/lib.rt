@@ -27,6 +27,7 @@ pub use byte_class::ByteClass;
 pub use fault::Fault;
 pub use headers::{Header, Headers};
 pub use intake::{Intake, Next};
+pub use numbers::read_number;
 pub use plain::put_plain;
 pub use reader::{Fed, Reader};
 pub use reply::{Fields, Reply, put_reply};

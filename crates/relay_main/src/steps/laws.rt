@@ -1,11 +1,20 @@
 //! What holds of every input and of every trace.
 
-ghost use Rattle.std.specs.Prelude.{◌≡◌, ℕ, List};
+ghost use Rattle.std.specs.Prelude.{◌≡◌, ℕ, List, Some};
 ghost use Rattle.ring_steps.specs.declared.trace.Trace.{Trace};
+ghost use Rattle.relay_main.specs.declared.steps.line.Line.{Line};
 ghost use Rattle.relay_main.specs.declared.steps.plan.Plan.{Plan};
+ghost use Rattle.relay_main.specs.Grammar.{IsLine};
+ghost use Rattle.relay_main.specs.LineForms.{line_of};
 ghost use Rattle.relay_main.specs.Plans.{Reads, IsBadLine};
 ghost use Rattle.relay_main.specs.Steps.{IsTraceOf};
 ghost use Rattle.relay_main.specs.TraceText.{trace_text};
+
+/// A line is found to say exactly what its form says.
+pub fn one_form()
+    ensures says { (line : List ℕ) (said : Line) → line_of line ≡ Some said → IsLine line said }
+    ensures said { (line : List ℕ) (said : Line) → IsLine line said → line_of line ≡ Some said }
+{}
 
 /// A text is the input of one plan, or has one bad line, and never both.
 pub fn one_reading()

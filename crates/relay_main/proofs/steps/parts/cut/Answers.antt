@@ -1,14 +1,20 @@
-use Rattle.std.proofs.Common.{◌≡◌, ◌<◌, ◌==◌, length, arith}
-use Rattle.std.specs.List.{position_or_len}
-use Rattle.relay_main.proofs.Cuts.{cut_nowhere, cut_there}
+use Rattle.std.proofs.Common.{arith, length, sym, take, ap, ◌∙◌}
+use Rattle.std.proofs.lemmas.List.{take_all}
+use Rattle.relay_main.proofs.Cuts.{cut_nowhere, cut_there, place_found, place_missing}
 use Rattle.relay_main.proofs.steps.parts.cut.Goals as goal
 
-pub returns-then-end-text-clause-after : goal.returns-then-end-text-clause-after
-returns-then-end-text-clause-after c =
-    let all : position_or_len (λ b. b == c.args.wanted) c.args.text.now ≡ length c.args.text.now = omega (arith, c.find_byte-end.ensures.place, c.if-end-text.true) in
-    cut_nowhere c.args.wanted c.args.text.now all
+pub returns-in-Some-clause-before : goal.returns-in-Some-clause-before
+returns-in-Some-clause-before c =
+    ap (λ n. take n c.args.text.now) (sym (place_found c.args.wanted c.args.text.now c.in-Some.end c.in-Some.ensures.0 c.in-Some.ensures.1))
 
-pub returns-clause-after : goal.returns-clause-after
-returns-clause-after c =
-    let inside : c.find_byte-end.result < length c.args.text.now = omega (arith, c.find_byte-end.ensures.within, c.if-end-text.false) in
-    cut_there c.args.wanted c.args.text.now c.find_byte-end.result c.find_byte-end.ensures.place inside
+pub returns-in-Some-clause-after : goal.returns-in-Some-clause-after
+returns-in-Some-clause-after c =
+    cut_there c.args.wanted c.args.text.now c.in-Some.end (sym (place_found c.args.wanted c.args.text.now c.in-Some.end c.in-Some.ensures.0 c.in-Some.ensures.1)) c.in-Some.ensures.0.high
+
+pub returns-in-None-clause-before : goal.returns-in-None-clause-before
+returns-in-None-clause-before c =
+    sym (ap (λ n. take n c.args.text.now) (place_missing c.args.wanted c.args.text.now c.in-None.ensures) ∙ take_all (length c.args.text.now) c.args.text.now (omega arith))
+
+pub returns-in-None-clause-after : goal.returns-in-None-clause-after
+returns-in-None-clause-after c =
+    cut_nowhere c.args.wanted c.args.text.now (place_missing c.args.wanted c.args.text.now c.in-None.ensures)
