@@ -2,10 +2,10 @@
 use Rattle.std.specs.Prelude.{◌≡◌, ◌<◌, ℕ, Bool, true, List, [], ◌++◌, Option, length, take, codes, decimal}
 use Rattle.std.specs.Io.KnownBytes.{Consumes, Appends, IsAtEnd}
 use Rattle.ring_steps.specs.declared.fault.StepFault.{StepFault}
-use Rattle.ring_steps.specs.declared.fault.StepFault.TheVariants as faults
 use Rattle.ring_steps.specs.declared.trace.Trace.{Trace}
 use Rattle.ring_steps.specs.Faults.{IsRefusal}
 use Rattle.ring_steps.specs.Scripts.{IsGoodConfig, IsGoodScript}
+use Rattle.ring_steps.specs.Texts.{fault_text}
 use Rattle.ring_steps.specs.Traces.{IsTrace}
 use Rattle.relay_main.specs.declared.steps.ends.StepsEnd.{StepsEnd}
 use Rattle.relay_main.specs.declared.steps.ends.StepsEnd.TheVariants as ends
@@ -14,7 +14,7 @@ use Rattle.relay_main.specs.declared.steps.read_all.ReadFault.{ReadFault}
 use Rattle.relay_main.specs.declared.steps.read_all.ReadFault.TheVariants as reads
 use Rattle.relay_main.specs.Plans.{Reads, IsBadLine}
 use Rattle.relay_main.specs.Scripts.{script_of}
-use Rattle.relay_main.specs.TraceText.{trace_text, actor_text}
+use Rattle.relay_main.specs.TraceText.{trace_text}
 
 -- the plan isn't refused, and this is the trace of its run
 pub record IsTraceOf (plan : Plan) (trace : Trace) : Type 0 where
@@ -86,18 +86,11 @@ steps_status ends.ReadFailed = 1
 steps_status ends.WriteFailed = 1
 steps_status ends.OutOfMemory = 1
 
--- what is said of a refused plan
-abbrev pub refusal_text : StepFault → List ℕ
-refusal_text faults.BadConfig = codes "relay: bad config"
-refusal_text (faults.BadScript actor call) = codes "relay: bad script " ++ (actor_text actor ++ (codes " call " ++ decimal call))
-refusal_text (faults.BadSchedule place) = codes "relay: bad schedule at " ++ decimal place
-refusal_text faults.OutOfMemory = codes "relay: out of memory"
-
 -- the line on standard error
 abbrev pub steps_end_line : StepsEnd → List ℕ
 steps_end_line ends.Done = []
 steps_end_line (ends.BadLine number) = codes "relay: bad line " ++ decimal number
-steps_end_line (ends.Refused fault) = refusal_text fault
+steps_end_line (ends.Refused fault) = codes "relay: " ++ fault_text fault
 steps_end_line ends.ReadFailed = codes "relay: read failed"
 steps_end_line ends.WriteFailed = codes "relay: write failed"
 steps_end_line ends.OutOfMemory = codes "relay: out of memory"

@@ -5,18 +5,13 @@ use Rattle.cursor.specs.declared.calls.Answer.{Answer}
 use Rattle.cursor.specs.declared.calls.Answer.TheVariants.{Appended, Refused, Closed, Attached, Taken, Detached}
 use Rattle.cursor.specs.declared.takes.Delivery.{Delivery}
 use Rattle.cursor.specs.declared.takes.Delivery.TheVariants as deliveries
-use Rattle.ring_steps.specs.declared.calls.Actor.{Actor}
-use Rattle.ring_steps.specs.declared.calls.Actor.TheVariants.{P, Seat}
 use Rattle.ring_steps.specs.declared.calls.Observed.{Observed}
 use Rattle.ring_steps.specs.declared.calls.Observed.TheVariants.{Load, Pin, Unpin, Begin, Finish, Length, Byte, Append, Close}
 use Rattle.ring_steps.specs.declared.words.Word.{Word}
 use Rattle.ring_steps.specs.declared.trace.Trace.{Trace}
 use Rattle.ring_steps.specs.declared.trace.TraceStep.{TraceStep}
 use Rattle.ring_steps.specs.declared.trace.TraceEvent.{TraceEvent}
-
-abbrev pub actor_text : Actor → List ℕ
-actor_text P = codes "p"
-actor_text (Seat seat) = decimal seat
+use Rattle.ring_steps.specs.Texts.{actor_text}
 
 abbrev pub bit_text : Bool → List ℕ
 bit_text true = codes "1"

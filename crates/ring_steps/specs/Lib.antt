@@ -11,3 +11,4 @@ pub mod Agreeing
 pub mod Traces
 pub mod Acting
 pub mod Atomic
+pub mod Texts

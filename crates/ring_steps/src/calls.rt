@@ -12,6 +12,11 @@ pub enum Actor {
 }
 
 impl fmt::Display for Actor {
+    ghost use Rattle.std.specs.Prelude.{Some};
+    ghost use Rattle.ring_steps.specs.Texts.{actor_text};
+
+    ghost output = { λ actor. Some (actor_text actor) };
+
     fn fmt<W: fmt::Write>(&self, f: &mut fmt::Formatter<W>) -> fmt::Result {
         match self {
             Actor::P => write!(f, "p"),

@@ -1,8 +1,8 @@
 //! How the command ends.
 ghost use Rattle.std.specs.Prelude.{◌≡◌, IfOk, string_bytes};
-ghost use Rattle.relay_main.specs.Steps.{steps_status, steps_end_line, refusal_text};
+ghost use Rattle.relay_main.specs.Steps.{steps_status, steps_end_line};
 
-use ring_steps::{Actor, StepFault};
+use ring_steps::StepFault;
 use std::alloc::{AllocError, Global};
 
 /// How a run of the command `steps` ended.
@@ -29,23 +29,9 @@ pub fn steps_end(alloc: Global, end: &StepsEnd) -> Result<(u8, String), AllocErr
     match end {
         StepsEnd::Done => Ok((0, String::new(alloc))),
         StepsEnd::BadLine(number) => Ok((1, format!(in alloc; "relay: bad line {number}")?)),
-        StepsEnd::Refused(fault) => Ok((1, refusal(alloc, *fault)?)),
+        StepsEnd::Refused(fault) => Ok((1, format!(in alloc; "relay: {fault}")?)),
         StepsEnd::ReadFailed => Ok((1, String::from_str(alloc, "relay: read failed")?)),
         StepsEnd::WriteFailed => Ok((1, String::from_str(alloc, "relay: write failed")?)),
         StepsEnd::OutOfMemory => Ok((1, String::from_str(alloc, "relay: out of memory")?)),
-    }
-}
-
-fn refusal(alloc: Global, fault: StepFault) -> Result<String, AllocError>
-    ensures { IfOk result (λ text. string_bytes text ≡ refusal_text fault) }
-{
-    match fault {
-        StepFault::BadConfig => String::from_str(alloc, "relay: bad config"),
-        StepFault::BadScript { actor, call } => match actor {
-            Actor::P => format!(in alloc; "relay: bad script p call {call}"),
-            Actor::Seat(seat) => format!(in alloc; "relay: bad script {seat} call {call}"),
-        },
-        StepFault::BadSchedule(place) => format!(in alloc; "relay: bad schedule at {place}"),
-        StepFault::OutOfMemory => String::from_str(alloc, "relay: out of memory"),
     }
 }

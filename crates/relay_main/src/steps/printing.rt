@@ -1,6 +1,7 @@
 //! The text of a trace.
 ghost use Rattle.std.specs.Prelude.{◌≡◌, ◌++◌, decimal, slice_get, OnOk};
-ghost use Rattle.relay_main.specs.TraceText.{actor_text, bit_text, word_text, saw_text, step_line, step_lines, pins_in, pins_of, delivery_text, answer_text, event_line, event_lines, trace_text};
+ghost use Rattle.ring_steps.specs.Texts.{actor_text};
+ghost use Rattle.relay_main.specs.TraceText.{bit_text, word_text, saw_text, step_line, step_lines, pins_in, pins_of, delivery_text, answer_text, event_line, event_lines, trace_text};
 ghost use Rattle.hex.specs.Hex.{encode_lower};
 
 use cursor::{Answer, Delivery};
