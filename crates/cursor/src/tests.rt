@@ -78,8 +78,7 @@ fn check(
 }
 
 #[test]
-fn rows_of_the_log(rt: HostRuntime) -> Result<(), Fail> {
-    // ring loses one
+fn a_seat_behind_loses_one(rt: HostRuntime) -> Result<(), Fail> {
     check(
         &rt,
         rt.alloc(),
@@ -107,8 +106,11 @@ fn rows_of_the_log(rt: HostRuntime) -> Result<(), Fail> {
             "empty",
             "detached 2 1 0",
         ],
-    )?;
-    // no seats
+    )
+}
+
+#[test]
+fn no_seats(rt: HostRuntime) -> Result<(), Fail> {
     check(
         &rt,
         rt.alloc(),
@@ -116,8 +118,11 @@ fn rows_of_the_log(rt: HostRuntime) -> Result<(), Fail> {
         0,
         &[(b'p', 65), (b'p', 66), (b'p', 67)],
         &["appended 0", "appended 1", "appended 2"],
-    )?;
-    // late seat
+    )
+}
+
+#[test]
+fn late_seat(rt: HostRuntime) -> Result<(), Fail> {
     check(
         &rt,
         rt.alloc(),
@@ -141,8 +146,11 @@ fn rows_of_the_log(rt: HostRuntime) -> Result<(), Fail> {
             "appended 3",
             "detached 0 0 1",
         ],
-    )?;
-    // close and ended
+    )
+}
+
+#[test]
+fn close_and_ended(rt: HostRuntime) -> Result<(), Fail> {
     check(
         &rt,
         rt.alloc(),
@@ -204,8 +212,7 @@ fn calls_that_may_not_be_made(rt: HostRuntime) -> Result<(), Fail> {
 }
 
 #[test]
-fn seats_and_what_is_kept(rt: HostRuntime) -> Result<(), Fail> {
-    // two seats at different places, of which one attaches again
+fn two_seats_at_different_places(rt: HostRuntime) -> Result<(), Fail> {
     check(
         &rt,
         rt.alloc(),
@@ -241,8 +248,11 @@ fn seats_and_what_is_kept(rt: HostRuntime) -> Result<(), Fail> {
             "detached 1 0 0",
             "detached 1 0 1",
         ],
-    )?;
-    // nothing is lost of as many packets as are kept
+    )
+}
+
+#[test]
+fn nothing_is_lost_of_what_is_kept(rt: HostRuntime) -> Result<(), Fail> {
     let alloc = rt.alloc();
     for (keep, lost) in [(1, 4095), (4095, 1)] {
         let mut log = PlainLog::new(alloc, keep, 1, 0)?;

@@ -6,7 +6,8 @@ use Rattle.std.proofs.lemmas.Bool.Decides.{eqb_tells}
 use Rattle.std.proofs.lemmas.List.{take_all}
 use Rattle.std.proofs.lemmas.List.Sums.{position_or_len_is}
 use Rattle.memchr.specs.Find.{NoneBefore, Nowhere, Passes, is_byte}
-use Rattle.relay_main.specs.Lines.{HasNone, HasNoLf, IsFirstLine, has_bytes}
+use Rattle.rtsp_message.specs.Lines.{HasNoLf}
+use Rattle.relay_main.specs.Lines.{HasNone, IsFirstLine, has_bytes}
 use Rattle.relay_main.specs.LineForms.{parts_at}
 
 -- where `memchr` finds a byte

@@ -1,14 +1,11 @@
 -- The lines of the input of the command `steps`.
 use Rattle.std.specs.Prelude.{◌≡◌, ◌==◌, ◌⊎◌, ℕ, Bool, true, false, List, [], ◌∷◌, ◌++◌}
 use Rattle.std.specs.List.{AllByRecursion}
+use Rattle.rtsp_message.specs.Lines.{HasNoLf}
 
 -- no byte of the text is this one
 abbrev pub HasNone : (byte : ℕ) → List ℕ → Type 0
 HasNone byte text = AllByRecursion (λ b. (b == byte) ≡ false) text
-
--- a line feed ends a line, and stands nowhere in it; a CR is a byte of it like any other
-abbrev pub HasNoLf : List ℕ → Type 0
-HasNoLf line = HasNone 10 line
 
 -- a line that isn't empty
 abbrev pub has_bytes : List ℕ → Bool
@@ -16,7 +13,7 @@ has_bytes [] = false
 has_bytes (b ∷ bs) = true
 
 -- The first line of a text, and the text behind it. An LF ends it, or the text does: what follows the last LF is a line
--- where it has bytes.
+-- where it has bytes. A CR is a byte of it like any other.
 pub record IsFirstLine (text line rest : List ℕ) : Type 0 where
   pub unbroken : HasNoLf line
   pub whole : (text ≡ line ++ 10 ∷ rest) ⊎ ((text ≡ line) × (rest ≡ []) × (has_bytes line ≡ true))
