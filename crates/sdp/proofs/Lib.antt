@@ -6,3 +6,4 @@ pub mod SoFar
 pub mod Refusals
 pub mod Again
 pub mod OneReading
+pub mod MediaForms

@@ -1,6 +1,7 @@
 pub mod Lines
 pub mod Fields
 pub mod Media
+pub mod MediaForm
 pub mod Sections
 pub mod Steps
 pub mod Faults

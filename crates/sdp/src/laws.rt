@@ -1,12 +1,21 @@
 //! What holds of each text that is read, and of each description that is written.
 
-ghost use Rattle.std.specs.Prelude.{◌≡◌, ◌≢◌, ◌<◌, length, List, ℕ};
+ghost use Rattle.std.specs.Prelude.{◌≡◌, ◌≢◌, ◌<◌, length, drop, List, ℕ, Some};
 ghost use Rattle.sdp.specs.declared.fault.SdpFault.{SdpFault};
 ghost use Rattle.sdp.specs.declared.fault.SdpFault.TheVariants.{OutOfMemory};
+ghost use Rattle.sdp.specs.declared.media.MediaLine.{MediaLine};
 ghost use Rattle.sdp.specs.declared.sections.Sections.{Sections};
+ghost use Rattle.sdp.specs.Media.{media_of};
+ghost use Rattle.sdp.specs.MediaForm.{IsMedia};
 ghost use Rattle.sdp.specs.Sections.{AreGood};
 ghost use Rattle.sdp.specs.Written.{description_text, AreSameTracks};
 ghost use Rattle.sdp.specs.Readings.{Reads, IsRefused};
+
+/// An `m=` line is found to name exactly what its form names (RFC 4566, 5.14).
+pub fn one_media()
+    ensures names { (line : List ℕ) (named : MediaLine) → media_of line ≡ Some named → IsMedia (drop 2 line) named }
+    ensures named { (line : List ℕ) (named : MediaLine) → IsMedia (drop 2 line) named → media_of line ≡ Some named }
+{}
 
 /// A text reads in one way: as one list of sections, or it is refused for one fault, and never both. Want of memory
 /// stands apart, since it may refuse any text.

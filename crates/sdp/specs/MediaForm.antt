@@ -1,0 +1,38 @@
+-- The form of an `m=` line, apart from how it is read (RFC 4566, 5.14: m=<media> <port>/<number of ports> <proto> <fmt> ..).
+use Rattle.std.specs.Prelude.{◌≡◌, ◌<◌, ◌≤◌, ◌-◌, ℕ, true, false, List, [], ◌∷◌, ◌++◌, length, codes, slice_index}
+use Rattle.std.specs.List.{All, AllPass}
+use Rattle.sdp.specs.declared.media.MediaLine.{MediaLine}
+use Rattle.sdp.specs.Media.{is_space, is_blank, is_port}
+
+-- one byte or more, and no space
+pub record IsWord (word : List ℕ) : Type 0 where
+  pub some : 1 ≤ length word
+  pub unbroken : All (λ b. is_space b ≡ false) word
+
+-- one or more spaces
+pub record AreSpaces (gap : List ℕ) : Type 0 where
+  pub some : 1 ≤ length gap
+  pub spaces : AllPass is_space gap
+
+-- words in order, with one or more spaces between two
+abbrev pub AreWords : List ℕ → List (List ℕ) → Type 0
+AreWords text [] = ⊥
+AreWords text (word ∷ []) = (text ≡ word) × IsWord word
+AreWords text (word ∷ next ∷ others) = (gap rest : List ℕ) × (text ≡ word ++ (gap ++ rest)) × IsWord word × AreSpaces gap × AreWords rest (next ∷ others)
+
+-- the last byte is neither a space nor a tab
+abbrev pub HasBareEnd : List ℕ → Type 0
+HasBareEnd text = (0 < length text) × (is_blank (slice_index text (length text - 1)) ≡ false)
+
+-- What stands behind `m=`: media, a port, the one protocol that this profile takes and one format or more, and spaces
+-- and tabs at the end that don't count.
+pub record IsMedia (value : List ℕ) (named : MediaLine) : Type 0 where
+  pub text : List ℕ
+  pub blanks : List ℕ
+  pub whole : value ≡ text ++ blanks
+  pub blank : AllPass is_blank blanks
+  pub ends : HasBareEnd text
+  pub port : List ℕ
+  pub good : is_port port ≡ true
+  pub words : AreWords text (named.media ∷ port ∷ codes "RTP/AVP" ∷ named.formats)
+  pub some : 1 ≤ length named.formats
