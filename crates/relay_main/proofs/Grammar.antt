@@ -58,7 +58,7 @@ digits_without : (b : ℕ) (text : List ℕ) → b < 48 → list_all is_ascii_di
 digits_without b [] low h = tt
 digits_without b (d ∷ ds) low h =
     let parts = and_parts (is_ascii_digit d) (list_all is_ascii_digit ds) h in
-    let range = and_parts _ _ parts.0 in
+    let range = and_parts (nat_le 48 d) (nat_le d 57) parts.0 in
     let least : 48 ≤ d = leb-true 48 d range.0 in
     (ne_eqb d b (λ e. omega (arith, e, least, low)), digits_without b ds low parts.1)
 
@@ -66,7 +66,7 @@ digits_without b (d ∷ ds) low h =
 past_digits : (b d : ℕ) (ds : List ℕ) → 57 < b → list_all is_ascii_digit (d ∷ ds) ≡ true → ((b == d) ≡ false) × ((d == b) ≡ false)
 past_digits b d ds high h =
     let parts = and_parts (is_ascii_digit d) (list_all is_ascii_digit ds) h in
-    let range = and_parts _ _ parts.0 in
+    let range = and_parts (nat_le 48 d) (nat_le d 57) parts.0 in
     let most : d ≤ 57 = leb-true d 57 range.1 in
     (ne_eqb b d (λ e. omega (arith, e, most, high)), ne_eqb d b (λ e. omega (arith, e, most, high)))
 

@@ -1,5 +1,6 @@
 -- Numbers of up to nine digits.
 use Rattle.std.proofs.Common.{◌≡◌, ℕ, ◌+◌, ◌-◌, ◌*◌, ◌^◌, ◌<◌, ◌≤◌, suc, true, List, [], ◌∷◌, length, fold, arith, subst}
+use Rattle.std.specs.Prelude.{nat_le}
 use Rattle.std.specs.List.{list_all}
 use Rattle.std.specs.Char.{is_ascii_digit}
 use Rattle.std.proofs.lemmas.Bool.{and_parts, leb-true}
@@ -11,7 +12,7 @@ below_power : (ds : List ℕ) (n k : ℕ) → list_all is_ascii_digit ds ≡ tru
 below_power [] n k digits below = subst (λ (e : ℕ). n < 10 ^ e) (omega arith) below
 below_power (d ∷ ds) n k digits below =
     let parts = and_parts (is_ascii_digit d) (list_all is_ascii_digit ds) digits in
-    let range = and_parts _ _ parts.0 in
+    let range = and_parts (nat_le 48 d) (nat_le d 57) parts.0 in
     let most : d ≤ 57 = leb-true d 57 range.1 in
     let next : n * 10 + (d - 48) < 10 ^ suc k = omega (arith, pow-suc 10 k) in
     subst (λ (e : ℕ). fold (λ m b. m * 10 + (b - 48)) (n * 10 + (d - 48)) ds < 10 ^ e) (omega arith) (below_power ds (n * 10 + (d - 48)) (suc k) parts.1 next)

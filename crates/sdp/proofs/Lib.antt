@@ -6,4 +6,5 @@ pub mod SoFar
 pub mod Refusals
 pub mod Again
 pub mod OneReading
+pub mod Ports
 pub mod MediaForms

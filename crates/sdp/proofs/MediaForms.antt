@@ -12,6 +12,7 @@ use Rattle.sdp.specs.declared.media.MediaLine.{MediaLine}
 use Rattle.sdp.specs.Media.{words, is_space, is_blank, is_port, without_end_blanks, names_transport, named_by, begins_with_space, media_of}
 use Rattle.sdp.specs.MediaForm.{IsWord, AreSpaces, AreWords, HasBareEnd, IsMedia}
 use Rattle.sdp.proofs.Cuts.{first_word}
+use Rattle.sdp.proofs.Ports.{port_tells, port_is}
 
 -- blanks at the end of a text
 trimmed_is : (text blanks : List ℕ) → HasBareEnd text → AllPass is_blank blanks → without_end_blanks (text ++ blanks) ≡ text
@@ -235,7 +236,7 @@ media_tells line named e = elim (cases_Bool (begins_with_space (drop 2 line))) [
         blank = trimmed_off value;
         ends = ends;
         port = p.port;
-        good = p.good;
+        good = port_tells p.port p.good;
         words = spaced (p.port ∷ codes "RTP/AVP" ∷ named.formats) text named.media p.are head ends;
         some = p.some;
       }
@@ -255,4 +256,4 @@ media_is_found line named p =
     ap (λ (l : List ℕ). is_space (get_or l 0 0)) p.whole ∙ ap is_space (get_or_append_left p.text p.blanks 0 0 p.ends.0) ∙ first_of p.text named.media (p.port ∷ codes "RTP/AVP" ∷ named.formats) p.words in
     let bare = begins_so value head in
     let are = words_are p.text (named.media ∷ p.port ∷ codes "RTP/AVP" ∷ named.formats) p.words in
-    rw (bare, text_is, are) (named_is named.media p.port named.formats p.good p.some)
+    rw (bare, text_is, are) (named_is named.media p.port named.formats (port_is p.port p.good) p.some)

@@ -1,8 +1,9 @@
 -- The form of an `m=` line, apart from how it is read (RFC 4566, 5.14: m=<media> <port>/<number of ports> <proto> <fmt> ..).
-use Rattle.std.specs.Prelude.{◌≡◌, ◌<◌, ◌≤◌, ◌-◌, ℕ, true, false, List, [], ◌∷◌, ◌++◌, length, codes, slice_index}
+use Rattle.std.specs.Prelude.{◌≡◌, ◌<◌, ◌≤◌, ◌-◌, ℕ, false, List, [], ◌∷◌, ◌++◌, ◌⊎◌, length, codes, slice_index}
 use Rattle.std.specs.List.{All, AllPass}
+use Rattle.std.specs.Char.{is_ascii_digit}
 use Rattle.sdp.specs.declared.media.MediaLine.{MediaLine}
-use Rattle.sdp.specs.Media.{is_space, is_blank, is_port}
+use Rattle.sdp.specs.Media.{is_space, is_blank, decimal_value}
 
 -- one byte or more, and no space
 pub record IsWord (word : List ℕ) : Type 0 where
@@ -20,6 +21,21 @@ AreWords text [] = ⊥
 AreWords text (word ∷ []) = (text ≡ word) × IsWord word
 AreWords text (word ∷ next ∷ others) = (gap rest : List ℕ) × (text ≡ word ++ (gap ++ rest)) × IsWord word × AreSpaces gap × AreWords rest (next ∷ others)
 
+-- one or more digits
+pub record IsNumeral (text : List ℕ) : Type 0 where
+  pub digits : AllPass is_ascii_digit text
+  pub some : 1 ≤ length text
+
+-- at most five digits, of a value up to 65,535
+pub record IsPortNumber (text : List ℕ) : Type 0 where
+  pub numeral : IsNumeral text
+  pub short : length text ≤ 5
+  pub most : decimal_value text ≤ 65535
+
+-- a port, and after a slash the number of ports, if it is given
+abbrev pub IsPort : List ℕ → Type 0
+IsPort text = IsPortNumber text ⊎ ((port count : List ℕ) × (text ≡ port ++ 47 ∷ count) × IsPortNumber port × IsNumeral count)
+
 -- the last byte is neither a space nor a tab
 abbrev pub HasBareEnd : List ℕ → Type 0
 HasBareEnd text = (0 < length text) × (is_blank (slice_index text (length text - 1)) ≡ false)
@@ -33,6 +49,6 @@ pub record IsMedia (value : List ℕ) (named : MediaLine) : Type 0 where
   pub blank : AllPass is_blank blanks
   pub ends : HasBareEnd text
   pub port : List ℕ
-  pub good : is_port port ≡ true
+  pub good : IsPort port
   pub words : AreWords text (named.media ∷ port ∷ codes "RTP/AVP" ∷ named.formats)
   pub some : 1 ≤ length named.formats
