@@ -21,8 +21,8 @@ fn main(rt: HostRuntime) -> anyhow::Result<ExitCode> {
     let words: Vec<String> = std::env::args(&rt)?.collect(alloc)?;
     match command(alloc)?.try_get_matches_from(words.as_slice()) {
         Ok(matches) => match matches.subcommand_name() {
-            Some("steps") => run_standard_input(&rt),
-            _ => answer_standard_input(&rt),
+            Some("steps") => steps_on_standard_streams(&rt),
+            _ => talk_on_standard_streams(&rt),
         },
         Err(error) => {
             error.print(&rt)?;
@@ -61,27 +61,29 @@ fn command<'a>(alloc: Global) -> Result<Command<'a>, AllocError> {
 }
 
 /// Runs `relay talk`.
-fn answer_standard_input(rt: &HostRuntime) -> anyhow::Result<ExitCode> {
+fn talk_on_standard_streams(rt: &HostRuntime) -> anyhow::Result<ExitCode> {
     let alloc = rt.alloc();
     let reader = Reading::new(rt.stdin());
     let mut writer = Writing::new(rt.stdout());
     let end = run_talk(alloc, reader, &mut writer, &mut FixedWord(0));
     let (status, line) = talk_end(alloc, &end)?;
-    if status != 0 {
-        rt.eprintln(&line)?;
-    }
-    Ok(ExitCode::from(status))
+    exit(rt, status, &line)
 }
 
 /// Runs `relay steps`.
-fn run_standard_input(rt: &HostRuntime) -> anyhow::Result<ExitCode> {
+fn steps_on_standard_streams(rt: &HostRuntime) -> anyhow::Result<ExitCode> {
     let alloc = rt.alloc();
     let reader = Reading::new(rt.stdin());
     let mut writer = Writing::new(rt.stdout());
     let end = run_steps(alloc, reader, &mut writer);
     let (status, line) = steps_end(alloc, &end)?;
+    exit(rt, status, &line)
+}
+
+/// The exit code of a status. Behind status 0 nothing stands on standard error.
+fn exit(rt: &HostRuntime, status: u8, line: &str) -> anyhow::Result<ExitCode> {
     if status != 0 {
-        rt.eprintln(&line)?;
+        rt.eprintln(line)?;
     }
     Ok(ExitCode::from(status))
 }
