@@ -1,8 +1,9 @@
 //! Worked exchanges, byte for byte.
+use crate::decide::decide;
 use crate::talk::{TalkEnd, run_talk, talk_end};
 use crate::words::{FixedWord, Words};
 use interleaved::{ListSink, ListSource, Sink, Source};
-use rtsp_message::Fault;
+use rtsp_message::{Fault, Reader, Status, Unit};
 use std::alloc::Global;
 use std::process::Abort;
 use std::test::Fail;
@@ -227,5 +228,18 @@ fn ends_are_reported(rt: HostRuntime) -> Result<(), Fail> {
         assert_eq!(rt; line.as_str(), text);
     }
     assert_eq!(rt; FixedWord(7).word(), 7);
+    Ok(())
+}
+
+#[test]
+fn a_request_is_decided(rt: HostRuntime) -> Result<(), Fail> {
+    let alloc = rt.alloc();
+    let mut reader = Reader::new(alloc);
+    let fed = reader.feed(OPTIONS)?;
+    let Some(Unit::Message(request)) = fed.units.first() else {
+        return Err("a request".into());
+    };
+    let reply = decide(alloc, request)?;
+    assert!(rt; reply.status == Status::Ok && reply.cseq == Some(1));
     Ok(())
 }

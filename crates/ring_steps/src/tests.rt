@@ -131,3 +131,16 @@ fn steps_lost(rt: HostRuntime) {
         ],
     );
 }
+
+#[test]
+fn bytes_are_kept_in_order(rt: HostRuntime) {
+    let mut bytes = Bytes::empty(rt.alloc());
+    bytes.push(1).expect(&rt, "memory");
+    bytes.put(1, 2).expect(&rt, "memory");
+    bytes.put(0, 3).expect(&rt, "memory");
+    assert_eq!(rt; bytes.as_slice(), [3, 2].as_slice());
+    assert!(rt; bytes.len() == 2 && bytes.at(1) == 2 && bytes.at(2) == 0);
+    bytes.clear();
+    bytes.push(4).expect(&rt, "memory");
+    assert_eq!(rt; bytes.into_vec().as_slice(), [4].as_slice());
+}

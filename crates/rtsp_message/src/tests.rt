@@ -1,7 +1,7 @@
 //! Streams in pieces, replies by their bytes.
 use crate::{
     ByteClass, Fault, Fed, Fields, Header, Headers, Intake, Next, Reader, Reply, Request, Status,
-    Text, Unit, put_plain, put_reply,
+    Text, Unit, put_plain, put_reply, read_number,
 };
 use interleaved::ListSource;
 use std::alloc::Global;
@@ -293,5 +293,14 @@ fn faults_have_numbers_and_words(rt: HostRuntime) -> Result<(), Fail> {
         assert_eq!(rt; fault.number(), number);
         assert_eq!(rt; fault.to_string(rt.alloc())?.as_str(), words);
     }
+    Ok(())
+}
+
+#[test]
+fn numbers_up_to_a_limit(rt: HostRuntime) -> Result<(), Fail> {
+    assert_eq!(rt; read_number(b"007", 7), Some(7));
+    assert_eq!(rt; read_number(b"8", 7), None);
+    assert_eq!(rt; read_number(b"", 7), None);
+    assert_eq!(rt; read_number(b"7x", 7), None);
     Ok(())
 }

@@ -1,7 +1,7 @@
 //! Worked runs, byte for byte, and each way to refuse an input.
-use super::{StepsEnd, run_steps, steps_end};
+use super::{PlanFault, StepsEnd, put_trace, read_plan, run_steps, script_of, steps_end};
 use interleaved::{ListSink, ListSource};
-use ring_steps::{Actor, StepFault};
+use ring_steps::{Actor, StepFault, run};
 use std::alloc::Global;
 use std::process::Abort;
 use std::test::Fail;
@@ -49,6 +49,22 @@ fn expect_end(rt: &impl Abort, alloc: Global, input: &[u8], want: StepsEnd) -> R
     let (out, end) = steps(alloc, input, 100_000, None, 10_000)?;
     assert!(rt; end == want, "{end:?}");
     assert!(rt; out.as_slice().is_empty());
+    Ok(())
+}
+
+#[test]
+fn a_plan_is_read_run_and_told(rt: HostRuntime) -> Result<(), Fail> {
+    let alloc = rt.alloc();
+    let plan = read_plan(alloc, LOST).ok().ok_or("a plan")?;
+    let script = script_of(alloc, 1, plan.calls)?;
+    let schedule = plan.schedule.as_slice();
+    let trace = run(alloc, &plan.config, &script, schedule)
+        .ok()
+        .ok_or("a run")?;
+    let mut text = Vec::new(alloc);
+    put_trace(&mut text, &trace)?;
+    assert_eq!(rt; text.as_slice(), LOST_TRACE);
+    assert!(rt; read_plan(alloc, b"keep 2\nkeep 2\n").err() == Some(PlanFault::BadLine(2)));
     Ok(())
 }
 
