@@ -10,7 +10,7 @@ use Rattle.cursor.specs.declared.calls.Answer.TheVariants.{Appended, Refused, Cl
 use Rattle.cursor.specs.Log.{Event}
 use Rattle.cursor.specs.Account.{StaysAttached, account_of, cursor_of, lost, received, take_of, takes_of, with_answers}
 use Rattle.cursor.specs.Plain.{Plain, PlainEvent, PlainRun, HasAccount}
-use Rattle.cursor.specs.Counting.{account_after_take, read_place}
+use Rattle.cursor.proofs.Counting.{account_after_take, read_place}
 use Rattle.cursor.proofs.Counted.{same_account, with_answers-append, with_answers-none, with_answers-one}
 use Rattle.cursor.proofs.Attachments.{read_other}
 use Rattle.cursor.proofs.Plains.{cursor_at}

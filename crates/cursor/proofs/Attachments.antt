@@ -10,7 +10,7 @@ use Rattle.cursor.specs.declared.calls.Answer.{Answer}
 use Rattle.cursor.specs.declared.calls.Answer.TheVariants.{Appended, Refused, Closed, Attached, Taken, Detached}
 use Rattle.cursor.specs.Log.{Log, LogEvent, Event, Run, with_cursor, empty_log}
 use Rattle.cursor.specs.Account.{Attachment, StaysAttached, account_of, cursor_of, lost, received, take_of, takes_of}
-use Rattle.cursor.specs.Counting.{read_place}
+use Rattle.cursor.proofs.Counting.{read_place}
 
 -- from the cursor c on these answers lead to the cursor e, over these packets
 abbrev pub Settles : List Packet → (c : ℕ) → List Delivery → (e : ℕ) → Type 0

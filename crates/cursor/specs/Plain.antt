@@ -10,6 +10,7 @@ use Rattle.cursor.specs.declared.refusals.Refused as refusals
 use Rattle.cursor.specs.declared.refusals.Refused.TheVariants as refusal
 use Rattle.cursor.specs.Log.{Log, LogEvent, Event}
 use Rattle.cursor.specs.Account.{counted, cursor_of}
+use Rattle.cursor.specs.Taps.{Counts}
 
 -- a plain log: what it keeps for its seats, the longest packet that it takes, all packets in order,
 -- whether it is closed, and each seat's account, or None where the seat isn't attached
@@ -88,10 +89,11 @@ pub record Tapped : Type 0 where
 abbrev pub tapped_account : Tapped → Account
 tapped_account tap = unwrap_or (slice_index_or tap.log.seats tap.seat None) (record { start = 0; taken = 0; lost = 0 })
 
--- a take of the tap is a take of its seat
+-- a take of the tap is a take of its seat, whose account goes on by the answer
 pub record TakesFrom (old : Tapped) (answer : Delivery) (new : Tapped) : Type 0 where
   pub event : PlainEvent old.log (Take old.seat) (Taken answer) new.log
   pub seat : new.seat ≡ old.seat
+  pub counts : Counts (tapped_account old) answer (tapped_account new)
 
 -- these events of a plain log may follow one another, from old to new
 abbrev pub PlainRun : (old : Plain) → List Event → (new : Plain) → Type 0

@@ -4,9 +4,10 @@ ghost use Rattle.std.specs.Prelude.{◌≡◌, ◌+◌, ◌<◌, ◌≤◌, ◌=
 ghost use Rattle.std.specs.Prelude.{length, count_by, slice_get, slice_range};
 ghost use Rattle.std.specs.List.Sorted.{IsStrictlyIncreasing};
 ghost use Rattle.cursor.specs.declared.takes.Left.{Left};
-ghost use Rattle.cursor.specs.Log.{Log, Event, attached_at, detached_with, empty_log};
+ghost use Rattle.cursor.specs.Log.{Log, Event, LegalHistory, attached_at, detached_with, empty_log};
 ghost use Rattle.cursor.specs.Account.{Attachment, StaysAttached, account_of, cursor_of, lies_in, losses};
 ghost use Rattle.cursor.specs.Account.{lost, positions, received, takes_of, without};
+ghost use Rattle.cursor.specs.Player.{PlayersReceive};
 ghost use Rattle.cursor.specs.Plain.{Plain, PlainRun, HasAccount, empty_plain, log_of};
 
 /// The cursor of an attached seat is its start, the packets that it took and those that it lost.
@@ -41,6 +42,15 @@ pub fn received_in_order()
         → let answers = takes_of seat during in
         let cursor = cursor_of (account_of start answers) in
         received answers ≡ without (losses start answers) start (slice_range log.packets start cursor) }
+{}
+
+/// In a legal history each attachment gives its seat, in order, the log from its start less exactly its
+/// losses, and no take of a seat stands between its detachment and its next attachment, or before the
+/// first one.
+pub fn players_receive_the_log()
+    ensures { (keep seats : ℕ) (events : List Event) (log : Log)
+        → LegalHistory keep seats events log
+        → PlayersReceive events log.packets }
 {}
 
 /// A new plain log is the empty log.

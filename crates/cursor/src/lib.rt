@@ -20,7 +20,7 @@ pub use calls::{Answer, Call};
 pub use feeds::Feed;
 pub use histories::run;
 pub use list_tap::ListTap;
-pub use packets::{Packet, Payload};
+pub use packets::Packet;
 pub use plain_feed::PlainFeed;
 pub use plain_log::PlainLog;
 pub use plain_tap::PlainTap;

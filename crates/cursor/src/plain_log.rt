@@ -6,9 +6,10 @@ ghost use Rattle.cursor.specs.Plain.{empty_plain, PlainEvent, PlainMayRefuse, Is
 ghost use Rattle.cursor.specs.Taps.{delivery_of, FitsBuffer};
 
 use super::calls::{Answer, Call};
-use super::packets::{Packet, Payload};
+use super::packets::Packet;
 use super::refusals::Refused;
 use super::takes::{Account, Left, Taken, copy_front};
+use base_syntax::Bytes;
 use std::alloc::{AllocError, Global};
 use std::marker::Model;
 
@@ -70,7 +71,7 @@ impl PlainLog {
             return Err(Refused::TooLong);
         }
         let number = self.packets.len() as u64;
-        let bytes = Payload::new(Vec::from_slice(self.alloc, bytes)?);
+        let bytes = Bytes::from_slice(self.alloc, bytes)?;
         self.packets.push(Packet { tag, bytes })?;
         Ok(number)
     }

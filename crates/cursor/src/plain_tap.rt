@@ -43,7 +43,6 @@ impl PlainTap {
 
 impl Tap for PlainTap {
     ghost use Rattle.cursor.specs.Plain.{tapped_account, TakesFrom};
-    ghost use Rattle.cursor.specs.Counting.{counts_tapped};
 
     ghost account = { tapped_account };
 
@@ -67,5 +66,5 @@ impl Tap for PlainTap {
         self.log.packet_bytes()
     }
 
-    ghost counts = { counts_tapped };
+    ghost counts = { λ old d new h. h.counts };
 }

@@ -5,7 +5,7 @@ ghost use Rattle.cursor.specs.Account.{received, with_answers};
 ghost use Rattle.cursor.specs.Taps.{Takes, IsUpTo, AllGoOn};
 
 use super::packets::Packet;
-use super::takes::{Account, Delivery};
+use super::takes::{Account, Delivery, Taken};
 use super::taps::Tap;
 use std::alloc::{AllocError, Global};
 
@@ -61,12 +61,16 @@ fn make_room<T: Tap>(alloc: Global, tap: &T, out: &mut Vec<Packet>) -> Result<Ve
     Ok(room)
 }
 
-/// One take, with the packet itself, whose bytes are cut from the room that was made.
+/// One take, with the packet itself. It keeps no more of the room that was made than its bytes need.
 fn take_into<T: Tap>(tap: &mut T, mut room: Vec<u8>) -> Delivery
     requires { T.packet_bytes tap.old ≤ vec_len room }
     ensures gives { T.take_gives tap.old result tap.new }
     ensures same { T.packet_bytes tap.new ≡ T.packet_bytes tap.old }
 {
     let taken = tap.take(room.as_mut_slice());
+    if let Taken::Packet { len, .. } = taken {
+        room.truncate(len);
+        room.shrink_to_fit();
+    }
     taken.delivery(room)
 }

@@ -1,6 +1,7 @@
 ghost use Rattle.std.specs.Prelude.{◌≡◌, ◌<◌, ◌≤◌, ◌^◌, length, take};
 
-use super::packets::{Packet, Payload};
+use super::packets::Packet;
+use base_syntax::Bytes;
 
 /// What a take answers. The packet's bytes are in the buffer that was handed in.
 #[derive(Clone, Copy, Debug, PartialEq, Eq)]
@@ -67,7 +68,7 @@ impl Taken {
         match self {
             Taken::Packet { number, tag, len } => {
                 buffer.truncate(len);
-                let bytes = Payload::new(buffer);
+                let bytes = Bytes::new(buffer);
                 Delivery::Got {
                     number,
                     packet: Packet { tag, bytes },

@@ -1,6 +1,7 @@
 ghost use Rattle.std.specs.Prelude.{◌≡◌, IfOk};
 
 use super::*;
+use base_syntax::Bytes;
 use std::alloc::{AllocError, Global};
 use std::process::Abort;
 use std::test::Fail;
@@ -9,7 +10,7 @@ use std::test::Fail;
 fn packet(alloc: Global, bytes: &[u8]) -> Result<Packet, AllocError>
     ensures { IfOk result (λ p. p.bytes ≡ bytes.now) }
 {
-    let bytes = Payload::new(bytes.to_vec(alloc)?);
+    let bytes = Bytes::new(bytes.to_vec(alloc)?);
     Ok(Packet { tag: 0, bytes })
 }
 
@@ -304,6 +305,24 @@ fn a_feed_takes_packets_up_to_its_bound(rt: HostRuntime) -> Result<(), Fail> {
 }
 
 #[test]
+fn a_pumped_packet_keeps_no_more_room_than_its_bytes(rt: HostRuntime) -> Result<(), Fail> {
+    let alloc = rt.alloc();
+    let mut log = PlainLog::new(alloc, 2, 1, 65_535)?;
+    log.attach(0);
+    assert!(rt; !log.is_closed());
+    let _ = log.publish(0, b"abc")?;
+    assert!(rt; log.is_attached(0));
+    let mut tap = PlainTap::new(log, 0);
+    let mut out = Vec::new(alloc);
+    let _ = pump(alloc, &mut tap, 1, &mut out).map_err(|stopped| stopped.takes)?;
+    let packet = out.pop().ok_or("no packet")?;
+    let bytes = packet.bytes.into_vec();
+    assert_eq!(rt; bytes.as_slice(), b"abc".as_slice());
+    assert!(rt; bytes.capacity() <= 3);
+    Ok(())
+}
+
+#[test]
 fn a_pump_takes_up_to_the_end(rt: HostRuntime) -> Result<(), Fail> {
     let alloc = rt.alloc();
     let mut log = PlainLog::new(alloc, 2, 1, 1)?;
@@ -373,7 +392,7 @@ fn a_list_is_taken_and_then_ended(rt: HostRuntime) -> Result<(), Fail> {
 }
 
 #[test]
-fn refusals_and_bytes(rt: HostRuntime) -> Result<(), Fail> {
+fn a_refusal_has_its_number_and_words(rt: HostRuntime) -> Result<(), Fail> {
     let alloc = rt.alloc();
     let refusals = [
         (Refused::Pinned { pins: 3 }, 1, "pinned by 3"),
@@ -386,9 +405,35 @@ fn refusals_and_bytes(rt: HostRuntime) -> Result<(), Fail> {
         assert_eq!(rt; written.as_str(), text);
         assert_eq!(rt; refused.number(), number);
     }
-    let payload = Payload::new([7, 8].to_vec(alloc)?);
-    assert_eq!(rt; (payload.len(), payload.is_empty()), (2, false));
-    let bytes = payload.into_vec();
-    assert_eq!(rt; bytes.as_slice(), [7, 8].as_slice());
     Ok(())
+}
+
+#[test]
+fn a_pump_of_many_packets(rt: HostRuntime) -> Result<(), Fail> {
+    let alloc = rt.alloc();
+    let mut log = PlainLog::new(alloc, 4096, 1, 2)?;
+    log.attach(0);
+    for _ in 0..1000 {
+        assert!(rt; !log.is_closed());
+        let _ = log.publish(0, b"ab")?;
+    }
+    assert!(rt; log.is_attached(0));
+    let mut tap = PlainTap::new(log, 0);
+    let mut out = Vec::new(alloc);
+    let account = pump(alloc, &mut tap, 2000, &mut out).map_err(|stopped| stopped.takes)?;
+    assert_eq!(rt; (account.taken, account.lost), (1000, 0));
+    assert_eq!(rt; out.len(), 1000);
+    Ok(())
+}
+
+#[test]
+fn the_laws_are_called() {
+    laws::cursor_adds_up();
+    laws::positions_rise();
+    laws::each_number_once();
+    laws::received_in_order();
+    laws::players_receive_the_log();
+    laws::new_is_empty();
+    laws::accounts_are_received();
+    laws::left_is_received();
 }

@@ -1,5 +1,5 @@
 -- What the devices in memory are. What every device is, the traits `Source` and `Sink` say.
-use Rattle.std.specs.Prelude.{◌≡◌, ℕ, ◌<◌, ◌⊎◌, List, Option, Bool, true, Some}
+use Rattle.std.specs.Prelude.{◌≡◌, ℕ, ◌<◌, ◌≤◌, ◌⊎◌, List, ◌++◌, Option, Bool, true, Some, length, drop}
 
 -- a source in memory: its bytes, how many of them it gave, how many it gives in one read at most, after how many of them it fails, if it does,
 -- and whether it has
@@ -9,6 +9,12 @@ pub record ListState : Type 0 where
   pub piece : ℕ
   pub fail_at : Option ℕ
   pub failed : Bool
+
+-- one read gave these bytes: the next of those still to come, at most a piece of them; and the source's own bytes,
+-- its piece and the place where it fails stay
+abbrev pub GivesPiece : ListState → List ℕ → ListState → Type 0
+GivesPiece old bytes new = (length bytes ≤ old.piece) × (drop old.given old.bytes ≡ bytes ++ drop new.given new.bytes)
+    × (new.bytes ≡ old.bytes) × (new.piece ≡ old.piece) × (new.fail_at ≡ old.fail_at)
 
 -- a read into a buffer of so many bytes is refused: the source has failed, or it has come to the place where it fails and there is room to read into
 abbrev pub RefusesRead : ListState → ℕ → Type 0

@@ -1,5 +1,5 @@
 //! What a device is: where bytes come from, or go to.
-ghost use Rattle.std.specs.Prelude.{◌≡◌, ℕ, ◌+◌, ◌^◌, ◌<◌, ◌≤◌, List, Option, Bool, true, false, length, take, IfOk, OnOk, OnErr};
+ghost use Rattle.std.specs.Prelude.{◌≡◌, ℕ, ◌+◌, ◌^◌, ◌<◌, ◌≤◌, List, [], Option, Bool, true, false, length, take, IfOk, OnOk, OnErr};
 ghost use Rattle.std.specs.Io.KnownBytes.{Keeps, Appends, Consumes, IsAtEnd};
 
 use std::error::Error;
@@ -35,17 +35,23 @@ pub trait Source {
     /// It has refused a call.
     ghost failed: { Self → Bool };
 
+    /// One call of `read` may lead from the one to the other and give these bytes, none where it is
+    /// refused.
+    ghost gives: { Self → List ℕ → Self → Type 0 };
+
     /// Reads bytes to the front of `buf` and says how many: 0 into a buffer that isn't empty is the
     /// end. `Failed` where the device fails now or failed before.
     fn read(&mut self, buf: &mut [u8]) -> Result<usize, Failed>
         ensures count { IfOk result (λ n. n ≤ length buf.new) }
         ensures bytes { IfOk result (λ n. Consumes (incoming self.old) (incoming self.new) (take n buf.new)) }
+        ensures gave { IfOk result (λ n. gives self.old (take n buf.new) self.new) }
         ensures end { IfOk result (λ n. n ≡ 0 → 0 < length buf.new → IsAtEnd (incoming self.new)) }
         ensures left { IfOk result (λ n. bound self.new + n ≡ bound self.old) }
         ensures working { OnOk result ((failed self.old ≡ false) × (failed self.new ≡ false)) }
 
         ensures refused { OnErr result (failed self.new ≡ true) }
         ensures refused_moves_none { OnErr result (Keeps (incoming self.old) (incoming self.new)) }
+        ensures refused_gave { OnErr result (gives self.old [] self.new) }
         ensures refused_left { OnErr result (bound self.new ≡ bound self.old) }
         ensures stays { failed self.old ≡ true → self.new ≡ self.old };
 

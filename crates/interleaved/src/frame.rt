@@ -1,8 +1,8 @@
 //! Blocks of binary data that stand between the messages of a connection (RFC 2326, 10.12).
-ghost use Rattle.std.specs.Prelude.{◌≡◌, ◌↔◌, ◌<◌, ◌++◌, length, OnOk, OnErr};
+ghost use Rattle.std.specs.Prelude.{◌≡◌, ◌↔◌, ℕ, ◌<◌, List, ◌++◌, length, OnOk, OnErr};
 ghost use Rattle.interleaved.specs.Frame.{IsFrame, MayBeginFrame, StandsAt, frame_of, head_of};
 
-use super::payload::Payload;
+use base_syntax::Bytes;
 use std::alloc::AllocError;
 use std::error::Error;
 use std::fmt;
@@ -19,7 +19,7 @@ pub struct Frame {
     /// The channel that the data belongs to, as SETUP gave it.
     pub channel: u8,
     /// The data, at most 65,535 bytes in a frame that came from a connection.
-    pub payload: Payload,
+    pub payload: Bytes,
 }
 
 /// What stands at the front of some bytes where a frame may begin.
@@ -90,7 +90,7 @@ pub fn frame_head(channel: u8, len: u16) -> [u8; FRAME_HEAD]
 /// Appends the frame of the data on the channel. After a refusal `out` is as it was.
 pub fn put_frame(out: &mut Vec<u8>, channel: u8, payload: &[u8]) -> Result<(), PutFault>
     ensures ok { OnOk result (out.new.items ≡ out.old.items ++ frame_of channel payload.now) }
-    ensures frame { OnOk result (IsFrame (frame_of channel payload.now) channel payload.now) }
+    ensures frame { OnOk result ((block : List ℕ) × (out.new.items ≡ out.old.items ++ block) × IsFrame block channel payload.now) }
     ensures too_long { (result ≡ Err PutFault.TooLong) ↔ (65_535 < length payload.now) }
     ensures err { OnErr result (out.new.items ≡ out.old.items) }
 {

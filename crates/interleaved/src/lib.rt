@@ -7,7 +7,6 @@ mod frame;
 mod laws;
 mod list_sink;
 mod list_source;
-mod payload;
 mod reading;
 #[cfg(test)]
 mod tests;
@@ -19,7 +18,6 @@ pub use frame::{FRAME_HEAD, Frame, FrameAt, PutFault, frame_at, frame_head, put_
 pub use laws::no_frame_begins_another;
 pub use list_sink::ListSink;
 pub use list_source::ListSource;
-pub use payload::Payload;
 pub use reading::Reading;
 pub use whole_write::{WriteCut, write_all};
 pub use writing::Writing;

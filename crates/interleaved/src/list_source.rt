@@ -1,6 +1,6 @@
 //! A source in memory.
 ghost use Rattle.std.specs.Prelude.{◌≡◌, ◌↔◌, ◌+◌, ◌<◌, ◌≤◌, ◌⊎◌, ◌++◌, [], Some, true, false, length, take, drop, IfOk, OnOk, OnErr, IfSome, IsErr};
-ghost use Rattle.interleaved.specs.Devices.{RefusesRead};
+ghost use Rattle.interleaved.specs.Devices.{GivesPiece, RefusesRead};
 
 use super::device::{Failed, Source};
 use std::marker::Model;
@@ -69,6 +69,8 @@ impl Source for ListSource {
 
     ghost failed = { λ s. s.failed };
 
+    ghost gives = { GivesPiece };
+
     /// At most a piece, up to the end or the place where it fails. Refused exactly where `RefusesRead`
     /// says.
     fn read(&mut self, buf: &mut [u8]) -> Result<usize, Failed>
@@ -79,10 +81,12 @@ impl Source for ListSource {
         ensures working { OnOk result ((self.old.failed ≡ false) × (self.new.failed ≡ false)) }
 
         ensures piece { IfOk result (λ n. n ≤ self.old.piece) }
-        ensures gave { IfOk result (λ n. self.new ≡ record self.old { given = self.old.given + n }) }
+        ensures gave { IfOk result (λ n. GivesPiece self.old (take n buf.new) self.new) }
+        ensures moved { IfOk result (λ n. self.new ≡ record self.old { given = self.old.given + n }) }
         ensures place { IfSome self.new.fail_at (λ place. self.new.given ≤ place) }
 
         ensures refused { OnErr result (self.new ≡ record self.old { failed = true }) }
+        ensures refused_gave { OnErr result (GivesPiece self.old [] self.new) }
         ensures refused_where { IsErr result ↔ RefusesRead self.old (length buf.old) }
     {
         if self.failed || (!buf.is_empty() && self.fail_at == Some(self.given)) {

@@ -1,5 +1,6 @@
 //! A source over one of std's readers.
 ghost use Rattle.std.specs.Prelude.{◌≡◌, ◌^◌, ◌≤◌, true, false};
+ghost use Rattle.std.specs.Io.KnownBytes.{Consumes};
 
 use super::device::{Failed, Source};
 use std::io::Read;
@@ -47,6 +48,8 @@ impl<R: Read + Drop> Source for Reading<R> {
     ghost bound = { λ r. r.left };
 
     ghost failed = { λ r. r.failed };
+
+    ghost gives = { λ old bytes new. Consumes (R.remaining old.inner) (R.remaining new.inner) bytes };
 
     fn read(&mut self, buf: &mut [u8]) -> Result<usize, Failed> {
         if self.failed {

@@ -1,8 +1,9 @@
 //! Devices that fail at each place, and over std's readers and writers; frames by their bytes.
 use super::{
-    Failed, Frame, FrameAt, ListSink, ListSource, Payload, PutFault, Reading, Sink, Source,
-    WriteCut, Writing, frame_at, frame_head, no_frame_begins_another, put_frame, write_all,
+    Failed, Frame, FrameAt, ListSink, ListSource, PutFault, Reading, Sink, Source, WriteCut,
+    Writing, frame_at, frame_head, no_frame_begins_another, put_frame, write_all,
 };
+use base_syntax::Bytes;
 use std::alloc::{AllocError, Global};
 use std::io;
 use std::io::{Cursor, Read, Write};
@@ -195,7 +196,7 @@ fn frames_by_their_bytes(rt: HostRuntime) -> Result<(), Fail> {
 
     let frame = Frame {
         channel: 2,
-        payload: Payload::new(Vec::from_slice(rt.alloc(), &[0xaa, 0xbb])?),
+        payload: Bytes::from_slice(rt.alloc(), &[0xaa, 0xbb])?,
     };
     assert_eq!(rt; frame.payload.as_slice(), [0xaa, 0xbb].as_slice());
     assert_eq!(rt; frame.payload.into_vec().len(), 2);

@@ -1,6 +1,6 @@
 -- What a line is found to say is what its form says.
 use Rattle.std.proofs.Common.{◌≡◌, ◌==◌, ℕ, ◌<◌, ◌≤◌, Bool, true, false, if◌then◌else◌, List, [], ◌∷◌, ◌++◌, Option, None, Some, Ok, Err, Result, length, drop, replicate, codes, inl, inr, refl, sym, ap, subst, ◌∙◌, arith}
-use Rattle.std.specs.Prelude.{◌&&◌, nat_eq, nat_le}
+use Rattle.std.specs.Prelude.{nat_eq, nat_le}
 use Rattle.std.specs.List.{list_all, flat_map, slice_split, before_first, after_first, starts_with}
 use Rattle.std.specs.Option.{option_map}
 use Rattle.std.specs.Char.{is_ascii_digit}
@@ -10,7 +10,6 @@ use Rattle.std.proofs.lemmas.Bool.Decides.{Decides-eqb}
 use Rattle.std.proofs.lemmas.Slice.Eq.{starts_is, bytes_eq-Decides}
 use Rattle.hex.specs.Hex.{decode_of}
 use Rattle.hex.specs.declared.error.FromHexError.{FromHexError}
-use Rattle.rtsp_message.specs.Headers.{decimal_value, is_numeral}
 use Rattle.ring_steps.specs.declared.calls.Actor.{Actor}
 use Rattle.ring_steps.specs.declared.calls.Actor.TheVariants.{P, Seat}
 use Rattle.ring_steps.specs.declared.calls.PublisherCall.TheVariants.{Publish, Close}
@@ -21,11 +20,13 @@ use Rattle.relay_main.specs.declared.steps.call_line.CallLine.TheVariants.{ByPub
 use Rattle.relay_main.specs.declared.steps.line.Line.{Line}
 use Rattle.relay_main.specs.declared.steps.line.Line.TheVariants.{Keep, Seats, Call, Go}
 use Rattle.relay_main.specs.Grammar.{IsNumber, IsHex, call_name, IsCall, IsActor, IsItem, AreItems, IsSchedule, IsLine}
-use Rattle.relay_main.specs.LineForms.{number_of, parts_at, behind, publish_of, publisher_call_of, seat_call_named, seat_line_by, seat_line_of, seat_of, actor_of, in_limits, times_of, repeated, item_of, joined, items_of, not_too_long, schedule_of, or_else, line_of, is_space, is_star}
-use Rattle.relay_main.specs.Lines.{HasNone}
-use Rattle.relay_main.proofs.Cuts.{cut_or_not, cut_behind, uncut}
+use Rattle.base_syntax.specs.Cuts.{behind_first}
+use Rattle.relay_main.specs.LineForms.{number_of, behind, publish_of, publisher_call_of, seat_call_named, seat_line_by, seat_line_of, seat_of, actor_of, in_limits, times_of, repeated, item_of, joined, items_of, not_too_long, schedule_of, or_else, line_of, is_space, is_star}
+use Rattle.base_syntax.specs.Cuts.{HasNone}
+use Rattle.base_syntax.proofs.Cuts.{found_or_missing, cut_behind, uncut}
 use Rattle.relay_main.proofs.Items.{first_word}
 use Rattle.relay_main.proofs.Numbers.{nine_digits}
+use Rattle.base_syntax.proofs.Digits.{digits_from, number_only, number_read}
 
 -- what an answer tells of its parts
 map_tells : {X Y : Type 0} (f : X → Y) (o : Option X) (y : Y) → option_map f o ≡ Some y → (x : X) × (o ≡ Some x) × (f x ≡ y)
@@ -40,18 +41,16 @@ if_tells false x y e = absurd (cc)
 number_tells : (text : List ℕ) (n : ℕ) → number_of text ≡ Some n → IsNumber text n
 number_tells text n e = elim (cases_Bool (nat_le (length text) 9)) [
   | inl short ↦
-      let kept = if_tells (is_numeral text && nat_le (decimal_value text) 999999999) (decimal_value text) n (rw short at e) in
-      let parts = and_parts _ _ (and_parts _ _ kept.0).0 in
-      record { digits = parts.1; least = ltb-true 0 (length text) parts.0; most = leb-true (length text) 9 short; value = kept.1 }
+      let read = number_only 999999999 text n (rw short at e) in
+      record { numeral = read.numeral; most = leb-true (length text) 9 short; value = read.value }
   | inr long ↦ let none = rw long at e in absurd (cc)
 ]
 
 number_is_read : (text : List ℕ) (n : ℕ) → IsNumber text n → number_of text ≡ Some n
 number_is_read text n p =
     let short = le-leb (length text) 9 p.most in
-    let some = lt-ltb 0 (length text) (omega (arith, p.least)) in
-    let small = le-leb (decimal_value text) 999999999 (nine_digits text p.digits p.most) in
-    rw (short, some, p.digits, small) (ap (λ (m : ℕ). Some m) p.value)
+    let small : n ≤ 999999999 = omega (arith, nine_digits text p.numeral p.most, p.value) in
+    rw short (number_read 999999999 text n (record { numeral = p.numeral; value = p.value; most = small }))
 
 -- a byte below the digits is none of them
 digits_without : (b : ℕ) (text : List ℕ) → b < 48 → list_all is_ascii_digit text ≡ true → HasNone b text
@@ -89,14 +88,14 @@ actor_tells name actor e = elim (cases_Bool (bytes_eq name (codes "p"))) [
 
 actor_is_read : (name : List ℕ) (actor : Actor) → IsActor name actor → actor_of name ≡ Some actor
 actor_is_read name P p = rw p refl
-actor_is_read [] (Seat seat) p = let some : 1 ≤ 0 = p.1.least in absurd (omega (arith, some))
+actor_is_read [] (Seat seat) p = let some : 0 < 0 = p.1.numeral.0 in absurd (omega (arith, some))
 actor_is_read (d ∷ ds) (Seat seat) p =
-    let other = past_digits 112 d ds (omega arith) p.1.digits in
+    let other = past_digits 112 d ds (omega arith) (digits_from (d ∷ ds) p.1.numeral.1) in
     rw (other.1, p.2) (ap (option_map seat_of) (number_is_read (d ∷ ds) p.0 p.1))
 
 name_without : (b : ℕ) (name : List ℕ) (actor : Actor) → b < 48 → IsActor name actor → HasNone b name
 name_without b name P low p = subst (HasNone b) (sym p) (ne_eqb 112 b (λ e. omega (arith, e, low)), tt)
-name_without b name (Seat seat) low p = digits_without b name low p.1.digits
+name_without b name (Seat seat) low p = digits_without b name low (digits_from name p.1.numeral.1)
 
 without_both : (b : ℕ) (xs ys : List ℕ) → HasNone b xs → HasNone b ys → HasNone b (xs ++ ys)
 without_both b [] ys p q = q
@@ -118,7 +117,7 @@ limits_tell (Some n) times e =
 
 item_tells : (item : List ℕ) (steps : List Actor) → item_of item ≡ Some steps → IsItem item steps
 unfolding item_of
-item_tells item steps e = elim (cut_or_not 42 item) [
+item_tells item steps e = elim (found_or_missing 42 item) [
   | inl star ↦
       let by = repeated_tells (actor_of (before_first is_star item)) (times_of (Some (after_first is_star item))) steps (rw star.found at e) in
       let times = limits_tell (number_of (after_first is_star item)) by.1 by.3 in
@@ -159,7 +158,7 @@ item_without : (item : List ℕ) (steps : List Actor) → IsItem item steps → 
 item_without item steps (inl p) = name_without 32 item p.actor (omega arith) p.named
 item_without item steps (inr p) =
     subst (HasNone 32) (sym p.whole)
-    (without_both 32 p.name (42 ∷ p.count) (name_without 32 p.name p.actor (omega arith) p.named) (refl, digits_without 32 p.count (omega arith) p.counted.digits))
+    (without_both 32 p.name (42 ∷ p.count) (name_without 32 p.name p.actor (omega arith) p.named) (refl, digits_without 32 p.count (omega arith) (digits_from p.count p.counted.numeral.1)))
 
 joined_tells : (a b : Option (List Actor)) (steps : List Actor) → joined a b ≡ Some steps
     → (first : List Actor) × (others : List Actor) × (a ≡ Some first) × (b ≡ Some others) × (steps ≡ first ++ others)
@@ -180,7 +179,7 @@ items_tell : (words : List (List ℕ)) (text : List ℕ) (steps : List Actor) �
 items_tell [] text steps cut e = let first = first_word text in absurd (cc)
 items_tell (word ∷ words) text steps cut e =
     let by = joined_tells (item_of word) (items_of words) steps e in
-    elim (cut_or_not 32 text) [
+    elim (found_or_missing 32 text) [
       | inl space ↦
           let first : slice_split is_space text ≡ before_first is_space text ∷ slice_split is_space (after_first is_space text) = first_word text ∙ (rw space.found refl) in
           let word_is : word ≡ before_first is_space text = cc in
@@ -290,8 +289,8 @@ by_tells None call said e = absurd (cc)
 by_tells (Some n) None said e = absurd (cc)
 by_tells (Some n) (Some c) said e = (n, c, refl, refl, (cc))
 
-seat_line_tells : (line : List ℕ) (said : Line) → seat_line_of (before_first is_space line) (parts_at is_space line) ≡ Some said → IsLine line said
-seat_line_tells line said e = elim (cut_or_not 32 line) [
+seat_line_tells : (line : List ℕ) (said : Line) → seat_line_of (before_first is_space line) (behind_first 32 line) ≡ Some said → IsLine line said
+seat_line_tells line said e = elim (found_or_missing 32 line) [
   | inl space ↦
       let by = by_tells (number_of (before_first is_space line)) (seat_call_named (after_first is_space line)) said (rw space.found at e) in
       let name_is = seat_call_tells (after_first is_space line) by.1 by.3 in
@@ -307,7 +306,7 @@ no_word word text b d other = rw other refl
 -- lines
 said_by_form : (line : List ℕ) (said : Line) (keep seats publisher go : Option (List ℕ)) → behind (codes "keep ") line ≡ keep → behind (codes "seats ") line ≡ seats → behind (codes "p ") line ≡ publisher → behind (codes "go ") line ≡ go
     → or_else keep (λ rest. option_map Keep (number_of rest)) (or_else seats (λ rest. option_map Seats (number_of rest)) (or_else publisher (λ rest. option_map Call (publisher_call_of rest))
-    (or_else go (λ rest. option_map Go (schedule_of rest)) (seat_line_of (before_first is_space line) (parts_at is_space line))))) ≡ Some said → IsLine line said
+    (or_else go (λ rest. option_map Go (schedule_of rest)) (seat_line_of (before_first is_space line) (behind_first 32 line))))) ≡ Some said → IsLine line said
 said_by_form line said (Some rest) seats publisher go k s p g e =
     let by = map_tells Keep (number_of rest) said e in
     subst (IsLine line) by.2 (rest, behind_tells (codes "keep ") line rest k, number_tells rest by.0 by.1)
@@ -329,16 +328,16 @@ line_tells line said e = said_by_form line said (behind (codes "keep ") line) (b
 
 seat_line_is_read : (line text : List ℕ) (seat : ℕ) (call : SeatCall) → line ≡ text ++ 32 ∷ call_name call → IsNumber text seat → line_of line ≡ Some (Call (BySeat seat call))
 unfolding line_of
-seat_line_is_read line [] seat call whole is = let some : 1 ≤ 0 = is.least in absurd (omega (arith, some))
+seat_line_is_read line [] seat call whole is = let some : 0 < 0 = is.numeral.0 in absurd (omega (arith, some))
 seat_line_is_read line (d ∷ ds) seat call whole is =
     let name = call_name call in
-    let keep = subst (λ (l : List ℕ). behind (codes "keep ") l ≡ None) (sym whole) (no_word (codes "eep ") (ds ++ 32 ∷ name) 107 d (past_digits 107 d ds (omega arith) is.digits).0) in
-    let seats = subst (λ (l : List ℕ). behind (codes "seats ") l ≡ None) (sym whole) (no_word (codes "eats ") (ds ++ 32 ∷ name) 115 d (past_digits 115 d ds (omega arith) is.digits).0) in
-    let publisher = subst (λ (l : List ℕ). behind (codes "p ") l ≡ None) (sym whole) (no_word (codes " ") (ds ++ 32 ∷ name) 112 d (past_digits 112 d ds (omega arith) is.digits).0) in
-    let go = subst (λ (l : List ℕ). behind (codes "go ") l ≡ None) (sym whole) (no_word (codes "o ") (ds ++ 32 ∷ name) 103 d (past_digits 103 d ds (omega arith) is.digits).0) in
-    let cut = cut_behind 32 (d ∷ ds) name (digits_without 32 (d ∷ ds) (omega arith) is.digits) in
+    let keep = subst (λ (l : List ℕ). behind (codes "keep ") l ≡ None) (sym whole) (no_word (codes "eep ") (ds ++ 32 ∷ name) 107 d (past_digits 107 d ds (omega arith) (digits_from (d ∷ ds) is.numeral.1)).0) in
+    let seats = subst (λ (l : List ℕ). behind (codes "seats ") l ≡ None) (sym whole) (no_word (codes "eats ") (ds ++ 32 ∷ name) 115 d (past_digits 115 d ds (omega arith) (digits_from (d ∷ ds) is.numeral.1)).0) in
+    let publisher = subst (λ (l : List ℕ). behind (codes "p ") l ≡ None) (sym whole) (no_word (codes " ") (ds ++ 32 ∷ name) 112 d (past_digits 112 d ds (omega arith) (digits_from (d ∷ ds) is.numeral.1)).0) in
+    let go = subst (λ (l : List ℕ). behind (codes "go ") l ≡ None) (sym whole) (no_word (codes "o ") (ds ++ 32 ∷ name) 103 d (past_digits 103 d ds (omega arith) (digits_from (d ∷ ds) is.numeral.1)).0) in
+    let cut = cut_behind 32 (d ∷ ds) name (digits_without 32 (d ∷ ds) (omega arith) (digits_from (d ∷ ds) is.numeral.1)) in
     let front : before_first is_space line ≡ d ∷ ds = ap (before_first is_space) whole ∙ cut.0 in
-    let named : parts_at is_space line ≡ Some name = ap (parts_at is_space) whole ∙ cut.1 in
+    let named : behind_first 32 line ≡ Some name = ap (behind_first 32) whole ∙ cut.1 in
     rw (keep, seats, publisher, go, front, named, number_is_read (d ∷ ds) seat is, seat_call_is_read call) refl
 
 pub line_is_read : (line : List ℕ) (said : Line) → IsLine line said → line_of line ≡ Some said

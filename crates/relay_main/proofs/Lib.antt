@@ -1,6 +1,6 @@
 pub mod Talks
 pub mod Numbers
-pub mod Cuts
+pub mod LineEnds
 pub mod Drafting
 pub mod Items
 pub mod Printed
@@ -8,3 +8,4 @@ pub mod Sorting
 pub mod Reading
 pub mod OnePlan
 pub mod Grammar
+pub mod Forms

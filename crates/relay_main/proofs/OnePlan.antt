@@ -9,17 +9,20 @@ use Rattle.ring_steps.specs.Acting.{acted, event_of}
 use Rattle.ring_steps.specs.Runs.{Turn, start}
 use Rattle.ring_steps.specs.Traces.{step_of}
 use Rattle.ring_steps.proofs.Choices.{runs_alike}
-use Rattle.rtsp_message.proofs.Windows.{same_line, no_line}
+use Rattle.base_syntax.proofs.LineEnds.{same_line, no_whole_line}
+use Rattle.base_syntax.proofs.Lists.{same_cons}
 use Rattle.relay_main.specs.declared.steps.call_line.CallLine.{CallLine}
 use Rattle.relay_main.specs.declared.steps.line.Line.{Line}
 use Rattle.relay_main.specs.declared.steps.line.Line.TheVariants.{Call, Go}
 use Rattle.relay_main.specs.declared.steps.plan.Plan.{Plan}
-use Rattle.relay_main.specs.Lines.{has_bytes, IsFirstLine, AreLines}
+use Rattle.base_syntax.specs.Lines.{has_bytes}
+use Rattle.relay_main.specs.Lines.{IsFirstLine, AreLines}
 use Rattle.relay_main.specs.LineForms.{line_of}
 use Rattle.relay_main.specs.Plans.{said_by, Says, Reads, Begins, IsWrong, IsBadLine}
 use Rattle.relay_main.specs.Scripts.{script_of}
 use Rattle.relay_main.specs.Steps.{IsTraceOf}
 use Rattle.relay_main.specs.TraceText.{trace_text, step_lines, event_lines}
+use Rattle.relay_main.proofs.Forms.{forms_heard}
 
 -- a line and its LF
 ends_in_lf : (line rest : List ℕ) → line ++ 10 ∷ rest ≡ (line ++ 10 ∷ []) ++ rest
@@ -29,10 +32,10 @@ one_first_line : (text l r m s : List ℕ) → IsFirstLine text l r → IsFirstL
 one_first_line text l r m s p q = elim p.whole [
   | inl a ↦ elim q.whole [
     | inl b ↦ same_line l r m s p.unbroken q.unbroken (sym (ends_in_lf l r) ∙ sym a ∙ b ∙ ends_in_lf m s)
-    | inr b ↦ absurd (no_line m l r q.unbroken (sym b.0 ∙ a ∙ ends_in_lf l r))
+    | inr b ↦ absurd (no_whole_line m l r q.unbroken (sym b.0 ∙ a ∙ ends_in_lf l r))
   ]
   | inr a ↦ elim q.whole [
-    | inl b ↦ absurd (no_line l m s p.unbroken (sym a.0 ∙ b ∙ ends_in_lf m s))
+    | inl b ↦ absurd (no_whole_line l m s p.unbroken (sym a.0 ∙ b ∙ ends_in_lf m s))
     | inr b ↦ (sym a.0 ∙ b.0, a.1 ∙ sym b.1)
   ]
 ]
@@ -85,7 +88,7 @@ same_said p q e =
 pub one_plan : (text : List ℕ) (p q : Plan) → Reads text p → Reads text q → p ≡ q
 one_plan text p q a b =
     let lines = one_lines text a.lines b.lines a.are b.are in
-    same_said p q (same_somes (said_by p) (said_by q) (sym a.says.said ∙ ap (λ (ls : List (List ℕ)). map line_of (filter has_bytes ls)) lines ∙ b.says.said))
+    same_said p q (same_somes (said_by p) (said_by q) (sym (forms_heard _ _ a.says.said) ∙ ap (λ (ls : List (List ℕ)). map line_of (filter has_bytes ls)) lines ∙ forms_heard _ _ b.says.said))
 
 -- an input has no bad line
 says_no_wrong : (before after : List (List ℕ)) (plan : Plan) → Says (before ++ after) plan → IsWrong before after → ⊥
@@ -97,9 +100,6 @@ plan_or_bad_line text plan number a b =
     let lines = one_lines text a.lines (b.before ++ b.after) a.are b.lines in
     says_no_wrong b.before b.after plan (subst (λ (ls : List (List ℕ)). Says ls plan) lines a.says) b.wrong
 
-same_cons : {x z : List ℕ} {xs zs : List (List ℕ)} → x ≡ z → zs ≡ xs → z ∷ zs ≡ x ∷ xs
-same_cons a b = cc
-
 -- of two cuts of one list the longer front goes on behind the shorter one
 longer_front : (xs ys zs ws : List (List ℕ)) → xs ++ ys ≡ zs ++ ws → length xs < length zs → (line : List ℕ) × (mid : List (List ℕ)) × (zs ≡ xs ++ line ∷ mid) × (ys ≡ line ∷ (mid ++ ws))
 longer_front [] ys [] ws e h = absurd (omega (arith, h))
@@ -109,7 +109,7 @@ longer_front (x ∷ xs) ys (z ∷ zs) ws e h =
     let head : x ≡ z = cc in
     let tail : xs ++ ys ≡ zs ++ ws = cc in
     let rest = longer_front xs ys zs ws tail (omega (arith, h)) in
-    (rest.0, rest.1, same_cons head rest.2, rest.3)
+    (rest.0, rest.1, same_cons (sym head) rest.2, rest.3)
 
 -- a bad line is no line of what begins an input
 no_earlier : (before after longer others : List (List ℕ)) → before ++ after ≡ longer ++ others → length before < length longer → IsWrong before after → Begins longer → ⊥

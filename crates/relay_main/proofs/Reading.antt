@@ -12,10 +12,12 @@ use Rattle.relay_main.specs.declared.steps.draft.Draft.TheVariants.{Empty, Kept,
 use Rattle.relay_main.specs.declared.steps.line.Line.{Line}
 use Rattle.relay_main.specs.declared.steps.line.Line.TheVariants.{Keep, Seats, Call, Go}
 use Rattle.relay_main.specs.declared.steps.plan.Plan.{Plan}
-use Rattle.relay_main.specs.Lines.{AreLines, IsFirstLine, has_bytes}
+use Rattle.base_syntax.specs.Lines.{has_bytes}
+use Rattle.relay_main.specs.Lines.{AreLines, IsFirstLine}
 use Rattle.relay_main.specs.LineForms.{line_of, schedule_of, item_of}
 use Rattle.relay_main.specs.Plans.{said_by, IsBelow, Reads, Begins, IsBadLine}
 use Rattle.relay_main.specs.Drafts.{told, heard, IsSound, IsStuck}
+use Rattle.relay_main.proofs.Forms.{heard_forms, forms_heard}
 
 -- each text has its lines
 pub record Lined (text : List ℕ) : Type 0 where
@@ -108,7 +110,7 @@ begins : {text rest : List ℕ} {count : ℕ} {draft : Draft} (p : SoFar text re
 begins {draft = draft} p = (
   more_of draft,
   plan_of draft,
-  record { said = said-append p.done (more_of draft) ∙ ap (λ (l : List (Option Line)). l ++ map line_of (filter has_bytes (more_of draft))) p.said ∙ finished draft; below = finished_sound draft p.sound },
+  record { said = heard_forms _ _ (said-append p.done (more_of draft) ∙ ap (λ (l : List (Option Line)). l ++ map line_of (filter has_bytes (more_of draft))) p.said ∙ finished draft); below = finished_sound draft p.sound },
 )
 
 heard_there : (line : List ℕ) → has_bytes line ≡ true → heard line ≡ line_of line ∷ []
@@ -127,7 +129,7 @@ bad_line {draft = draft} line after p first stuck =
       wrong = λ goes.
           let more = map line_of (filter has_bytes goes.0) in
           let front = said-append p.done (line ∷ []) ∙ ap (λ (l : List (Option Line)). l ++ heard line) p.said ∙ ap (λ (l : List (Option Line)). map Some (told draft) ++ l) (heard_there line stuck.there) in
-          stuck.none goes.1 more goes.2.below (sym goes.2.said ∙ said-append (p.done ++ line ∷ []) goes.0 ∙ ap (λ (l : List (Option Line)). l ++ more) front);
+          stuck.none goes.1 more goes.2.below (sym (forms_heard _ _ goes.2.said) ∙ said-append (p.done ++ line ∷ []) goes.0 ∙ ap (λ (l : List (Option Line)). l ++ more) front);
     }
 
 no_go : (own calls : List CallLine) (s : List Actor) → map Some (map Call own ++ Go s ∷ []) ≡ map Some (map Call calls) → ⊥
@@ -153,7 +155,7 @@ missing_line {draft = draft} p none not_whole = record {
   lines = all_lines p none;
   counted = ap (λ (n : ℕ). n + 1) p.counted;
   begins = begins p;
-  wrong = λ plan says. unfinished draft not_whole plan (sym says.said ∙ p.said);
+  wrong = λ plan says. unfinished draft not_whole plan (sym (forms_heard _ _ says.said) ∙ p.said);
 }
 
 -- no line is left, and all were read
@@ -161,7 +163,7 @@ pub whole_read : {text rest : List ℕ} {count : ℕ} (draft : Draft) (plan : Pl
 whole_read {text = text} draft plan p none is = record {
   lines = p.done;
   are = subst (AreLines text) (append-nil p.done) (all_lines p none);
-  says = record { said = p.said ∙ ap (λ (d : Draft). map Some (told d)) is; below = subst IsSound is p.sound };
+  says = record { said = heard_forms _ _ (p.said ∙ ap (λ (d : Draft). map Some (told d)) is); below = subst IsSound is p.sound };
 }
 
 pub no_bytes : (text : List ℕ) → length text ≡ 0 → text ≡ []

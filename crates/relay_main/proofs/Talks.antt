@@ -56,13 +56,13 @@ module _ {R W : Type 0} (incoming : R → Option (List ℕ)) (written : W → Op
   }
 
   -- the talk in which these units were handed out last, these are their answers, and this closes it
-  pub talk_of : (reader : R) (old : W) (intake new : IntakeState R) (now : W) (us : List StreamUnit) (more rest closing : List ℕ) → SoFar reader old intake now → HandsOut incoming intake new us → Talk R
+  pub talk_of : (reader : R) (old : W) (intake new : IntakeState R) (now : W) (us : List StreamUnit) (more rest closing : List ℕ) → SoFar reader old intake now → HandsOut incoming intake new us → Talk
   talk_of reader old intake new now us more rest closing p q =
       let out = HandsOut-trans incoming (fresh reader) intake new p.units us p.out q in
-      record { last = new.source; read = out.read; taken = out.taken; held = new.held; units = out.found; ending = new.reading; answers = p.text ++ (more ++ rest); closing = closing }
+      record { read = out.read; taken = out.taken; held = new.held; units = out.found; ending = new.reading; answers = p.text ++ (more ++ rest); closing = closing }
 
   pub is_talk : (reader : R) (old : W) (intake new : IntakeState R) (now : W) (us : List StreamUnit) (more rest closing : List ℕ) (p : SoFar reader old intake now) (q : HandsOut incoming intake new us)
-      → AreAnswers us more → AreAnswers new.queue rest → (closing ≡ closing_of new.reading) ⊎ (closing ≡ refusal) → IsTalk incoming reader (talk_of reader old intake new now us more rest closing p q)
+      → AreAnswers us more → AreAnswers new.queue rest → (closing ≡ closing_of new.reading) ⊎ (closing ≡ refusal) → IsTalk incoming reader new.source (talk_of reader old intake new now us more rest closing p q)
   unfolding talk_of
   is_talk reader old intake new now us more rest closing p q answers queued closes =
       let out = HandsOut-trans incoming (fresh reader) intake new p.units us p.out q in
@@ -100,7 +100,7 @@ module _ {R W : Type 0} (incoming : R → Option (List ℕ)) (read_failed : R �
   all_written reader old intake now after closing p wrote =
       subst (λ (l : List ℕ). Appends (written old) (written after) (l ++ closing)) (sym (append-nil p.text)) (Appends-trans (written old) (written now) (written after) p.text closing p.wrote wrote)
 
-  pub ends_done : (reader : R) (old : W) (intake new : IntakeState R) (now : W) → SoFar incoming written reader old intake now → HandsOut incoming intake new [] → IsDrained new → IsAtEnd (incoming new.source) → Talks incoming read_failed written write_failed reader old now ends.Done
+  pub ends_done : (reader : R) (old : W) (intake new : IntakeState R) (now : W) → SoFar incoming written reader old intake now → HandsOut incoming intake new [] → IsDrained new → IsAtEnd (incoming new.source) → Talks incoming read_failed written write_failed reader new.source old now ends.Done
   unfolding talk_of
   ends_done reader old intake new now p q drained end = (
     talk_of incoming written reader old intake new now [] [] [] [] p q,
@@ -108,7 +108,7 @@ module _ {R W : Type 0} (incoming : R → Option (List ℕ)) (read_failed : R �
     (all_written reader old intake now now [] p (Appends-nil (written now)), drained.2, refl, drained.1, end),
   )
 
-  pub ends_read_failed : (reader : R) (old : W) (intake new : IntakeState R) (now : W) → SoFar incoming written reader old intake now → HandsOut incoming intake new [] → IsDrained new → read_failed new.source ≡ true → Talks incoming read_failed written write_failed reader old now ends.ReadFailed
+  pub ends_read_failed : (reader : R) (old : W) (intake new : IntakeState R) (now : W) → SoFar incoming written reader old intake now → HandsOut incoming intake new [] → IsDrained new → read_failed new.source ≡ true → Talks incoming read_failed written write_failed reader new.source old now ends.ReadFailed
   unfolding talk_of
   ends_read_failed reader old intake new now p q drained failed = (
     talk_of incoming written reader old intake new now [] [] [] [] p q,
@@ -116,7 +116,7 @@ module _ {R W : Type 0} (incoming : R → Option (List ℕ)) (read_failed : R �
     (all_written reader old intake now now [] p (Appends-nil (written now)), drained.2, refl, drained.1, failed),
   )
 
-  pub ends_with_fault : (reader : R) (old : W) (intake new : IntakeState R) (now after : W) (fault : Fault) (closing : List ℕ) → SoFar incoming written reader old intake now → HandsOut incoming intake new [] → new.queue ≡ [] → new.reading ≡ Fails fault → closing ≡ closing_of (Fails fault) → Appends (written now) (written after) closing → Talks incoming read_failed written write_failed reader old after (ends.StreamFault fault)
+  pub ends_with_fault : (reader : R) (old : W) (intake new : IntakeState R) (now after : W) (fault : Fault) (closing : List ℕ) → SoFar incoming written reader old intake now → HandsOut incoming intake new [] → new.queue ≡ [] → new.reading ≡ Fails fault → closing ≡ closing_of (Fails fault) → Appends (written now) (written after) closing → Talks incoming read_failed written write_failed reader new.source old after (ends.StreamFault fault)
   unfolding talk_of
   ends_with_fault reader old intake new now after fault closing p q empty fails closes wrote =
       let is_closing : closing ≡ closing_of new.reading = closes ∙ ap closing_of (sym fails) in (
@@ -125,7 +125,7 @@ module _ {R W : Type 0} (incoming : R → Option (List ℕ)) (read_failed : R �
         (all_written reader old intake now after closing p wrote, fails, is_closing),
       )
 
-  pub ends_out_of_memory : (reader : R) (old : W) (intake new : IntakeState R) (now after : W) → SoFar incoming written reader old intake now → HandsOut incoming intake new [] → new.queue ≡ [] → fault_of new.reading ≡ None → Appends (written now) (written after) refusal → Talks incoming read_failed written write_failed reader old after ends.OutOfMemory
+  pub ends_out_of_memory : (reader : R) (old : W) (intake new : IntakeState R) (now after : W) → SoFar incoming written reader old intake now → HandsOut incoming intake new [] → new.queue ≡ [] → fault_of new.reading ≡ None → Appends (written now) (written after) refusal → Talks incoming read_failed written write_failed reader new.source old after ends.OutOfMemory
   unfolding talk_of
   ends_out_of_memory reader old intake new now after p q empty waits wrote = (
     talk_of incoming written reader old intake new now [] [] [] refusal p q,
@@ -134,7 +134,7 @@ module _ {R W : Type 0} (incoming : R → Option (List ℕ)) (read_failed : R �
   )
 
   -- cut off in the closing text
-  pub ends_cut_closing : (reader : R) (old : W) (intake new : IntakeState R) (now after : W) (closing : List ℕ) (k : ℕ) → SoFar incoming written reader old intake now → HandsOut incoming intake new [] → new.queue ≡ [] → (closing ≡ closing_of new.reading) ⊎ (closing ≡ refusal) → k < length closing → Appends (written now) (written after) (take k closing) → write_failed after ≡ true → Talks incoming read_failed written write_failed reader old after ends.WriteFailed
+  pub ends_cut_closing : (reader : R) (old : W) (intake new : IntakeState R) (now after : W) (closing : List ℕ) (k : ℕ) → SoFar incoming written reader old intake now → HandsOut incoming intake new [] → new.queue ≡ [] → (closing ≡ closing_of new.reading) ⊎ (closing ≡ refusal) → k < length closing → Appends (written now) (written after) (take k closing) → write_failed after ≡ true → Talks incoming read_failed written write_failed reader new.source old after ends.WriteFailed
   unfolding talk_of
   ends_cut_closing reader old intake new now after closing k p q empty closes less part failed =
       let total : p.text ++ (closing ++ []) ≡ (p.text ++ ([] ++ [])) ++ closing =
@@ -146,7 +146,7 @@ module _ {R W : Type 0} (incoming : R → Option (List ℕ)) (read_failed : R �
       )
 
   -- cut off in an answer
-  pub ends_cut_answer : (reader : R) (old : W) (intake new : IntakeState R) (now after : W) (us : List StreamUnit) (text : List ℕ) (k : ℕ) → SoFar incoming written reader old intake now → HandsOut incoming intake new us → AreAnswers us text → k < length text → Appends (written now) (written after) (take k text) → write_failed after ≡ true → Talks incoming read_failed written write_failed reader old after ends.WriteFailed
+  pub ends_cut_answer : (reader : R) (old : W) (intake new : IntakeState R) (now after : W) (us : List StreamUnit) (text : List ℕ) (k : ℕ) → SoFar incoming written reader old intake now → HandsOut incoming intake new us → AreAnswers us text → k < length text → Appends (written now) (written after) (take k text) → write_failed after ≡ true → Talks incoming read_failed written write_failed reader new.source old after ends.WriteFailed
   unfolding talk_of
   ends_cut_answer reader old intake new now after us text k p q are less part failed =
       let rest = all_answers new.queue in

@@ -6,7 +6,7 @@ use Rattle.relay_main.specs.declared.steps.draft.Draft.TheVariants.{Empty, Kept,
 use Rattle.relay_main.specs.declared.steps.line.Line.{Line}
 use Rattle.relay_main.specs.declared.steps.line.Line.TheVariants.{Keep, Seats, Call}
 use Rattle.relay_main.specs.declared.steps.plan.Plan.{Plan}
-use Rattle.relay_main.specs.Lines.{has_bytes}
+use Rattle.base_syntax.specs.Lines.{has_bytes}
 use Rattle.relay_main.specs.LineForms.{line_of}
 use Rattle.relay_main.specs.Plans.{said_by, IsBelow}
 

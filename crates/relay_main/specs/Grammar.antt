@@ -1,9 +1,8 @@
 -- The forms of the lines of an input of the command `steps`, and what each says.
-use Rattle.std.specs.Prelude.{◌≡◌, ◌⊎◌, ◌≤◌, ℕ, true, List, [], ◌∷◌, ◌++◌, length, min, replicate, codes, Ok}
-use Rattle.std.specs.List.{list_all, flat_map}
-use Rattle.std.specs.Char.{is_ascii_digit}
+use Rattle.std.specs.Prelude.{◌≡◌, ◌⊎◌, ◌≤◌, ℕ, List, [], ◌∷◌, ◌++◌, length, min, replicate, codes, Ok}
+use Rattle.std.specs.List.{flat_map}
 use Rattle.hex.specs.Hex.{decode_of}
-use Rattle.rtsp_message.specs.Headers.{decimal_value}
+use Rattle.std.specs.Str.Parse.{IsNumeral, digits_value}
 use Rattle.ring_steps.specs.declared.calls.Actor.{Actor}
 use Rattle.ring_steps.specs.declared.calls.Actor.TheVariants.{P, Seat}
 use Rattle.ring_steps.specs.declared.calls.PublisherCall.TheVariants.{Publish, Close}
@@ -16,10 +15,9 @@ use Rattle.relay_main.specs.declared.steps.line.Line.TheVariants.{Keep, Seats, C
 
 -- one to nine decimal digits, leading zeros too, that write this number
 pub record IsNumber (text : List ℕ) (number : ℕ) : Type 0 where
-  pub digits : list_all is_ascii_digit text ≡ true
-  pub least : 1 ≤ length text
+  pub numeral : IsNumeral 10 text
   pub most : length text ≤ 9
-  pub value : decimal_value text ≡ number
+  pub value : digits_value 10 text ≡ number
 
 -- two hexadecimal digits a byte, of either case, for 1 to 65,535 bytes
 pub record IsHex (text bytes : List ℕ) : Type 0 where

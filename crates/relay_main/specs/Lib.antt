@@ -8,3 +8,4 @@ pub mod Drafts
 pub mod Scripts
 pub mod TraceText
 pub mod Steps
+pub mod Tasks

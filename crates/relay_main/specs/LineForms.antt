@@ -1,10 +1,11 @@
 -- What one line of the input of the command `steps` says.
 use Rattle.std.specs.Prelude.{ℕ, ◌==◌, ◌&&◌, nat_lt, nat_le, nat_eq, min, if◌then◌else◌, Bool, List, [], ◌∷◌, ◌++◌, length, drop, replicate, codes, Option, None, Some, Result, Ok, Err}
-use Rattle.std.specs.List.{list_any, slice_split, before_first, after_first, starts_with}
+use Rattle.std.specs.List.{slice_split, before_first, starts_with}
 use Rattle.std.specs.Option.{option_map}
 use Rattle.std.specs.Str.{bytes_eq}
 use Rattle.hex.specs.Hex.{decode_of}
-use Rattle.rtsp_message.specs.Headers.{number_up_to}
+use Rattle.base_syntax.specs.Cuts.{behind_first}
+use Rattle.base_syntax.specs.Numbers.{number_up_to}
 use Rattle.hex.specs.declared.error.FromHexError.{FromHexError}
 use Rattle.ring_steps.specs.declared.calls.Actor.{Actor}
 use Rattle.ring_steps.specs.declared.calls.Actor.TheVariants.{P, Seat}
@@ -25,10 +26,6 @@ is_space b = b == 32
 
 abbrev pub is_star : ℕ → Bool
 is_star b = b == 42
-
--- what stands behind the first such byte, and what stands before it
-abbrev pub parts_at : (ℕ → Bool) → List ℕ → Option (List ℕ)
-parts_at test text = if list_any test text then Some (after_first test text) else None
 
 -- what stands behind this beginning
 abbrev pub behind : (beginning text : List ℕ) → Option (List ℕ)
@@ -83,7 +80,7 @@ repeated None times = None
 
 -- the steps of one item, `A` or `A*N`
 unfoldable pub item_of : List ℕ → Option (List Actor)
-item_of word = repeated (actor_of (before_first is_star word)) (times_of (parts_at is_star word))
+item_of word = repeated (actor_of (before_first is_star word)) (times_of (behind_first 42 word))
 
 -- these steps and then those, if both can be read
 abbrev pub joined : Option (List Actor) → Option (List Actor) → Option (List Actor)
@@ -117,4 +114,4 @@ line_of line =
     (or_else (behind (codes "seats ") line) (λ rest. option_map Seats (number_of rest))
     (or_else (behind (codes "p ") line) (λ rest. option_map Call (publisher_call_of rest))
     (or_else (behind (codes "go ") line) (λ rest. option_map Go (schedule_of rest))
-    (seat_line_of (before_first is_space line) (parts_at is_space line)))))
+    (seat_line_of (before_first is_space line) (behind_first 32 line)))))

@@ -1,16 +1,6 @@
 -- The lines of the input of the command `steps`.
-use Rattle.std.specs.Prelude.{◌≡◌, ◌==◌, ◌⊎◌, ℕ, Bool, true, false, List, [], ◌∷◌, ◌++◌}
-use Rattle.std.specs.List.{AllByRecursion}
-use Rattle.rtsp_message.specs.Lines.{HasNoLf}
-
--- no byte of the text is this one
-abbrev pub HasNone : (byte : ℕ) → List ℕ → Type 0
-HasNone byte text = AllByRecursion (λ b. (b == byte) ≡ false) text
-
--- a line that isn't empty
-abbrev pub has_bytes : List ℕ → Bool
-has_bytes [] = false
-has_bytes (b ∷ bs) = true
+use Rattle.std.specs.Prelude.{◌≡◌, ◌⊎◌, ℕ, true, List, [], ◌∷◌, ◌++◌}
+use Rattle.base_syntax.specs.Lines.{HasNoLf, has_bytes}
 
 -- The first line of a text, and the text behind it. An LF ends it, or the text does: what follows the last LF is a line
 -- where it has bytes. A CR is a byte of it like any other.

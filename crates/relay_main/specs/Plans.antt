@@ -1,5 +1,5 @@
 -- Which texts are an input of the command `steps`, and which line of another text is bad.
-use Rattle.std.specs.Prelude.{◌≡◌, ◌<◌, ◌+◌, ℕ, List, [], ◌∷◌, ◌++◌, length, map, filter, Some}
+use Rattle.std.specs.Prelude.{◌≡◌, ◌<◌, ◌+◌, ℕ, List, [], ◌∷◌, ◌++◌, length, map, filter}
 use Rattle.std.specs.List.{AllByRecursion}
 use Rattle.relay_main.specs.declared.steps.call_line.CallLine.{CallLine}
 use Rattle.relay_main.specs.declared.steps.call_line.CallLine.TheVariants.{ByPublisher, BySeat}
@@ -8,8 +8,9 @@ use Rattle.relay_main.specs.declared.steps.line.Line.TheVariants.{Keep, Seats, C
 use Rattle.relay_main.specs.declared.steps.plan.Plan.{Plan}
 use Rattle.relay_main.specs.declared.steps.plan.PlanFault.{PlanFault}
 use Rattle.relay_main.specs.declared.steps.plan.PlanFault.TheVariants.{BadLine, OutOfMemory}
-use Rattle.relay_main.specs.Lines.{AreLines, has_bytes}
-use Rattle.relay_main.specs.LineForms.{line_of}
+use Rattle.base_syntax.specs.Lines.{has_bytes}
+use Rattle.relay_main.specs.Lines.{AreLines}
+use Rattle.relay_main.specs.Grammar.{IsLine}
 
 -- what the lines of a plan say: `keep`, `seats`, the calls, and `go`
 abbrev pub said_by : Plan → List Line
@@ -20,9 +21,16 @@ abbrev pub IsBelow : (seats : ℕ) → CallLine → Type 0
 IsBelow seats (ByPublisher call) = Unit {0}
 IsBelow seats (BySeat seat call) = seat < seats
 
+-- each of these lines, in order, has the form of what is said
+abbrev pub HaveForms : List (List ℕ) → List Line → Type 0
+HaveForms [] [] = Unit {0}
+HaveForms [] (said ∷ others) = ⊥
+HaveForms (line ∷ lines) [] = ⊥
+HaveForms (line ∷ lines) (said ∷ others) = IsLine line said × HaveForms lines others
+
 -- these lines, without the empty ones, are those of the plan
 pub record Says (lines : List (List ℕ)) (plan : Plan) : Type 0 where
-  pub said : map line_of (filter has_bytes lines) ≡ map Some (said_by plan)
+  pub said : HaveForms (filter has_bytes lines) (said_by plan)
   pub below : AllByRecursion (IsBelow plan.config.seats) plan.calls
 
 -- the text is an input with this plan

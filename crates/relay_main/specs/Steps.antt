@@ -44,9 +44,8 @@ pub record IsCutInput {R : Type 0} (incoming : R → Option (List ℕ)) (failed 
   pub given : Consumes (incoming reader) (incoming last) input
   pub stopped : failed last ≡ true
 
--- the text of the trace of all that the source gives
-pub record IsTextOf {R : Type 0} (incoming : R → Option (List ℕ)) (reader : R) (text : List ℕ) : Type 0 where
-  pub last : R
+-- the text of the trace of all that the source gives, from where it stood to where it was left
+pub record IsTextOf {R : Type 0} (incoming : R → Option (List ℕ)) (reader last : R) (text : List ℕ) : Type 0 where
   pub input : List ℕ
   pub trace : Trace
   pub whole : IsWholeInput incoming reader last input
@@ -60,22 +59,22 @@ module _ {R : Type 0} (incoming : R → Option (List ℕ)) (failed : R → Bool)
   IsReadFault reader last reads.Failed = (input : List ℕ) × IsCutInput incoming failed reader last input
   IsReadFault reader last reads.OutOfMemory = Unit {0}
 
-  abbrev pub EndsEarly : R → StepsEnd → Type 0
-  EndsEarly reader ends.Done = ⊥
-  EndsEarly reader (ends.BadLine number) = (last : R) × (input : List ℕ) × IsWholeInput incoming reader last input × IsBadLine input number
-  EndsEarly reader (ends.Refused fault) = (last : R) × (input : List ℕ) × IsWholeInput incoming reader last input × IsRefusedPlan input fault
-  EndsEarly reader ends.ReadFailed = (last : R) × (input : List ℕ) × IsCutInput incoming failed reader last input
-  EndsEarly reader ends.WriteFailed = ⊥
-  EndsEarly reader ends.OutOfMemory = Unit {0}
+  abbrev pub EndsEarly : (reader last : R) → StepsEnd → Type 0
+  EndsEarly reader last ends.Done = ⊥
+  EndsEarly reader last (ends.BadLine number) = (input : List ℕ) × IsWholeInput incoming reader last input × IsBadLine input number
+  EndsEarly reader last (ends.Refused fault) = (input : List ℕ) × IsWholeInput incoming reader last input × IsRefusedPlan input fault
+  EndsEarly reader last ends.ReadFailed = (input : List ℕ) × IsCutInput incoming failed reader last input
+  EndsEarly reader last ends.WriteFailed = ⊥
+  EndsEarly reader last ends.OutOfMemory = Unit {0}
 
 module _ {R W : Type 0} (incoming : R → Option (List ℕ)) (read_failed : R → Bool) (written : W → Option (List ℕ)) (write_failed : W → Bool) where
   -- How the command ends, and what was written: the text of the one trace, after a failed write a beginning of that, and
-  -- with another fault nothing.
-  abbrev pub StepsSo : R → W → W → StepsEnd → Type 0
-  StepsSo reader old new ends.Done = (text : List ℕ) × IsTextOf incoming reader text × Appends (written old) (written new) text
-  StepsSo reader old new ends.WriteFailed =
-      (text : List ℕ) × IsTextOf incoming reader text × (write_failed new ≡ true) × (n : ℕ) × (n < length text) × Appends (written old) (written new) (take n text)
-  StepsSo reader old new end = (new ≡ old) × EndsEarly incoming read_failed reader end
+  -- with another fault nothing. The reader is left as the last one.
+  abbrev pub StepsSo : (reader last : R) → W → W → StepsEnd → Type 0
+  StepsSo reader last old new ends.Done = (text : List ℕ) × IsTextOf incoming reader last text × Appends (written old) (written new) text
+  StepsSo reader last old new ends.WriteFailed =
+      (text : List ℕ) × IsTextOf incoming reader last text × (write_failed new ≡ true) × (n : ℕ) × (n < length text) × Appends (written old) (written new) (take n text)
+  StepsSo reader last old new end = (new ≡ old) × EndsEarly incoming read_failed reader last end
 
 -- the exit status
 abbrev pub steps_status : StepsEnd → ℕ

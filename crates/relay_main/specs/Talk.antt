@@ -43,8 +43,7 @@ refusal = plain_text statuses.ServiceUnavailable None
 
 -- What a talk was: the bytes that were read, of which some are held where memory was refused, their units,
 -- and the whole text that is due for them.
-pub record Talk (R : Type 0) : Type 0 where
-  pub last : R
+pub record Talk : Type 0 where
   pub read : List ℕ
   pub taken : List ℕ
   pub held : List ℕ
@@ -53,9 +52,10 @@ pub record Talk (R : Type 0) : Type 0 where
   pub answers : List ℕ
   pub closing : List ℕ
 
--- From this reader the bytes were read that the units stand in, and the answers are theirs.
-pub record IsTalk {R : Type 0} (incoming : R → Option (List ℕ)) (reader : R) (talk : Talk R) : Type 0 where
-  pub given : Consumes (incoming reader) (incoming talk.last) talk.read
+-- From this reader, which is left as the last one, the bytes were read that the units stand in, and the answers are
+-- theirs.
+pub record IsTalk {R : Type 0} (incoming : R → Option (List ℕ)) (reader last : R) (talk : Talk) : Type 0 where
+  pub given : Consumes (incoming reader) (incoming last) talk.read
   pub parts : talk.read ≡ talk.taken ++ talk.held
   pub reads : Reads talk.taken talk.units talk.ending
   pub are_answers : AreAnswers talk.units talk.answers
@@ -63,23 +63,24 @@ pub record IsTalk {R : Type 0} (incoming : R → Option (List ℕ)) (reader : R)
 
 module _ {R W : Type 0} (incoming : R → Option (List ℕ)) (read_failed : R → Bool) (written : W → Option (List ℕ)) (write_failed : W → Bool) where
   -- all that is due was written
-  abbrev pub WritesAll : Talk R → W → W → Type 0
+  abbrev pub WritesAll : Talk → W → W → Type 0
   WritesAll talk old new = Appends (written old) (written new) (talk.answers ++ talk.closing)
 
   -- how a talk ended, and what was written
-  abbrev pub EndsSo : Talk R → W → W → TalkEnd → Type 0
-  EndsSo talk old new ends.Done =
-      WritesAll talk old new × (fault_of talk.ending ≡ None) × (talk.closing ≡ []) × (talk.held ≡ []) × IsAtEnd (incoming talk.last)
-  EndsSo talk old new (ends.StreamFault fault) = WritesAll talk old new × (talk.ending ≡ Fails fault) × (talk.closing ≡ closing_of talk.ending)
-  EndsSo talk old new ends.ReadFailed =
-      WritesAll talk old new × (fault_of talk.ending ≡ None) × (talk.closing ≡ []) × (talk.held ≡ []) × (read_failed talk.last ≡ true)
-  EndsSo talk old new ends.OutOfMemory = WritesAll talk old new × (fault_of talk.ending ≡ None) × (talk.closing ≡ refusal)
-  EndsSo talk old new ends.WriteFailed =
+  abbrev pub EndsSo : (last : R) → Talk → W → W → TalkEnd → Type 0
+  EndsSo last talk old new ends.Done =
+      WritesAll talk old new × (fault_of talk.ending ≡ None) × (talk.closing ≡ []) × (talk.held ≡ []) × IsAtEnd (incoming last)
+  EndsSo last talk old new (ends.StreamFault fault) = WritesAll talk old new × (talk.ending ≡ Fails fault) × (talk.closing ≡ closing_of talk.ending)
+  EndsSo last talk old new ends.ReadFailed =
+      WritesAll talk old new × (fault_of talk.ending ≡ None) × (talk.closing ≡ []) × (talk.held ≡ []) × (read_failed last ≡ true)
+  EndsSo last talk old new ends.OutOfMemory = WritesAll talk old new × (fault_of talk.ending ≡ None) × (talk.closing ≡ refusal)
+  EndsSo last talk old new ends.WriteFailed =
       (write_failed new ≡ true) × (n : ℕ) × (n < length (talk.answers ++ talk.closing)) × Appends (written old) (written new) (take n (talk.answers ++ talk.closing))
 
-  -- What is written is, for each message of the stream read, its answer, then the fixed text of the fault if there is one.
-  abbrev pub Talks : R → W → W → TalkEnd → Type 0
-  Talks reader old new end = (talk : Talk R) × IsTalk incoming reader talk × EndsSo talk old new end
+  -- What is written is, for each message of the stream read, its answer, then the fixed text of the fault if there is
+  -- one. The reader is left as the last one.
+  abbrev pub Talks : (reader last : R) → W → W → TalkEnd → Type 0
+  Talks reader last old new end = (talk : Talk) × IsTalk incoming reader last talk × EndsSo last talk old new end
 
 -- the exit status of a talk
 abbrev pub exit_status : TalkEnd → ℕ

@@ -2,7 +2,8 @@
 ghost use Rattle.std.specs.Prelude.{◌≡◌, IfOk};
 ghost use Rattle.relay_main.specs.Decide.{reply_to, plain};
 
-use rtsp_message::{Fields, Reply, Request, Status, Text};
+use base_syntax::Bytes;
+use rtsp_message::{Fields, Reply, Request, Status};
 use std::alloc::{AllocError, Global};
 
 /// The methods that the relay knows, as the Public field lists them (RFC 2326, 10.1 and 12.28).
@@ -24,7 +25,7 @@ pub fn decide(alloc: Global, request: &Request) -> Result<Reply, AllocError>
         return Ok(plain_reply(alloc, Status::NotImplemented, Some(cseq)));
     }
     let mut reply = plain_reply(alloc, Status::Ok, Some(cseq));
-    reply.fields.public = Some(Text::from_slice(alloc, PUBLIC.as_bytes())?);
+    reply.fields.public = Some(Bytes::from_slice(alloc, PUBLIC.as_bytes())?);
     Ok(reply)
 }
 
@@ -36,6 +37,6 @@ fn plain_reply(alloc: Global, status: Status, cseq: Option<u32>) -> Reply
         status,
         cseq,
         fields: Fields::none(),
-        body: Text::new(Vec::new(alloc)),
+        body: Bytes::empty(alloc),
     }
 }

@@ -2,8 +2,11 @@
 #![tactic(auto)]
 
 pub mod decide;
+#[cfg(test)]
+mod prompt_tests;
 pub mod steps;
 pub mod talk;
+pub mod task;
 #[cfg(test)]
 mod tests;
 pub mod words;
@@ -12,38 +15,33 @@ use clap::Command;
 use interleaved::{Reading, Writing};
 use std::alloc::{AllocError, Global};
 use std::process::ExitCode;
-use steps::{run_steps, steps_end};
-use talk::{run_talk, talk_end};
+use task::{Task, exit_code, run_task, task_named};
 use words::FixedWord;
 
 fn main(rt: HostRuntime) -> anyhow::Result<ExitCode> {
     let alloc = rt.alloc();
     let words: Vec<String> = std::env::args(&rt)?.collect(alloc)?;
     match command(alloc)?.try_get_matches_from(words.as_slice()) {
-        Ok(matches) => match matches.subcommand_name() {
-            Some("steps") => steps_on_standard_streams(&rt),
-            _ => talk_on_standard_streams(&rt),
+        Ok(matches) => match matches.subcommand_name().and_then(|name| task_named(name)) {
+            Some(task) => run_on_standard_streams(&rt, task),
+            // The command line accepts no other command.
+            None => Ok(exit_code(COMMAND_LINE_FAULT)),
         },
         Err(error) => {
-            error.print(&rt)?;
-            Ok(ExitCode::from(error.exit_code() as u8))
+            // The status tells it, wherever the text goes.
+            let _ = error.print(&rt);
+            Ok(exit_code(error.exit_code() as u8))
         }
     }
 }
 
-/// Ten lines that `relay steps` runs.
+/// The exit status after a command line that isn't understood.
+const COMMAND_LINE_FAULT: u8 = 2;
+
+/// An input that `relay steps` runs, as a line for the shell.
 const EXAMPLE: &str = "Example: a seat loses the first of three packets, since the ring keeps two
 
-  keep 2
-  seats 1
-  p 41
-  p 42
-  p 43
-  0 attach
-  0 take
-  0 take
-  0 detach
-  go 0 p*15 0 0*5 0";
+printf 'keep 2\\nseats 1\\np 41\\np 42\\np 43\\n0 attach\\n0 take\\n0 take\\n0 detach\\ngo 0 p*15 0 0*5 0\\n' | ./relay steps";
 
 /// The command line: `relay talk` and `relay steps`.
 fn command<'a>(alloc: Global) -> Result<Command<'a>, AllocError> {
@@ -60,30 +58,14 @@ fn command<'a>(alloc: Global) -> Result<Command<'a>, AllocError> {
         .subcommand(steps)
 }
 
-/// Runs `relay talk`.
-fn talk_on_standard_streams(rt: &HostRuntime) -> anyhow::Result<ExitCode> {
+/// Does a task over the standard streams. Behind status 0 nothing stands on standard error.
+fn run_on_standard_streams(rt: &HostRuntime, task: Task) -> anyhow::Result<ExitCode> {
     let alloc = rt.alloc();
     let reader = Reading::new(rt.stdin());
     let mut writer = Writing::new(rt.stdout());
-    let end = run_talk(alloc, reader, &mut writer, &mut FixedWord(0));
-    let (status, line) = talk_end(alloc, &end)?;
-    exit(rt, status, &line)
-}
-
-/// Runs `relay steps`.
-fn steps_on_standard_streams(rt: &HostRuntime) -> anyhow::Result<ExitCode> {
-    let alloc = rt.alloc();
-    let reader = Reading::new(rt.stdin());
-    let mut writer = Writing::new(rt.stdout());
-    let end = run_steps(alloc, reader, &mut writer);
-    let (status, line) = steps_end(alloc, &end)?;
-    exit(rt, status, &line)
-}
-
-/// The exit code of a status. Behind status 0 nothing stands on standard error.
-fn exit(rt: &HostRuntime, status: u8, line: &str) -> anyhow::Result<ExitCode> {
-    if status != 0 {
-        rt.eprintln(line)?;
+    let ended = run_task(alloc, task, reader, &mut writer, &mut FixedWord(0))?;
+    if ended.status != 0 {
+        let _ = rt.eprintln(&ended.line);
     }
-    Ok(ExitCode::from(status))
+    Ok(exit_code(ended.status))
 }

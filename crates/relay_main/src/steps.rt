@@ -1,7 +1,6 @@
 //! The command `steps`: a ring's script and schedule are read, run step by step, and told.
 
 mod call_line;
-mod call_lines;
 mod draft;
 mod ends;
 mod first_line;
@@ -15,18 +14,15 @@ mod read_all;
 mod read_line;
 mod read_plan;
 mod running;
-mod schedule;
 mod script;
-mod seat_list;
+mod seat_table;
 #[cfg(test)]
 mod tests;
 
 pub use call_line::CallLine;
-pub use call_lines::CallLines;
 pub use ends::{StepsEnd, steps_end};
 pub use plan::{Plan, PlanFault};
 pub use printing::put_trace;
 pub use read_plan::read_plan;
 pub use running::run_steps;
-pub use schedule::Schedule;
 pub use script::script_of;

@@ -1,6 +1,7 @@
 //! One connection, from its first byte to its end.
 ghost use Rattle.std.specs.Prelude.{◌≡◌, ◌<◌, [], ◌∷◌, true, length, take, IfOk, IfErr, OnOk, string_bytes};
 ghost use Rattle.std.specs.Io.KnownBytes.{Appends};
+ghost use Rattle.rtsp_message.specs.Intakes.{fresh};
 ghost use Rattle.rtsp_message.specs.Reply.{reply_text, plain_text};
 ghost use Rattle.relay_main.specs.Decide.{reply_to};
 ghost use Rattle.relay_main.specs.Talk.{IsAnswer, AreAnswers, Talks, exit_status, exit_line, status_of as fixed_status};
@@ -26,16 +27,28 @@ pub enum TalkEnd {
 /// Answers the requests of one connection, in order, to its end.
 ///
 /// A fault of the stream, a failed device and want of memory in the reader end it. A reply that is refused memory is
-/// 503 in its place.
+/// 503 in its place. The reader is given back, as far as it was read.
 pub fn run_talk<R: Source + Drop, W: Sink, V: Words>(
     alloc: Global,
     reader: R,
     writer: &mut W,
     _words: &mut V,
-) -> TalkEnd
-    ensures { Talks R.incoming R.failed W.written W.failed reader writer.old writer.new result }
+) -> (TalkEnd, R)
+    ensures { Talks R.incoming R.failed W.written W.failed reader result.1 writer.old writer.new result.0 }
 {
     let mut intake = Intake::new(alloc, reader);
+    let end = answer_all(alloc, &mut intake, writer);
+    (end, intake.into_source())
+}
+
+/// Answers what an intake gives, one unit after another. Each answer is written before more is read.
+fn answer_all<R: Source + Drop, W: Sink>(
+    alloc: Global,
+    intake: &mut Intake<R>,
+    writer: &mut W,
+) -> TalkEnd
+    ensures { (reader : _) → intake.old ≡ fresh reader → Talks R.incoming R.failed W.written W.failed reader intake.new.source writer.old writer.new result }
+{
     loop {
         match intake.next() {
             Next::Unit(unit) => {

@@ -1,11 +1,12 @@
 //! Worked exchanges, byte for byte.
 use crate::decide::decide;
 use crate::talk::{TalkEnd, run_talk, talk_end};
+use crate::task::{Task, exit_code, run_task, task_named};
 use crate::words::{FixedWord, Words};
 use interleaved::{ListSink, ListSource, Sink, Source};
 use rtsp_message::{Fault, Reader, Status, Unit};
 use std::alloc::Global;
-use std::process::Abort;
+use std::process::{Abort, ExitCode};
 use std::test::Fail;
 
 const OPTIONS: &[u8] = b"OPTIONS * RTSP/1.0\r\nCSeq: 1\r\n\r\n";
@@ -23,7 +24,7 @@ fn talk(
 ) -> Result<(Vec<u8>, TalkEnd), Fail> {
     let source = ListSource::new(Vec::from_slice(alloc, input)?, piece.max(1), fail_at);
     let mut sink = ListSink::new(alloc, room)?;
-    let end = run_talk(alloc, source, &mut sink, &mut FixedWord(7));
+    let (end, _last) = run_talk(alloc, source, &mut sink, &mut FixedWord(7));
     Ok((sink.into_vec(), end))
 }
 
@@ -229,6 +230,88 @@ fn ends_are_reported(rt: HostRuntime) -> Result<(), Fail> {
     }
     assert_eq!(rt; FixedWord(7).word(), 7);
     Ok(())
+}
+
+/// The status, the line for standard error and the output of a task, from a source that fails at a place into a sink
+/// with this room.
+fn done(
+    alloc: Global,
+    task: Task,
+    input: &[u8],
+    fail_at: Option<usize>,
+    room: usize,
+) -> Result<(u8, String, Vec<u8>), Fail> {
+    let source = ListSource::new(Vec::from_slice(alloc, input)?, 100, fail_at);
+    let mut sink = ListSink::new(alloc, room)?;
+    let ended = run_task(alloc, task, source, &mut sink, &mut FixedWord(7))?;
+    Ok((ended.status, ended.line, sink.into_vec()))
+}
+
+#[test]
+fn a_task_ends_with_its_status_and_line(rt: HostRuntime) -> Result<(), Fail> {
+    let rows = [
+        (Task::Talk, OPTIONS, 0, "", OPTIONS_REPLY),
+        (
+            Task::Talk,
+            b"HELLO\r\n",
+            1,
+            "relay: stream fault 1",
+            b"RTSP/1.0 400 Bad Request\r\n\r\n",
+        ),
+        (
+            Task::Steps,
+            b"keep 1\nseats 0\np close\ngo p\n",
+            0,
+            "",
+            b"0 p close\n@0 p close\n",
+        ),
+        (
+            Task::Steps,
+            b"keep 0\nseats 0\np close\ngo p\n",
+            1,
+            "relay: bad config",
+            b"",
+        ),
+        (
+            Task::Steps,
+            b"keep 1\nseats x\n",
+            1,
+            "relay: bad line 2",
+            b"",
+        ),
+    ];
+    for (which, input, status, line, output) in rows {
+        let told = done(rt.alloc(), which, input, None, 1000)?;
+        assert_eq!(rt; told.0, status);
+        assert_eq!(rt; told.1.as_str(), line);
+        assert_eq!(rt; told.2.as_slice(), output);
+    }
+    Ok(())
+}
+
+#[test]
+fn a_failed_device_is_told(rt: HostRuntime) -> Result<(), Fail> {
+    let steps = b"keep 1\nseats 0\np close\ngo p\n".as_slice();
+    for (which, input) in [(Task::Talk, OPTIONS), (Task::Steps, steps)] {
+        let unread = done(rt.alloc(), which, input, Some(3), 1000)?;
+        assert_eq!(rt; (unread.0, unread.1.as_str()), (1, "relay: read failed"));
+        let unwritten = done(rt.alloc(), which, input, None, 3)?;
+        assert_eq!(rt;
+            (unwritten.0, unwritten.1.as_str()),
+            (1, "relay: write failed")
+        );
+        assert_eq!(rt; unwritten.2.len(), 3);
+    }
+    Ok(())
+}
+
+#[test]
+fn a_command_is_known_by_its_name(rt: HostRuntime) {
+    assert_eq!(rt; task_named("talk"), Some(Task::Talk));
+    assert_eq!(rt; task_named("steps"), Some(Task::Steps));
+    assert_eq!(rt; task_named("serve"), None);
+    assert!(rt; exit_code(1) == ExitCode::FAILURE);
+    assert!(rt; exit_code(2) == ExitCode::from(2));
 }
 
 #[test]

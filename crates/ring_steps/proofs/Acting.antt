@@ -6,7 +6,7 @@ use Rattle.std.proofs.lemmas.Option.{slice_get-map}
 use Rattle.cursor.specs.declared.packets.Packet.{Packet}
 use Rattle.cursor.specs.declared.calls.Answer.TheVariants.{Taken}
 use Rattle.cursor.specs.declared.takes.Delivery.TheVariants.{Empty, Ended}
-use Rattle.cursor.specs.Counting.{read_place}
+use Rattle.cursor.proofs.Counting.{read_place}
 use Rattle.cursor.specs.Log.{Log, LogEvent, with_cursor}
 use Rattle.ring_steps.specs.declared.calls.PublisherCall.{PublisherCall}
 use Rattle.ring_steps.specs.declared.calls.PublisherCall.TheVariants.{Publish, Close}

@@ -6,13 +6,12 @@ use Rattle.ring_steps.specs.declared.views.SeatPhase.{SeatPhase}
 use Rattle.ring_steps.specs.declared.views.SeatPhase.TheVariants as seating
 use Rattle.ring_steps.specs.Ring.{State, place, slot, word, floor, cursor, fresh_slot, with_slot}
 use Rattle.cursor.specs.declared.calls.Answer.TheVariants.{Refused}
-use Rattle.ring_steps.specs.declared.calls.Observed.TheVariants as saw
 use Rattle.ring_steps.specs.declared.calls.PublisherCall.TheVariants.{Publish}
 use Rattle.ring_steps.specs.declared.views.PublisherPhase.{PublisherPhase}
 use Rattle.ring_steps.specs.Step.{Outcome, PublisherActs, is_known, next_place, begin, begun, refused}
-use Rattle.ring_steps.specs.Slots.{Invariant, HasNumber, HoldsPacket, IsHolding, pin_of, pins_of}
+use Rattle.ring_steps.specs.Slots.{Invariant, HasNumber, HoldsPacket, IsHolding, SawPins, pin_of}
 use Rattle.ring_steps.proofs.Places.{at_set, by_test, place_apart, place_within}
-use Rattle.ring_steps.proofs.Seats.{no_pin}
+use Rattle.ring_steps.proofs.Seats.{no_pin, pins_within}
 use Rattle.ring_steps.proofs.Pinning.{one_at}
 
 -- a number in a slot, and no writing
@@ -163,30 +162,33 @@ clear_bit true h = absurd (h refl)
 clear_bit false h = refl
 
 -- a refused begin saw the pins of the seats that are there, and at least one
-pub refused_pins : (s : State) → Invariant s → s.publisher.phase ≡ publishing.Between → is_known s (word s (next_place s)) ≡ false
-    → ((word s (next_place s)).pins ≡ pins_of s.keep s.seats (next_place s)) × (1 ≤ (word s (next_place s)).pins)
+pub refused_pins : (s : State) → Invariant s → s.publisher.phase ≡ publishing.Between → is_known s (word s (next_place s)) ≡ false → SawPins s (refused s).saw
 refused_pins s h phase fails =
     let j = next_place s in
     let within = place_within s.keep (length s.log) in
     let number : (word s j).number ≡ length s.log - s.keep = rw phase at h.slots.numbers.next in
-    let writing : (word s j).writing ≡ false = clear_bit (word s j).writing (λ w. (rw phase at ((h.slots.writing j within).0 w)).0) in (
-      h.slots.pins j within,
-      elim (cases_lt 0 (word s j).pins) [
+    let writing : (word s j).writing ≡ false = clear_bit (word s j).writing (λ w. (rw phase at ((h.slots.writing j within).0 w)).0) in
+    let counted = h.slots.pins j within in
+    record {
+      begun = refl;
+      counted = counted;
+      some = elim (cases_lt 0 (word s j).pins) [
         | inl e ↦ omega arith
         | inr e ↦ absurd (
             let none : (word s j).pins ≡ 0 = omega arith in
             let test : is_known s (word s j) ≡ true = rw (writing, eq-eqb _ _ none, eq-eqb _ _ number) refl in cc)
-      ],
-    )
+      ];
+      within = let few = pins_within s.keep s.seats j in omega arith;
+    }
 
 -- the same of a step that answers so
 pub refused_step : (phase : PublisherPhase) (p : List ℕ) (s : State) (o : Outcome) → s.publisher.phase ≡ phase → PublisherActs phase (Publish p) s o → o.answer ≡ Some Refused → Invariant s
-    → (o.saw ≡ saw.Begin (word s (next_place s))) × ((word s (next_place s)).pins ≡ pins_of s.keep s.seats (next_place s)) × (1 ≤ (word s (next_place s)).pins)
+    → SawPins s o.saw
 refused_step publishing.Between p s o phase acts is h =
     let eq = acts.1 in
     by_test (is_known s (word s (next_place s)))
     (λ e. absurd (let begins = rw e at eq in let none = ap (λ (q : Outcome). q.answer) begins in cc))
-    (λ e. let fails = rw e at eq in let both = refused_pins s h phase e in (ap (λ (q : Outcome). q.saw) fails, both.0, both.1))
+    (λ e. let fails = rw e at eq in subst (λ (q : Outcome). SawPins s q.saw) (sym fails) (refused_pins s h phase e))
 refused_step publishing.Begun p s o phase acts is h = absurd (let none = ap (λ (q : Outcome). q.answer) acts.1 in cc)
 refused_step publishing.Filling p s o phase acts is h =
     let eq = acts.1 in

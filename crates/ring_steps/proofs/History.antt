@@ -9,11 +9,13 @@ use Rattle.cursor.specs.declared.calls.Answer.{Answer}
 use Rattle.cursor.specs.declared.calls.Answer.TheVariants.{Attached, Taken, Detached}
 use Rattle.cursor.specs.declared.calls.Call.{Call}
 use Rattle.cursor.specs.declared.calls.Call.TheVariants as calls
-use Rattle.cursor.specs.Counting.{read_place}
+use Rattle.cursor.proofs.Counting.{read_place}
 use Rattle.cursor.specs.Account.{cursor_of}
 use Rattle.cursor.specs.Log.{Event, LegalHistory, Log, Run, attached_at, detached_with, empty_log}
 use Rattle.cursor.specs.Plain.{HasAccount, IsFree, Plain, PlainEvent, PlainRun, empty_plain, log_of, plain_of}
 use Rattle.cursor.proofs.Accounts.{PlainRun-split, left_of_attachment}
+use Rattle.cursor.specs.Player.{PlayersReceive}
+use Rattle.cursor.proofs.Players.{players_receive}
 use Rattle.cursor.proofs.Runs.{Run-log_of, map-replicate}
 use Rattle.ring_steps.specs.Traces.{TellsAccounts}
 use Rattle.cursor.proofs.Plains.{attach_event, detach_event, same_place, take_event, with_place}
@@ -385,6 +387,12 @@ history_legal calls keep seats turns end low ran =
     ap (λ (cs : List (Option ℕ)). let log : Log = record { packets = []; closed = false; cursors = cs } in log) (map-replicate seats) in
     subst (λ (l : Log). Run keep l (history_of turns) (log_of (plain_at end.ring []))) empty
     (Run-log_of (empty_plain keep seats 0) (history_of turns) (plain_at end.ring []) (history_plain calls keep seats turns end low ran))
+
+-- in which each player receives the log
+pub history_players : (calls : Calls) (keep seats : ℕ) (turns : List Turn) (end : At) → 1 ≤ keep → Ran calls (start keep seats) turns end
+    → PlayersReceive (history_of turns) (map packet_of end.ring.log)
+history_players calls keep seats turns end low ran =
+    players_receive keep seats (history_of turns) (log_of (plain_at end.ring [])) (history_legal calls keep seats turns end low ran)
 
 -- in which each detachment tells its account
 pub history_accounts : (calls : Calls) (keep seats : ℕ) (turns : List Turn) (end : At) → 1 ≤ keep → Ran calls (start keep seats) turns end → TellsAccounts (history_of turns)

@@ -20,8 +20,15 @@ pub mod Telling
 pub mod Pending
 pub mod History
 pub mod Choices
+pub mod Sights
 pub mod Located
 pub mod Refusing
+pub mod Counting
 pub mod EachOnce
 pub mod Potential
 pub mod Meeting
+pub mod Stepping
+pub mod Alone
+pub mod Seeing
+pub mod Bits
+pub mod Moves

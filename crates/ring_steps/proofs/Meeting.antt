@@ -12,8 +12,7 @@ around (u ∷ us) zero t at = let same : u ≡ t = cc in (us, ap (λ (v : Turn).
 around (u ∷ us) (suc n) t at = let rest = around us n t at in (rest.0, ap (λ (vs : List Turn). u ∷ vs) rest.1)
 
 pub move_meets : (script : Calls) (keep seats : ℕ) (turns : List Turn) (mid new : At) (t : Turn) → 1 ≤ keep → Ran script (start keep seats) turns mid → Move script mid t new → MeetsPins mid.ring t
-move_meets script keep seats turns mid new t low ran move refused =
-    let met = refused_met script keep seats turns mid new t low ran move refused in (met.saw, met.pins, met.some)
+move_meets script keep seats turns mid new t low ran move refused = refused_met script keep seats turns mid new t low ran move refused
 
 -- each turn of a run
 pub turn_meets : (script : Calls) (keep seats : ℕ) (turns : List Turn) (end : At) (n : ℕ) (mid : At) (t : Turn) → 1 ≤ keep → Ran script (start keep seats) turns end

@@ -8,7 +8,7 @@ use Rattle.cursor.specs.declared.calls.Answer.{Answer}
 use Rattle.cursor.specs.declared.calls.Answer.TheVariants.{Taken}
 use Rattle.cursor.specs.declared.takes.Delivery.TheVariants.{Got}
 use Rattle.cursor.specs.Account.{cursor_of}
-use Rattle.cursor.specs.Counting.{read_place}
+use Rattle.cursor.proofs.Counting.{read_place}
 use Rattle.cursor.proofs.Attachments.{read_other}
 use Rattle.ring_steps.specs.declared.calls.Actor.{Actor}
 use Rattle.ring_steps.specs.declared.calls.Actor.TheVariants.{P, Seat}

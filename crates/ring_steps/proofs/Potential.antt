@@ -2,7 +2,7 @@ use Rattle.std.proofs.Common.{subst, ◌≡◌, ℕ, ◌+◌, ◌==◌, ◌&&◌
 use Rattle.std.specs.Prelude.{if◌then◌else◌}
 use Rattle.std.proofs.lemmas.Bool.Decides.{eqb_tells}
 use Rattle.std.proofs.lemmas.Option.{get_or_from_slice_get}
-use Rattle.cursor.specs.Counting.{read_place}
+use Rattle.cursor.proofs.Counting.{read_place}
 use Rattle.ring_steps.specs.declared.calls.Actor.{Actor}
 use Rattle.ring_steps.specs.declared.calls.Actor.TheVariants.{P, Seat}
 use Rattle.ring_steps.specs.declared.calls.PublisherCall.{PublisherCall}

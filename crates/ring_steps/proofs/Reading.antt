@@ -5,6 +5,7 @@ use Rattle.cursor.proofs.Attachments.{slice_get-append}
 use Rattle.ring_steps.specs.declared.views.PublisherPhase.{PublisherPhase}
 use Rattle.ring_steps.specs.declared.views.PublisherPhase.TheVariants as publishing
 use Rattle.ring_steps.specs.declared.views.Seat.{Seat}
+use Rattle.ring_steps.specs.declared.views.SeatPhase.{SeatPhase}
 use Rattle.ring_steps.specs.declared.views.SeatPhase.TheVariants as seating
 use Rattle.ring_steps.specs.Ring.{State, place, slot, cursor}
 use Rattle.ring_steps.specs.Step.{read_length, read_byte, read_on}
@@ -20,11 +21,17 @@ before_pending publishing.Begun log p c q at = at
 before_pending publishing.Filling log p c q at = at
 before_pending publishing.Finished log p c q at = slice_get-append log (p ∷ []) c q at
 
+-- the packet of a seat whose pin holds is in the log
+holding_within : (phase : SeatPhase) (s : State) (i : ℕ) (x : Seat) → x.phase ≡ phase → IsHolding phase → Invariant s → slice_get s.seats i ≡ Some x → cursor x < length s.log
+holding_within seating.Holding s i x phase holds h at = let below = (rw phase at (h.phases.knows i x at)).0 in let seen = (h.slots.seen i x at).0 in omega arith
+holding_within seating.Reading s i x phase holds h at = let below = (rw phase at (h.phases.knows i x at)).0 in let seen = (h.slots.seen i x at).0 in omega arith
+holding_within phase s i x is holds h at = absurd holds
+
 -- a seat whose pin holds finds its packet in the slot
-pub own_packet : (s : State) (i : ℕ) (x : Seat) → Invariant s → slice_get s.seats i ≡ Some x → IsHolding x.phase → cursor x < length s.log
-    → Stands s.log (cursor x) (slot s (place s (cursor x)))
-own_packet s i x h at holding below =
+pub own_packet : (s : State) (i : ℕ) (x : Seat) → Invariant s → slice_get s.seats i ≡ Some x → IsHolding x.phase → Stands s.log (cursor x) (slot s (place s (cursor x)))
+own_packet s i x h at holding =
     let c = cursor x in
+    let below = holding_within x.phase s i x refl holding h at in
     let there : slice_get s.log c ≡ Some (slice_index_or s.log c []) = slice_get-get_or s.log c [] below in
     let held = h.slots.held i x at holding in
     let packet = h.slots.packets (place s c) c (place_within s.keep c) held in
@@ -37,7 +44,7 @@ read_length_keeps s i x h at phase =
     let below = knows.0 in
     let seen = h.slots.seen i x at in
     let length_seen = seen.0 in
-    let own = own_packet s i x h at (rw phase tt) (omega arith) in
+    let own = own_packet s i x h at (rw phase tt) in
     view_keeps s i x _ h at (λ j. rw phase refl) (record {
       held = λ t. h.slots.held i x at (rw phase tt);
       seen = seen;
@@ -61,7 +68,7 @@ read_byte_keeps s i x h at phase more =
     let read = knows.1.1 in
     let seen = h.slots.seen i x at in
     let length_seen = seen.0 in
-    let own = own_packet s i x h at (rw phase tt) (omega arith) in
+    let own = own_packet s i x h at (rw phase tt) in
     let same : own.packet ≡ read.packet = let a = own.there in let b = read.there in cc in
     let stands = rw same at own.bytes in
     let size = read.size in

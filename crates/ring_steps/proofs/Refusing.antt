@@ -2,7 +2,6 @@ use Rattle.std.proofs.Common.{◌≡◌, ℕ, ◌==◌, ◌≤◌, Some, List, l
 use Rattle.cursor.specs.declared.calls.Answer.TheVariants.{Refused}
 use Rattle.ring_steps.specs.declared.calls.Actor.{Actor}
 use Rattle.ring_steps.specs.declared.calls.Actor.TheVariants.{P, Seat}
-use Rattle.ring_steps.specs.declared.calls.Observed.TheVariants.{Begin}
 use Rattle.ring_steps.specs.declared.calls.PublisherCall.{PublisherCall}
 use Rattle.ring_steps.specs.declared.calls.PublisherCall.TheVariants.{Publish, Close}
 use Rattle.ring_steps.specs.declared.calls.SeatCall.{SeatCall}
@@ -12,10 +11,10 @@ use Rattle.ring_steps.specs.declared.views.PublisherPhase.TheVariants as publish
 use Rattle.ring_steps.specs.declared.views.Seat as views
 use Rattle.ring_steps.specs.declared.views.SeatPhase.{SeatPhase}
 use Rattle.ring_steps.specs.declared.views.SeatPhase.TheVariants as seating
-use Rattle.ring_steps.specs.Ring.{State, cursor, floor, word}
+use Rattle.ring_steps.specs.Ring.{State, cursor, floor}
 use Rattle.ring_steps.specs.Runs.{At, Calls, Move, MoveBy, Ran, Turn, outcome_of, start}
-use Rattle.ring_steps.specs.Slots.{Invariant, pins_of}
-use Rattle.ring_steps.specs.Step.{Outcome, PublisherActs, SeatActs, next_place}
+use Rattle.ring_steps.specs.Slots.{Invariant, SawPins}
+use Rattle.ring_steps.specs.Step.{Outcome, PublisherActs, SeatActs}
 use Rattle.ring_steps.proofs.Begins.{refused_step}
 use Rattle.ring_steps.proofs.Opening.{empty_keeps}
 use Rattle.ring_steps.proofs.Places.{by_test}
@@ -43,21 +42,15 @@ close_never : (phase : PublisherPhase) (s : State) (o : Outcome) → PublisherAc
 close_never publishing.Between s o acts is = let e = ap (λ (q : Outcome). q.answer) acts.1 in cc
 close_never phase s o acts is = absurd acts
 
--- a refusal met these pins
-pub record Met (s : State) (t : Turn) : Type 0 where
-  pub saw : t.saw ≡ Begin (word s (next_place s))
-  pub pins : (word s (next_place s)).pins ≡ pins_of s.keep s.seats (next_place s)
-  pub some : 1 ≤ (word s (next_place s)).pins
-
-refused_by : (call : PublisherCall) (s : State) (t : Turn) (u : State) → PublisherActs s.publisher.phase call s (outcome_of u t) → t.answer ≡ Some Refused → Invariant s → Met s t
-refused_by (Publish p) s t u acts is h = let met = refused_step s.publisher.phase p s (outcome_of u t) refl acts is h in record { saw = met.0; pins = met.1; some = met.2 }
+refused_by : (call : PublisherCall) (s : State) (t : Turn) (u : State) → PublisherActs s.publisher.phase call s (outcome_of u t) → t.answer ≡ Some Refused → Invariant s → SawPins s t.saw
+refused_by (Publish p) s t u acts is h = refused_step s.publisher.phase p s (outcome_of u t) refl acts is h
 refused_by Close s t u acts is h = absurd (close_never s.publisher.phase s (outcome_of u t) acts is)
 
-move_met : (actor : Actor) (script : Calls) (old : At) (t : Turn) (new : At) → MoveBy actor script old t new → t.answer ≡ Some Refused → Invariant old.ring → Met old.ring t
+move_met : (actor : Actor) (script : Calls) (old : At) (t : Turn) (new : At) → MoveBy actor script old t new → t.answer ≡ Some Refused → Invariant old.ring → SawPins old.ring t.saw
 move_met P script old t new move is h = refused_by move.call old.ring t new.ring move.step is h
 move_met (Seat i) script old t new move is h = absurd (seat_never move.step.view.phase move.call old.ring i move.step.view (outcome_of new.ring t) move.step.acts is)
 
 pub refused_met : (script : Calls) (keep seats : ℕ) (turns : List Turn) (mid new : At) (t : Turn) → 1 ≤ keep → Ran script (start keep seats) turns mid → Move script mid t new
-    → t.answer ≡ Some Refused → Met mid.ring t
+    → t.answer ≡ Some Refused → SawPins mid.ring t.saw
 refused_met script keep seats turns mid new t low ran move is =
     move_met t.actor script mid t new move is (ran_keeps script (start keep seats) turns mid ran (empty_keeps keep seats low))

@@ -1,7 +1,10 @@
-use Rattle.std.proofs.Common.{◌≡◌, ℕ, zero, suc, ◌+◌, ◌%◌, ◌≤◌, Some, List, [], ◌∷◌, subst, arith, slice_get, slice_set}
+use Rattle.std.proofs.Common.{◌≡◌, ℕ, zero, suc, ◌+◌, ◌%◌, ◌==◌, ◌≤◌, Some, List, [], ◌∷◌, length, subst, arith, slice_get, slice_set}
 use Rattle.ring_steps.specs.declared.views.Seat.{Seat}
+use Rattle.ring_steps.specs.declared.views.SeatPhase.{SeatPhase}
+use Rattle.ring_steps.specs.declared.views.SeatPhase.TheVariants as seating
 use Rattle.ring_steps.specs.Ring.{cursor}
 use Rattle.ring_steps.specs.Slots.{pin_of, pins_of}
+use Rattle.ring_steps.proofs.Places.{by_test}
 
 -- how many seats pin a slot, after one seat's view changed
 pub pins_set : (k : ℕ) (xs : List Seat) (i : ℕ) (x y : Seat) (j : ℕ) → slice_get xs i ≡ Some x
@@ -30,3 +33,17 @@ pub pin_counted : (k : ℕ) (xs : List Seat) (i : ℕ) (x : Seat) (j : ℕ) → 
 pin_counted k [] i x j at = absurd (cc)
 pin_counted k (z ∷ xs) zero x j at = let same : z ≡ x = cc in rw (← same) (omega arith)
 pin_counted k (z ∷ xs) (suc i) x j at = let rest = pin_counted k xs i x j at in omega arith
+
+pin_once : (phase : SeatPhase) (at j : ℕ) → pin_of phase at j ≤ 1
+pin_once seating.Out at j = omega arith
+pin_once seating.Between at j = omega arith
+pin_once seating.Found at j = omega arith
+pin_once seating.Holding at j = by_test (at == j) (λ e. rw e (omega arith)) (λ e. rw e (omega arith))
+pin_once seating.Reading at j = by_test (at == j) (λ e. rw e (omega arith)) (λ e. rw e (omega arith))
+pin_once seating.Failed at j = by_test (at == j) (λ e. rw e (omega arith)) (λ e. rw e (omega arith))
+pin_once seating.Missed at j = omega arith
+
+-- no more seats pin a slot than there are
+pub pins_within : (k : ℕ) (xs : List Seat) (j : ℕ) → pins_of k xs j ≤ length xs
+pins_within k [] j = omega arith
+pins_within k (x ∷ xs) j = let one = pin_once x.phase (cursor x % (k + 1)) j in let rest = pins_within k xs j in omega arith

@@ -5,7 +5,7 @@ use Rattle.std.proofs.Math.Seq.{get_or-append_seam}
 use Rattle.std.proofs.lemmas.List.{get_or_append_left, length-append, length-map, reverse-append}
 use Rattle.std.proofs.Common.{append-nil, append_assoc}
 use Rattle.std.proofs.lemmas.Option.{same_Some, slice_get-get_or, slice_get_read}
-use Rattle.cursor.specs.Counting.{read_place}
+use Rattle.cursor.proofs.Counting.{read_place}
 use Rattle.cursor.proofs.Attachments.{read_other}
 use Rattle.std.specs.Prelude.{All, reverse, option_and_then}
 use Rattle.cursor.specs.declared.calls.Answer.{Answer}

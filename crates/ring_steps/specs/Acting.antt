@@ -16,7 +16,7 @@ use Rattle.ring_steps.specs.Runs.{At, Calls, Turn}
 -- begin, a close at its store, and an attachment or a detachment at its load: each where it is
 -- answered. A take acts at its first load, which for Empty, Ended and a loss without a pin is where it
 -- is answered, and for a packet comes before its answer. But a loss after a failed pin acts at the
--- take's second load, where it is answered
+-- take's second load, where it is answered. `ActsAt` of Within.antt is this table, which each run keeps to
 
 -- the answer is a packet
 abbrev pub is_packet : Answer → Bool
@@ -107,7 +107,20 @@ is_actor P (Seat t) = false
 is_actor (Seat s) P = false
 is_actor (Seat s) (Seat t) = s == t
 
--- the calls of an actor among those that act, in order
-abbrev pub acted_calls : Actor → List Acted → List Call
-acted_calls actor [] = []
-acted_calls actor (a ∷ rest) = (if is_actor actor a.actor then a.event.call ∷ [] else []) ++ acted_calls actor rest
+-- the events of an actor among those that act, in order
+abbrev pub events_of : Actor → List Acted → List Event
+events_of actor [] = []
+events_of actor (a ∷ rest) = (if is_actor actor a.actor then a.event ∷ [] else []) ++ events_of actor rest
+
+-- the event of a call that is answered
+abbrev pub answered_call : Call → Option Answer → List Event
+answered_call call None = []
+answered_call call (Some a) = record { call = call; answer = a } ∷ []
+
+abbrev pub answer_of : Actor → Turn → List Event
+answer_of actor t = if is_actor actor t.actor then answered_call t.call t.answer else []
+
+-- an actor's answered calls in these turns, in order, with their answers
+abbrev pub answers_of : Actor → List Turn → List Event
+answers_of actor [] = []
+answers_of actor (t ∷ ts) = answer_of actor t ++ answers_of actor ts

@@ -1,6 +1,9 @@
 pub mod Ring
 pub mod Step
 pub mod Slots
+pub mod RingSteps
+pub mod Bits
+pub mod Moves
 pub mod Bounds
 pub mod Runs
 pub mod Answers
@@ -11,4 +14,5 @@ pub mod Agreeing
 pub mod Traces
 pub mod Acting
 pub mod Atomic
+pub mod Within
 pub mod Texts

@@ -1,4 +1,4 @@
-use Rattle.std.specs.Prelude.{ℕ, ◌+◌, ◌-◌, ◌%◌, false, List, [], ◌∷◌, ◌++◌, length, nat_lt, slice_set, slice_index_or, replicate, if◌then◌else◌}
+use Rattle.std.specs.Prelude.{◌≡◌, ℕ, ◌+◌, ◌-◌, ◌%◌, false, List, [], ◌∷◌, ◌++◌, length, nat_lt, slice_set, slice_index_or, replicate, if◌then◌else◌}
 use Rattle.cursor.specs.Account.{cursor_of}
 use Rattle.ring_steps.specs.declared.words.Word.{Word}
 use Rattle.ring_steps.specs.declared.words.Head.{Head}
@@ -22,9 +22,13 @@ pub record State : Type 0 where
 abbrev pub place : State → ℕ → ℕ
 place s n = n % (s.keep + 1)
 
--- a slot to which no packet came
+-- the word of a slot to which no packet came
+abbrev pub fresh_word : Word
+fresh_word = record { pins = 0; writing = false; number = 0 }
+
+-- such a slot
 abbrev pub fresh_slot : Slot
-fresh_slot = record { word = record { pins = 0; writing = false; number = 0 }; len = 0; bytes = [] }
+fresh_slot = record { word = fresh_word; len = 0; bytes = [] }
 
 -- the slot at a place
 abbrev pub slot : State → ℕ → Slot
@@ -70,16 +74,29 @@ new_seat = record {
   read = [];
 }
 
--- the ring that nobody used yet
-abbrev pub empty_ring : (keep seats : ℕ) → State
-empty_ring keep seats = record {
+-- the ring that nobody used yet, of these slots
+abbrev pub new_ring : (keep seats : ℕ) → List Slot → State
+new_ring keep seats slots = record {
   keep = keep;
   head = record { length = 0; closed = false };
-  slots = replicate (keep + 1) fresh_slot;
+  slots = slots;
   log = [];
   publisher = new_publisher;
   seats = replicate seats new_seat;
 }
+
+abbrev pub empty_ring : (keep seats : ℕ) → State
+empty_ring keep seats = new_ring keep seats (replicate (keep + 1) fresh_slot)
+
+-- the slots of a ring that nobody used yet: no packet came to them, whatever their length cells and
+-- bytes are
+pub record AreFresh (keep : ℕ) (slots : List Slot) : Type 0 where
+  pub width : length slots ≡ keep + 1
+  pub words : (j : ℕ) → (slice_index_or slots j fresh_slot).word ≡ fresh_word
+
+-- the ring with one seat more
+abbrev pub with_new_seat : State → State
+with_new_seat s = record s { seats = s.seats ++ new_seat ∷ [] }
 
 -- the view of a seat that is there
 abbrev pub seat_at : State → (seat : ℕ) → Seat

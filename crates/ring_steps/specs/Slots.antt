@@ -1,4 +1,6 @@
 use Rattle.std.specs.Prelude.{◌≡◌, ◌↔◌, ◌⊎◌, ℕ, ◌+◌, ◌-◌, ◌%◌, ◌<◌, ◌≤◌, ◌==◌, true, false, Option, Some, None, List, [], ◌∷◌, ◌++◌, length, take, slice_get, if◌then◌else◌}
+use Rattle.ring_steps.specs.declared.calls.Observed.{Observed}
+use Rattle.ring_steps.specs.declared.calls.Observed.TheVariants.{Begin}
 use Rattle.ring_steps.specs.declared.words.Slot.{Slot}
 use Rattle.ring_steps.specs.declared.views.Publisher.{Publisher}
 use Rattle.ring_steps.specs.declared.views.PublisherPhase.{PublisherPhase}
@@ -139,6 +141,27 @@ pub record Invariant (s : State) : Type 0 where
   pub slots : SlotInvariant s
   pub phases : Phases s
 
+-- a sound state in which this seat is there, with this view, which is in this phase
+pub record SeatIs (phase : SeatPhase) (s : State) (i : ℕ) (x : Seat) : Type 0 where
+  pub sound : Invariant s
+  pub there : slice_get s.seats i ≡ Some x
+  pub within : x.phase ≡ phase
+
+-- the same, where the seat's pin holds
+pub record SeatHolds (s : State) (i : ℕ) (x : Seat) : Type 0 where
+  pub sound : Invariant s
+  pub there : slice_get s.seats i ≡ Some x
+  pub holds : IsHolding x.phase
+
+-- the packet of the log that is at a seat's cursor
+abbrev pub IsNextFor : State → Seat → (packet : List ℕ) → Type 0
+IsNextFor s x p = slice_get s.log (cursor x) ≡ Some p
+
+-- a sound state in which the publisher is in this phase
+pub record PublisherIs (phase : PublisherPhase) (s : State) : Type 0 where
+  pub sound : Invariant s
+  pub within : s.publisher.phase ≡ phase
+
 -- what never falls over a step: the head's length, the closed bit, each slot's number, and the log
 pub record Grows (old new : State) : Type 0 where
   pub head : old.head.length ≤ new.head.length
@@ -152,3 +175,11 @@ pub record Stands (log : List (List ℕ)) (c : ℕ) (x : Slot) : Type 0 where
   pub there : slice_get log c ≡ Some packet
   pub len : x.len ≡ length packet
   pub bytes : take (length packet) x.bytes ≡ packet
+
+-- a begin that failed saw the word where the next packet goes, with as many pins as seats stood between
+-- their pin and unpin there: at least one, and at most all
+pub record SawPins (s : State) (saw : Observed) : Type 0 where
+  pub begun : saw ≡ Begin (word s (next_place s))
+  pub counted : (word s (next_place s)).pins ≡ pins_of s.keep s.seats (next_place s)
+  pub some : 1 ≤ (word s (next_place s)).pins
+  pub within : (word s (next_place s)).pins ≤ length s.seats

@@ -2,19 +2,17 @@ use Rattle.std.specs.Prelude.{◌≡◌, ◌<◌, ◌≤◌, ◌∷◌, ◌++◌
 use Rattle.cursor.specs.declared.takes.Left.{Left}
 use Rattle.cursor.specs.Account.{StaysAttached, lost, received, takes_of}
 use Rattle.cursor.specs.Log.{Event, LegalHistory, Log, attached_at, detached_with}
-use Rattle.ring_steps.specs.Ring.{State, word}
-use Rattle.ring_steps.specs.Slots.{pins_of}
-use Rattle.ring_steps.specs.Step.{next_place}
+use Rattle.ring_steps.specs.Ring.{State}
+use Rattle.ring_steps.specs.Slots.{SawPins}
 use Rattle.cursor.specs.declared.calls.Answer.{Answer}
 use Rattle.cursor.specs.declared.calls.Answer.TheVariants.{Refused}
-use Rattle.ring_steps.specs.declared.calls.Observed.TheVariants.{Begin}
 use Rattle.ring_steps.specs.declared.calls.Actor.{Actor}
 use Rattle.ring_steps.specs.declared.calls.Actor.TheVariants.{P, Seat}
 use Rattle.ring_steps.specs.declared.config.Config.{Config}
 use Rattle.ring_steps.specs.declared.made.Made.{Made}
 use Rattle.ring_steps.specs.declared.trace.Trace.{Trace}
 use Rattle.ring_steps.specs.declared.trace.TraceStep.{TraceStep}
-use Rattle.ring_steps.specs.Acting.{Acted, acted, acted_calls, answered_of, calls_of_actor, event_of, only_packet, reply_to}
+use Rattle.ring_steps.specs.Acting.{acted, answered_of, answers_of, calls_of_actor, event_of, events_of, only_packet, reply_to}
 use Rattle.ring_steps.specs.Atomic.{IsUnanswered, atomic_steps, most_atomic}
 use Rattle.ring_steps.specs.Faults.{actors}
 use Rattle.ring_steps.specs.Runs.{At, Calls, Ran, Turn, start}
@@ -73,24 +71,21 @@ TellsAccounts events = (seat from : ℕ) (left : Left) (before during after : Li
     → StaysAttached seat during
     → (left.taken ≡ length (received (takes_of seat during))) × (left.lost ≡ lost (takes_of seat during))
 
--- each answered call has one event and no other call has one: in the acting order the calls of an actor
--- are its answered calls, in their order
+-- each answered call has one event, with its answer, and no other call has one: the events of an actor
+-- are, in the acting order, its answered calls with their answers, and these are the first of its script
 abbrev pub ActsOnce : Calls → List Turn → (end : At) → Type 0
-ActsOnce calls turns end = (actor : Actor) → acted_calls actor (acted 0 turns) ≡ take (answered_of end actor) (calls_of_actor calls actor)
-
--- a call acts at a step of its own actor, and within it
-abbrev pub ActsWithin : List Turn → Type 0
-ActsWithin turns = (n : ℕ) (a : Acted) → slice_get (acted 0 turns) n ≡ Some a → (t : Turn) × (slice_get turns a.step ≡ Some t) × (t.actor ≡ a.actor) × (t.call ≡ a.event.call)
+ActsOnce calls turns end = (actor : Actor)
+    → (events_of actor (acted 0 turns) ≡ answers_of actor turns)
+    × (map (λ (e : Event). e.call) (answers_of actor turns) ≡ take (answered_of end actor) (calls_of_actor calls actor))
 
 -- each call makes no more atomic steps than it may
 abbrev pub StepsAreFew : List Turn → Type 0
 StepsAreFew turns = (before during after : List Turn) (t : Turn) → turns ≡ before ++ during ++ t ∷ after → IsUnanswered t.actor during
     → atomic_steps t.actor (during ++ t ∷ []) ≤ most_atomic t.call
 
--- a refused publish saw as many pins as seats stood between their pin and unpin in its slot, and at least
--- one
+-- a refused publish saw the pins of the seats that stood in its slot
 abbrev pub MeetsPins : State → Turn → Type 0
-MeetsPins s t = t.answer ≡ Some Refused → let w = word s (next_place s) in (t.saw ≡ Begin w) × (w.pins ≡ pins_of s.keep s.seats (next_place s)) × (1 ≤ w.pins)
+MeetsPins s t = t.answer ≡ Some Refused → SawPins s t.saw
 
 -- each turn, with the state before it
 abbrev pub EachTurn : Config → Calls → List Turn → (State → Turn → Type 0) → Type 0

@@ -1,5 +1,5 @@
-use super::buffers::Bytes;
 use super::words::{Head, Word};
+use base_syntax::Bytes;
 use cursor::Answer;
 use std::fmt;
 

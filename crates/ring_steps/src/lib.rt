@@ -3,6 +3,7 @@
 //! history of the broadcast log.
 #![tactic(auto)]
 
+pub mod bit_laws;
 mod buffers;
 mod calls;
 mod checking;
@@ -24,7 +25,7 @@ mod tracing;
 mod views;
 mod words;
 
-pub use buffers::Bytes;
+pub use base_syntax::Bytes;
 pub use calls::{Actor, Observed, PublisherCall, SeatCall, Stepped};
 pub use config::Config;
 pub use fault::StepFault;

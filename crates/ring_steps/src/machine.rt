@@ -2,10 +2,10 @@ ghost use Rattle.std.specs.Prelude.{◌≡◌, ◌≤◌, ◌<◌, ◌^◌, ◌+
 ghost use Rattle.ring_steps.specs.Ring.{empty_ring};
 ghost use Rattle.ring_steps.specs.Slots.{Invariant};
 
-use super::buffers::Bytes;
 use super::ring::Ring;
 use super::views::{Publisher, PublisherPhase, Seat, SeatPhase};
 use super::words::{Head, Slot, Word};
+use base_syntax::Bytes;
 use cursor::Account;
 use std::alloc::{AllocError, Global};
 

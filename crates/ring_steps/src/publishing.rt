@@ -3,11 +3,12 @@ ghost use Rattle.ring_steps.specs.Ring.{State, slot};
 ghost use Rattle.ring_steps.specs.Bounds.{PublisherBounds};
 ghost use Rattle.ring_steps.specs.Step.{outcome, begin, write_length, write_byte, finish, append, close, next_place};
 
-use super::buffers::Bytes;
+use super::buffers::{byte_at, put_byte};
 use super::calls::{Observed, Stepped};
 use super::ring::Ring;
 use super::views::PublisherPhase;
 use super::words::{Head, Word};
+use base_syntax::Bytes;
 use cursor::Answer;
 use std::alloc::AllocError;
 use std::mem;
@@ -27,7 +28,7 @@ impl Ring {
         ensures step { IfOk result (λ r. outcome self.new r ≡ begin self.old packet.now) }
         ensures err { OnErr result (self.new ≡ self.old) }
     {
-        let packet = Bytes::copied(self.alloc, packet.as_slice())?;
+        let packet = Bytes::from_slice(self.alloc, packet.as_slice())?;
         let place = self.next_place();
         let word = self.slots[place].word;
         let floor = (self.log.len() as u64).saturating_sub(self.keep);
@@ -72,8 +73,8 @@ impl Ring {
     {
         let place = self.next_place();
         let written = self.publisher.written;
-        let byte = self.publisher.packet.at(written);
-        self.slots[place].bytes.put(written, byte)?;
+        let byte = byte_at(&self.publisher.packet, written);
+        put_byte(&mut self.slots[place].bytes, written, byte)?;
         self.publisher.written = written + 1;
         Ok(Stepped {
             saw: Observed::Byte(byte),

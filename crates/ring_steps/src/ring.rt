@@ -4,11 +4,12 @@ ghost use Rattle.ring_steps.specs.Ring.{State, seat_at, cursor, place, word};
 ghost use Rattle.ring_steps.specs.Bounds.{SeatBounds};
 ghost use Rattle.ring_steps.specs.Step.{outcome, attach, detach, first_load, second_load, end_take, lose, find_packet, pin, unpin, unpin_failed, read_length, read_byte};
 
-use super::buffers::Bytes;
+use super::buffers::byte_at;
 use super::calls::{Observed, Stepped};
 use super::views::{Publisher, PublisherPhase, Seat, SeatPhase};
 use super::words::{Head, Slot, Word};
-use cursor::{Account, Answer, Delivery, Left, Packet, Payload};
+use base_syntax::Bytes;
+use cursor::{Account, Answer, Delivery, Left, Packet};
 use std::alloc::{AllocError, Global};
 use std::marker::Model;
 
@@ -192,7 +193,7 @@ impl Ring {
         view.phase = SeatPhase::Between;
         let packet = Packet {
             tag: 0,
-            bytes: Payload::new(bytes),
+            bytes: Bytes::new(bytes),
         };
         Ok(Stepped {
             saw: Observed::Unpin(word),
@@ -243,7 +244,7 @@ impl Ring {
     {
         let cursor = self.seats[seat].account.cursor();
         let place = self.place(cursor);
-        let byte = self.slots[place].bytes.at(self.seats[seat].read.len());
+        let byte = byte_at(&self.slots[place].bytes, self.seats[seat].read.len());
         self.seats[seat].read.push(byte)?;
         Ok(Stepped {
             saw: Observed::Byte(byte),

@@ -1,10 +1,13 @@
 //! Runs of a script over a whole schedule.
-ghost use Rattle.std.specs.Prelude.{IfOk, IfErr, OnOk};
+ghost use Rattle.std.specs.Prelude.{IfOk, IfErr, OnOk, map};
+ghost use Rattle.cursor.specs.Player.{PlayersReceive};
 ghost use Rattle.ring_steps.specs.Acting.{history_of};
+ghost use Rattle.ring_steps.specs.Answers.{packet_of};
 ghost use Rattle.ring_steps.specs.Faults.{IsRefusal};
 ghost use Rattle.ring_steps.specs.Scripts.{IsGoodConfig, IsGoodScript, calls_of};
 ghost use Rattle.ring_steps.specs.Slots.{Invariant};
-ghost use Rattle.ring_steps.specs.Traces.{ActsOnce, ActsWithin, EachState, EachTurn, IsLegal, IsTrace, Makes, MeetsPins, StepsAreFew, TellsAccounts};
+ghost use Rattle.ring_steps.specs.Traces.{ActsOnce, EachState, EachTurn, IsLegal, IsTrace, Makes, MeetsPins, StepsAreFew, TellsAccounts};
+ghost use Rattle.ring_steps.specs.Within.{ActsWithin};
 
 use super::calls::Actor;
 use super::checking::{first_bad_call, is_good_config};
@@ -21,8 +24,10 @@ use std::alloc::Global;
 /// within the first of its calls that isn't answered yet.
 ///
 /// Every state on the way has the invariant, the events are a legal history of the broadcast log in the
-/// order of their acting steps, and each detachment tells its account. Each answered call has one event,
-/// at one of its own steps, and a call makes few atomic steps. A refused publish met pins.
+/// order of their acting steps, and each detachment tells its account. So each player receives the log
+/// from its attachment, in order, less exactly its losses, and nothing while it is detached. Each answered
+/// call has one event with its answer, at one of its own steps, and a call makes few atomic steps. A
+/// refused publish met pins: at least one, and no more than there are seats.
 ///
 /// A refusal tells the first of its reasons: the config, then the script, then the schedule, or that
 /// memory was refused on the way.
@@ -46,12 +51,15 @@ pub fn run(
     ensures accounts { IfOk result (λ trace.
         (told : IsTrace config.now (calls_of script.now) schedule.now trace)
         → TellsAccounts (history_of told.turns)) }
+    ensures players { IfOk result (λ trace.
+        (told : IsTrace config.now (calls_of script.now) schedule.now trace)
+        → PlayersReceive (history_of told.turns) (map packet_of told.end.ring.log)) }
     ensures events_once { IfOk result (λ trace.
         (told : IsTrace config.now (calls_of script.now) schedule.now trace)
         → ActsOnce (calls_of script.now) told.turns told.end) }
     ensures events_within { IfOk result (λ trace.
         (told : IsTrace config.now (calls_of script.now) schedule.now trace)
-        → ActsWithin told.turns) }
+        → ActsWithin (calls_of script.now) told.turns) }
     ensures few_steps { IfOk result (λ trace.
         (told : IsTrace config.now (calls_of script.now) schedule.now trace)
         → StepsAreFew told.turns) }

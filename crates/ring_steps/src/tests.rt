@@ -89,10 +89,10 @@ fn check(
 fn steps_lost(rt: HostRuntime) {
     let alloc = rt.alloc();
     let published = vec![in alloc;
-        PublisherCall::Publish(Bytes::copied(alloc, &[0x41]).expect(&rt, "memory")),
-        PublisherCall::Publish(Bytes::copied(alloc, &[0x42]).expect(&rt, "memory")),
-        PublisherCall::Publish(Bytes::copied(alloc, &[0x43]).expect(&rt, "memory")),
-        PublisherCall::Publish(Bytes::copied(alloc, &[0x44]).expect(&rt, "memory")),
+        PublisherCall::Publish(Bytes::from_slice(alloc, &[0x41]).expect(&rt, "memory")),
+        PublisherCall::Publish(Bytes::from_slice(alloc, &[0x42]).expect(&rt, "memory")),
+        PublisherCall::Publish(Bytes::from_slice(alloc, &[0x43]).expect(&rt, "memory")),
+        PublisherCall::Publish(Bytes::from_slice(alloc, &[0x44]).expect(&rt, "memory")),
     ]
     .expect(&rt, "memory");
     check(
@@ -130,17 +130,4 @@ fn steps_lost(rt: HostRuntime) {
             "unpin 1 0 2",
         ],
     );
-}
-
-#[test]
-fn bytes_are_kept_in_order(rt: HostRuntime) {
-    let mut bytes = Bytes::empty(rt.alloc());
-    bytes.push(1).expect(&rt, "memory");
-    bytes.put(1, 2).expect(&rt, "memory");
-    bytes.put(0, 3).expect(&rt, "memory");
-    assert_eq!(rt; bytes.as_slice(), [3, 2].as_slice());
-    assert!(rt; bytes.len() == 2 && bytes.at(1) == 2 && bytes.at(2) == 0);
-    bytes.clear();
-    bytes.push(4).expect(&rt, "memory");
-    assert_eq!(rt; bytes.into_vec().as_slice(), [4].as_slice());
 }

@@ -1,7 +1,7 @@
 ghost use Rattle.std.specs.Prelude.{◌≡◌, ◌+◌, ◌<◌, ◌^◌};
 
-use super::buffers::Bytes;
 use super::words::Head;
+use base_syntax::Bytes;
 use cursor::Account;
 
 /// Where the publisher is within a call.

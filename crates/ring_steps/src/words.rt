@@ -1,4 +1,4 @@
-use super::buffers::Bytes;
+use base_syntax::Bytes;
 
 /// A slot's word, which every atomic operation on the slot reads or changes whole.
 #[derive(Clone, Copy, Debug, PartialEq, Eq)]

@@ -5,7 +5,8 @@ use Rattle.std.proofs.lemmas.List.Concat.{flat_map-append}
 use Rattle.rtsp_message.specs.declared.headers.Header.{Header}
 use Rattle.rtsp_message.specs.declared.fault.Fault.{Fault}
 use Rattle.rtsp_message.specs.declared.head.HeaderBlock.TheVariants.{Ended}
-use Rattle.rtsp_message.specs.Lines.{IsHeaderLine, IsFirstLine, HasNoLf, ended}
+use Rattle.base_syntax.specs.Lines.{IsFirstLine, HasNoLf, ended}
+use Rattle.rtsp_message.specs.Lines.{IsHeaderLine}
 use Rattle.rtsp_message.specs.Lengths.{field_fault}
 use Rattle.rtsp_message.specs.Heads.{joined, AreHeaders, IsGoodHeader, IsBadHeader, BreaksHeaders, LeavesHeaders}
 use Rattle.rtsp_message.specs.Fronts.{IsBlock}

@@ -4,11 +4,11 @@ use Rattle.std.specs.List.{concat}
 use Rattle.std.proofs.lemmas.List.{take-append-le, take_all}
 use Rattle.std.proofs.lemmas.Bool.Decides.{leb_tells}
 use Rattle.std.proofs.Math.Seq.{take-append-add}
-use Rattle.rtsp_message.specs.declared.TheConstants.{MAX_HEAD}
+use Rattle.rtsp_message.specs.Limits.{head_limit}
 use Rattle.rtsp_message.specs.declared.unit.Unit.{Unit as StreamUnit}
 use Rattle.rtsp_message.specs.declared.fault.Fault.{Fault}
 use Rattle.rtsp_message.specs.declared.fault.Fault.TheVariants.{BadLine, BadHeader, BadLength, HeadTooLong, BodyTooLong}
-use Rattle.rtsp_message.specs.Lines.{ended}
+use Rattle.base_syntax.specs.Lines.{ended}
 use Rattle.rtsp_message.specs.Heads.{joined, HasFault, HasBadRequestLine, HasRequestLine, BreaksHeaders, GoesOn}
 use Rattle.rtsp_message.specs.Stream.{bytes_of, units_of, Ending, Waits, Fails, EndsAs, Reads, ReadsOn, ReadsPieces}
 use Rattle.rtsp_message.proofs.Pieces.{bytes_of-append, units_of-append, ArePieces-append, empty_waits}
@@ -61,11 +61,11 @@ bad_header_grows w x fault p =
 
 -- a fault stays, whatever comes behind it
 fault_grows : (bytes more : List ℕ) (fault : Fault) → HasFault bytes fault → HasFault (bytes ++ more) fault
-fault_grows bytes more BadLine p = subst HasBadRequestLine (sym (take-append MAX_HEAD bytes more)) (bad_first_grows (take MAX_HEAD bytes) (take (MAX_HEAD - length bytes) more) p)
-fault_grows bytes more BadHeader p = subst (λ (w : List ℕ). HasRequestLine w (λ rest. BreaksHeaders rest BadHeader)) (sym (take-append MAX_HEAD bytes more)) (bad_header_grows (take MAX_HEAD bytes) (take (MAX_HEAD - length bytes) more) BadHeader p)
-fault_grows bytes more BadLength p = subst (λ (w : List ℕ). HasRequestLine w (λ rest. BreaksHeaders rest BadLength)) (sym (take-append MAX_HEAD bytes more)) (bad_header_grows (take MAX_HEAD bytes) (take (MAX_HEAD - length bytes) more) BadLength p)
-fault_grows bytes more BodyTooLong p = subst (λ (w : List ℕ). HasRequestLine w (λ rest. BreaksHeaders rest BodyTooLong)) (sym (take-append MAX_HEAD bytes more)) (bad_header_grows (take MAX_HEAD bytes) (take (MAX_HEAD - length bytes) more) BodyTooLong p)
-fault_grows bytes more HeadTooLong p = (subst GoesOn (sym (take-append-le MAX_HEAD bytes more p.1)) p.0, omega (arith, p.1, length-append bytes more))
+fault_grows bytes more BadLine p = subst HasBadRequestLine (sym (take-append head_limit bytes more)) (bad_first_grows (take head_limit bytes) (take (head_limit - length bytes) more) p)
+fault_grows bytes more BadHeader p = subst (λ (w : List ℕ). HasRequestLine w (λ rest. BreaksHeaders rest BadHeader)) (sym (take-append head_limit bytes more)) (bad_header_grows (take head_limit bytes) (take (head_limit - length bytes) more) BadHeader p)
+fault_grows bytes more BadLength p = subst (λ (w : List ℕ). HasRequestLine w (λ rest. BreaksHeaders rest BadLength)) (sym (take-append head_limit bytes more)) (bad_header_grows (take head_limit bytes) (take (head_limit - length bytes) more) BadLength p)
+fault_grows bytes more BodyTooLong p = subst (λ (w : List ℕ). HasRequestLine w (λ rest. BreaksHeaders rest BodyTooLong)) (sym (take-append head_limit bytes more)) (bad_header_grows (take head_limit bytes) (take (head_limit - length bytes) more) BodyTooLong p)
+fault_grows bytes more HeadTooLong p = (subst GoesOn (sym (take-append-le head_limit bytes more p.1)) p.0, omega (arith, p.1, length-append bytes more))
 
 fails_on : (bytes more : List ℕ) (fault : Fault) → EndsAs bytes (Fails fault) → EndsAs (bytes ++ more) (Fails fault)
 fails_on [] more fault p = absurd p.0

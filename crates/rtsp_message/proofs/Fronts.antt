@@ -6,9 +6,11 @@ use Rattle.std.proofs.lemmas.Bool.Decides.{nat_tests}
 use Rattle.std.proofs.lemmas.List.{length-take-le}
 use Rattle.std.proofs.Math.Seq.{take-add}
 use Rattle.interleaved.specs.Frame.{IsFrame, FrameBegins}
-use Rattle.rtsp_message.specs.declared.TheConstants.{MAX_HEAD, MAX_BODY}
+use Rattle.rtsp_message.specs.Limits.{body_limit, waiting_limit}
 use Rattle.rtsp_message.specs.declared.request.Request.{Request}
-use Rattle.rtsp_message.specs.Headers.{number_up_to, is_numeral, decimal_value, value_of}
+use Rattle.std.specs.Str.Parse.{digits_value}
+use Rattle.base_syntax.specs.Numbers.{number_up_to, is_numeral}
+use Rattle.rtsp_message.specs.Headers.{value_of}
 use Rattle.rtsp_message.specs.Heads.{IsHead}
 use Rattle.rtsp_message.specs.Lengths.{body_len}
 use Rattle.rtsp_message.specs.Stream.{BeginsMessage, IsMessage, IsUndecided}
@@ -59,20 +61,20 @@ message_parts bytes head len request rest body begins within is rest_is len_is f
       },
     )
 
-number_within : (known : Bool) (n : ℕ) → (known ≡ true → n ≤ MAX_BODY) → unwrap_or (if known then Some n else None) 0 ≤ MAX_BODY
+number_within : (known : Bool) (n : ℕ) → (known ≡ true → n ≤ body_limit) → unwrap_or (if known then Some n else None) 0 ≤ body_limit
 number_within true n p = p refl
 number_within false n p = omega arith
 
-body_is_bounded : (value : Option (List ℕ)) → unwrap_or (option_and_then (number_up_to MAX_BODY) value) 0 ≤ MAX_BODY
+body_is_bounded : (value : Option (List ℕ)) → unwrap_or (option_and_then (number_up_to body_limit) value) 0 ≤ body_limit
 body_is_bounded None = omega arith
-body_is_bounded (Some text) = number_within (is_numeral text && nat_le (decimal_value text) MAX_BODY) (decimal_value text) (λ e. grind (arith, nat_tests, e))
+body_is_bounded (Some text) = number_within (is_numeral text && nat_le (digits_value 10 text) body_limit) (digits_value 10 text) (λ e. grind (arith, nat_tests, e))
 
 -- a head whose body hasn't come whole
 pub body_waits : (bytes : List ℕ) (head len : ℕ) (request : Request) (rest : List ℕ) → BeginsMessage bytes → head ≤ length bytes → IsHead (take head bytes) request → rest ≡ drop head bytes → len ≡ body_len request.headers → length rest < len
-    → IsUndecided bytes × (length bytes < MAX_HEAD + MAX_BODY)
+    → IsUndecided bytes × (length bytes < waiting_limit)
 body_waits bytes head len request rest begins within is rest_is len_is short =
     let parts : bytes ≡ take head bytes ++ drop head bytes = sym (take-append-drop head bytes) in
-    let most : body_len request.headers ≤ MAX_BODY = body_is_bounded (value_of request.headers (codes "Content-Length")) in (
+    let most : body_len request.headers ≤ body_limit = body_is_bounded (value_of request.headers (codes "Content-Length")) in (
       body_is_short bytes (take head bytes) (drop head bytes) request begins is parts (omega (arith, short, len_is, ap length rest_is)),
       omega (arith, most, is.short, short, len_is, ap length rest_is, ap length parts, length-append (take head bytes) (drop head bytes)),
     )

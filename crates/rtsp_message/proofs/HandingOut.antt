@@ -1,5 +1,5 @@
 -- What an intake hands out, one step after another.
-use Rattle.std.proofs.Common.{◌≡◌, ℕ, List, [], ◌∷◌, ◌++◌, Option, ◌⊎◌, inl, inr, ◌+◌, ◌≤◌, length, refl, sym, ap, subst, ◌∙◌, arith, append_assoc, append-nil, length-append}
+use Rattle.std.proofs.Common.{◌≡◌, ℕ, List, [], ◌∷◌, ◌++◌, Option, ◌+◌, ◌≤◌, length, refl, sym, ap, subst, ◌∙◌, arith, append_assoc, append-nil, length-append}
 use Rattle.rtsp_message.proofs.Pieces.{unit_is_some}
 use Rattle.std.specs.Io.KnownBytes.{Consumes}
 use Rattle.std.proofs.KnownBytes.{Consumes-trans, Consumes-nil}
@@ -73,8 +73,3 @@ module _ {S : Type 0} (incoming : S → Option (List ℕ)) where
   -- nothing happened
   pub holds_same : (old : IntakeState S) → ReadsOn old.reading [] [] old.reading → HandsOut incoming old old []
   holds_same old stands = holds_more old old [] [] (Consumes-nil (incoming old.source)) (sym (append-nil old.held)) refl stands refl
-
-  -- either nothing happened, or this was handed out
-  pub handed_so_far : (start now : IntakeState S) → (now ≡ start) ⊎ HandsOut incoming start now [] → ReadsOn now.reading [] [] now.reading → HandsOut incoming start now []
-  handed_so_far start now (inl same) stands = subst (λ (s : IntakeState S). HandsOut incoming s now []) same (holds_same now stands)
-  handed_so_far start now (inr out) stands = out

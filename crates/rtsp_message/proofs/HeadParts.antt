@@ -2,14 +2,15 @@
 use Rattle.std.proofs.Common.{◌≡◌, ℕ, ◌+◌, ◌-◌, ◌≤◌, List, ◌++◌, length, take, sym, ap, subst, ◌∙◌, arith, length-append}
 use Rattle.std.proofs.lemmas.List.{take-take, length-take}
 use Rattle.std.proofs.Math.Seq.{take-append-add}
-use Rattle.rtsp_message.specs.declared.TheConstants.{MAX_HEAD}
+use Rattle.rtsp_message.specs.Limits.{head_limit}
 use Rattle.rtsp_message.specs.declared.headers.Header.{Header}
 use Rattle.rtsp_message.specs.declared.request.Request.{Request}
 use Rattle.rtsp_message.specs.declared.fault.Fault.{Fault}
 use Rattle.rtsp_message.specs.declared.fault.Fault.TheVariants.{BadLine, BadHeader, BadLength, HeadTooLong, BodyTooLong}
 use Rattle.rtsp_message.specs.declared.head.HeadFront.TheVariants.{Whole}
 use Rattle.rtsp_message.specs.Headers.{cseq_of}
-use Rattle.rtsp_message.specs.Lines.{IsRequestLine, IsFirstLine, ended}
+use Rattle.base_syntax.specs.Lines.{IsFirstLine, ended}
+use Rattle.rtsp_message.specs.Lines.{IsRequestLine}
 use Rattle.rtsp_message.specs.Heads.{HasBadRequestLine, HasRequestLine, HasFault, EndsHeaders, BreaksHeaders, IsHead}
 use Rattle.rtsp_message.specs.Fronts.{IsHeadFront}
 
@@ -36,7 +37,7 @@ good_first P {rest = rest} {method = method} {uri = uri} {version = version} p q
 }
 
 -- a bad header line of the first bytes is the fault of the stream
-pub bad_after : (bytes : List ℕ) {window line rest method uri version : List ℕ} (fault : Fault) → window ≡ take MAX_HEAD bytes → IsFirstLine window line rest → IsRequestLine line method uri version → BreaksHeaders rest fault → HasFault bytes fault
+pub bad_after : (bytes : List ℕ) {window line rest method uri version : List ℕ} (fault : Fault) → window ≡ take head_limit bytes → IsFirstLine window line rest → IsRequestLine line method uri version → BreaksHeaders rest fault → HasFault bytes fault
 bad_after bytes BadLine w p q bad = absurd bad.bad
 bad_after bytes BadHeader w p q bad = subst (λ (b : List ℕ). HasRequestLine b (λ rest. BreaksHeaders rest BadHeader)) w (good_first (λ rest. BreaksHeaders rest BadHeader) p q bad)
 bad_after bytes BadLength w p q bad = subst (λ (b : List ℕ). HasRequestLine b (λ rest. BreaksHeaders rest BadLength)) w (good_first (λ rest. BreaksHeaders rest BadLength) p q bad)
@@ -51,16 +52,16 @@ pub record Holds (request : Request) (m u v : List ℕ) (hs : List Header) : Typ
   pub cseq : request.cseq ≡ cseq_of hs
   pub headers : request.headers ≡ hs
 
-pub whole_head : (bytes : List ℕ) {window line rest m u v : List ℕ} {headers : List Header} {request : Request} (len : ℕ) → window ≡ take MAX_HEAD bytes → IsFirstLine window line rest → IsRequestLine line m u v
+pub whole_head : (bytes : List ℕ) {window line rest m u v : List ℕ} {headers : List Header} {request : Request} (len : ℕ) → window ≡ take head_limit bytes → IsFirstLine window line rest → IsRequestLine line m u v
     → (len ≤ length rest) × EndsHeaders (take len rest) headers → Holds request m u v headers → IsHeadFront bytes (Whole request (length window - length rest + len))
 whole_head bytes {window} {line} {rest} {m} {u} {v} {headers} {request} len w p q block h =
     let first = ended p.line in
     let sizes : length window ≡ length first + length rest = ap length p.whole ∙ length-append first rest in
     let count : length window - length rest + len ≡ length first + len = omega arith in
-    let small : length first + len ≤ MAX_HEAD = omega (arith, ap length w, length-take MAX_HEAD bytes) in
-    let fits : length first + len ≤ length bytes = omega (arith, ap length w, length-take MAX_HEAD bytes) in
+    let small : length first + len ≤ head_limit = omega (arith, ap length w, length-take head_limit bytes) in
+    let fits : length first + len ≤ length bytes = omega (arith, ap length w, length-take head_limit bytes) in
     let cut : take (length first + len) bytes ≡ first ++ take len rest =
-    sym (take-take (length first + len) MAX_HEAD bytes small) ∙ ap (take (length first + len)) (sym w ∙ p.whole) ∙ take-append-add first rest len in
+    sym (take-take (length first + len) head_limit bytes small) ∙ ap (take (length first + len)) (sym w ∙ p.whole) ∙ take-append-add first rest len in
     let head : IsHead (take (length first + len) bytes) request = record {
       first = p.line;
       rest = take len rest;

@@ -1,7 +1,6 @@
 pub mod Runs
 pub mod RequestLines
 pub mod HeaderLines
-pub mod LineEnds
 pub mod Blocks
 pub mod HeadParts
 pub mod Pieces
@@ -13,4 +12,5 @@ pub mod Undecided
 pub mod Fronts
 pub mod Compose
 pub mod HandingOut
+pub mod Prompting
 pub mod Fetching

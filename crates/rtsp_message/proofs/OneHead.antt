@@ -2,12 +2,12 @@
 use Rattle.std.proofs.Common.{◌≡◌, ℕ, ◌+◌, ◌-◌, ◌≤◌, Bool, true, false, List, ◌++◌, length, take, refl, sym, ap, subst, ◌∙◌, inl, inr, arith, append_assoc, length-append}
 use Rattle.std.proofs.lemmas.List.{take_all}
 use Rattle.std.proofs.Math.Seq.{take-append-add, take-append_seam}
-use Rattle.rtsp_message.specs.declared.TheConstants.{MAX_HEAD}
+use Rattle.rtsp_message.specs.Limits.{head_limit}
 use Rattle.rtsp_message.specs.declared.request.Request.{Request}
 use Rattle.rtsp_message.specs.declared.fault.Fault.{Fault}
 use Rattle.rtsp_message.specs.declared.fault.Fault.TheVariants.{BadLine, BadHeader, BadLength, HeadTooLong, BodyTooLong}
 use Rattle.rtsp_message.specs.Headers.{cseq_of}
-use Rattle.rtsp_message.specs.Lines.{ended}
+use Rattle.base_syntax.specs.Lines.{ended}
 use Rattle.rtsp_message.specs.Heads.{joined, BreaksHeaders, HasRequestLine, IsHead, HasFault, GoesOn, IsUnfinished}
 use Rattle.rtsp_message.proofs.Runs.{false_is_true}
 use Rattle.rtsp_message.proofs.Windows.{Blank, Broken, Open, FieldsThen, Window, NoLine, NoRequest, After, WindowIs, same_window}
@@ -37,17 +37,17 @@ fault_in (After m u v headers Open) = HeadTooLong
 
 -- the window of a whole head, with the bytes behind it
 abbrev head_window : List ℕ → Request → List ℕ → Window
-head_window bytes request more = After request.method request.uri request.version request.headers (Blank (take (MAX_HEAD - length bytes) more))
+head_window bytes request more = After request.method request.uri request.version request.headers (Blank (take (head_limit - length bytes) more))
 
-whole_window : (stream bytes more : List ℕ) (request : Request) → IsHead bytes request → stream ≡ bytes ++ more → take MAX_HEAD stream ≡ bytes ++ take (MAX_HEAD - length bytes) more
+whole_window : (stream bytes more : List ℕ) (request : Request) → IsHead bytes request → stream ≡ bytes ++ more → take head_limit stream ≡ bytes ++ take (head_limit - length bytes) more
 whole_window stream bytes more request p e =
-    let size : MAX_HEAD ≡ length bytes + (MAX_HEAD - length bytes) = omega (arith, p.short) in
-    ap (take MAX_HEAD) e ∙ ap (λ (n : ℕ). take n (bytes ++ more)) size ∙ take-append-add bytes more (MAX_HEAD - length bytes)
+    let size : head_limit ≡ length bytes + (head_limit - length bytes) = omega (arith, p.short) in
+    ap (take head_limit) e ∙ ap (λ (n : ℕ). take n (bytes ++ more)) size ∙ take-append-add bytes more (head_limit - length bytes)
 
-shows_head : (stream bytes more : List ℕ) (request : Request) → IsHead bytes request → stream ≡ bytes ++ more → WindowIs (take MAX_HEAD stream) (head_window bytes request more)
+shows_head : (stream bytes more : List ℕ) (request : Request) → IsHead bytes request → stream ≡ bytes ++ more → WindowIs (take head_limit stream) (head_window bytes request more)
 unfolding FieldsThen
 shows_head stream bytes more request p e =
-    let behind = take (MAX_HEAD - length bytes) more in
+    let behind = take (head_limit - length bytes) more in
     let f = p.fields in (
       p.first,
       p.rest ++ behind,
@@ -62,10 +62,10 @@ shows_head stream bytes more request p e =
 -- The window of bytes with a fault.
 record FaultWindow (stream : List ℕ) (fault : Fault) : Type 0 where
   window : Window
-  is : WindowIs (take MAX_HEAD stream) window
+  is : WindowIs (take head_limit stream) window
   says : fault_in window ≡ fault
   not_whole : is_whole window ≡ false
-  long : is_open window ≡ true → MAX_HEAD ≤ length stream
+  long : is_open window ≡ true → head_limit ≤ length stream
 
 broken_window : (w : List ℕ) (fault : Fault) → HasRequestLine w (λ rest. BreaksHeaders rest fault) → (x : Window) × WindowIs w x × (fault_in x ≡ fault) × (is_whole x ≡ false) × (is_open x ≡ false)
 unfolding FieldsThen
@@ -92,37 +92,37 @@ open_window w (inr p) =
 
 shows_fault : (stream : List ℕ) (fault : Fault) → HasFault stream fault → FaultWindow stream fault
 shows_fault stream BadLine p = record { window = NoRequest; is = (p.line, p.more, p.whole, p.unbroken, p.bad); says = refl; not_whole = refl; long = λ e. absurd (false_is_true e) }
-shows_fault stream BadHeader p = let b = broken_window (take MAX_HEAD stream) BadHeader p in record { window = b.0; is = b.1; says = b.2; not_whole = b.3; long = λ e. absurd (false_is_true (sym b.4 ∙ e)) }
-shows_fault stream BadLength p = let b = broken_window (take MAX_HEAD stream) BadLength p in record { window = b.0; is = b.1; says = b.2; not_whole = b.3; long = λ e. absurd (false_is_true (sym b.4 ∙ e)) }
-shows_fault stream BodyTooLong p = let b = broken_window (take MAX_HEAD stream) BodyTooLong p in record { window = b.0; is = b.1; says = b.2; not_whole = b.3; long = λ e. absurd (false_is_true (sym b.4 ∙ e)) }
-shows_fault stream HeadTooLong p = let b = open_window (take MAX_HEAD stream) p.0 in record { window = b.0; is = b.1; says = b.2; not_whole = b.3; long = λ e. p.1 }
+shows_fault stream BadHeader p = let b = broken_window (take head_limit stream) BadHeader p in record { window = b.0; is = b.1; says = b.2; not_whole = b.3; long = λ e. absurd (false_is_true (sym b.4 ∙ e)) }
+shows_fault stream BadLength p = let b = broken_window (take head_limit stream) BadLength p in record { window = b.0; is = b.1; says = b.2; not_whole = b.3; long = λ e. absurd (false_is_true (sym b.4 ∙ e)) }
+shows_fault stream BodyTooLong p = let b = broken_window (take head_limit stream) BodyTooLong p in record { window = b.0; is = b.1; says = b.2; not_whole = b.3; long = λ e. absurd (false_is_true (sym b.4 ∙ e)) }
+shows_fault stream HeadTooLong p = let b = open_window (take head_limit stream) p.0 in record { window = b.0; is = b.1; says = b.2; not_whole = b.3; long = λ e. p.1 }
 
-shows_open : (stream : List ℕ) → IsUnfinished stream → (x : Window) × WindowIs (take MAX_HEAD stream) x × (is_open x ≡ true)
+shows_open : (stream : List ℕ) → IsUnfinished stream → (x : Window) × WindowIs (take head_limit stream) x × (is_open x ≡ true)
 shows_open stream p =
     let b = open_window stream p.0 in
-    (b.0, subst (λ (w : List ℕ). WindowIs w b.0) (sym (take_all MAX_HEAD stream (omega (arith, p.1)))) b.1, b.4)
+    (b.0, subst (λ (w : List ℕ). WindowIs w b.0) (sym (take_all head_limit stream (omega (arith, p.1)))) b.1, b.4)
 
 pub no_head_and_fault : (stream bytes more : List ℕ) (request : Request) (fault : Fault) → IsHead bytes request → stream ≡ bytes ++ more → HasFault stream fault → ⊥
 no_head_and_fault stream bytes more request fault p e q =
     let f = shows_fault stream fault q in
-    false_is_true (sym f.not_whole ∙ ap is_whole (same_window (take MAX_HEAD stream) f.window (head_window bytes request more) f.is (shows_head stream bytes more request p e)))
+    false_is_true (sym f.not_whole ∙ ap is_whole (same_window (take head_limit stream) f.window (head_window bytes request more) f.is (shows_head stream bytes more request p e)))
 
 pub no_head_and_open : (stream bytes more : List ℕ) (request : Request) → IsHead bytes request → stream ≡ bytes ++ more → IsUnfinished stream → ⊥
 no_head_and_open stream bytes more request p e q =
     let f = shows_open stream q in
-    false_is_true (ap is_open (same_window (take MAX_HEAD stream) (head_window bytes request more) f.0 (shows_head stream bytes more request p e) f.1) ∙ f.2)
+    false_is_true (ap is_open (same_window (take head_limit stream) (head_window bytes request more) f.0 (shows_head stream bytes more request p e) f.1) ∙ f.2)
 
 pub same_fault : (stream : List ℕ) (f g : Fault) → HasFault stream f → HasFault stream g → f ≡ g
 same_fault stream f g p q =
     let x = shows_fault stream f p in
     let y = shows_fault stream g q in
-    sym x.says ∙ ap fault_in (same_window (take MAX_HEAD stream) x.window y.window x.is y.is) ∙ y.says
+    sym x.says ∙ ap fault_in (same_window (take head_limit stream) x.window y.window x.is y.is) ∙ y.says
 
 pub no_fault_and_open : (stream : List ℕ) (f : Fault) → HasFault stream f → IsUnfinished stream → ⊥
 no_fault_and_open stream f p q =
     let x = shows_fault stream f p in
     let y = shows_open stream q in
-    let long : MAX_HEAD ≤ length stream = x.long (ap is_open (same_window (take MAX_HEAD stream) x.window y.0 x.is y.1) ∙ y.2) in
+    let long : head_limit ≤ length stream = x.long (ap is_open (same_window (take head_limit stream) x.window y.0 x.is y.1) ∙ y.2) in
     omega (arith, long, q.1)
 
 -- The parts of two requests that stand in their heads are the same.
@@ -136,14 +136,14 @@ pub record SameHead (r s : Request) : Type 0 where
 -- two heads at the front of one stream are one
 pub same_heads : (stream a x b y : List ℕ) (r s : Request) → IsHead a r → IsHead b s → stream ≡ a ++ x → stream ≡ b ++ y → (a ≡ b) × SameHead r s
 same_heads stream a x b y r s p q e f =
-    let windows = same_window (take MAX_HEAD stream) (head_window a r x) (head_window b s y) (shows_head stream a x r p e) (shows_head stream b y s q f) in
+    let windows = same_window (take head_limit stream) (head_window a r x) (head_window b s y) (shows_head stream a x r p e) (shows_head stream b y s q f) in
     let method : r.method ≡ s.method = cc in
     let uri : r.uri ≡ s.uri = cc in
     let version : r.version ≡ s.version = cc in
     let headers : r.headers ≡ s.headers = cc in
-    let behind : take (MAX_HEAD - length a) x ≡ take (MAX_HEAD - length b) y = cc in
-    let wholes : a ++ take (MAX_HEAD - length a) x ≡ b ++ take (MAX_HEAD - length b) y = sym (whole_window stream a x r p e) ∙ whole_window stream b y s q f in
+    let behind : take (head_limit - length a) x ≡ take (head_limit - length b) y = cc in
+    let wholes : a ++ take (head_limit - length a) x ≡ b ++ take (head_limit - length b) y = sym (whole_window stream a x r p e) ∙ whole_window stream b y s q f in
     let sizes : length a ≡ length b =
-    omega (arith, ap length wholes, ap length behind, length-append a (take (MAX_HEAD - length a) x), length-append b (take (MAX_HEAD - length b) y)) in
+    omega (arith, ap length wholes, ap length behind, length-append a (take (head_limit - length a) x), length-append b (take (head_limit - length b) y)) in
     let bytes : a ≡ b = sym (take-append_seam a x) ∙ ap (take (length a)) (sym e ∙ f) ∙ ap (λ (n : ℕ). take n (b ++ y)) sizes ∙ take-append_seam b y in
     (bytes, record { method = method; uri = uri; version = version; cseq = p.cseq ∙ ap cseq_of headers ∙ sym q.cseq; headers = headers })

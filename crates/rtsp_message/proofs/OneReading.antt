@@ -3,7 +3,7 @@ use Rattle.std.proofs.Common.{◌≡◌, ℕ, true, List, [], ◌∷◌, ◌++�
 use Rattle.rtsp_message.specs.declared.unit.Unit.{Unit as StreamUnit}
 use Rattle.rtsp_message.specs.Stream.{is_pad, BeginsWithNoPad, IsUnit, Piece, Pad, Whole, ArePieces, bytes_of, units_of, Ending, Waits, Fails, EndsAs, Reads}
 use Rattle.rtsp_message.proofs.Runs.{false_is_true}
-use Rattle.rtsp_message.proofs.HeaderLines.{same_tail}
+use Rattle.base_syntax.proofs.Lists.{same_tail}
 use Rattle.rtsp_message.proofs.OneHead.{same_fault}
 use Rattle.rtsp_message.proofs.OneUnit.{cancel, message_is_no_pad, unit_begins, same_units, no_unit_and_fault}
 

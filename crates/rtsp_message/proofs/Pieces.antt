@@ -6,7 +6,7 @@ use Rattle.rtsp_message.specs.declared.request.Request.{Request}
 use Rattle.rtsp_message.specs.declared.fault.Fault.{Fault}
 use Rattle.rtsp_message.specs.declared.unit.Unit.{Unit as StreamUnit}
 use Rattle.rtsp_message.specs.declared.unit.Unit.TheVariants.{Message, Frame}
-use Rattle.rtsp_message.specs.Lines.{ended}
+use Rattle.base_syntax.specs.Lines.{ended}
 use Rattle.rtsp_message.specs.Heads.{IsHead}
 use Rattle.rtsp_message.specs.Stream.{is_pad, BeginsWithNoPad, IsUnit, Piece, Pad, Whole, IsPiece, ArePieces, bytes_of, units_of, Ending, EndsAs, Waits, Reads, ReadsOn, ReadsSoFar, IsScan}
 use Rattle.rtsp_message.specs.Readers.{ending_from}

@@ -1,10 +1,9 @@
 -- Runs of bytes of one class: how a text is cut into them in one way only.
-use Rattle.std.proofs.Common.{◌≡◌, ℕ, ◌+◌, ◌<◌, ◌≤◌, suc, true, false, List, [], ◌∷◌, ◌++◌, length, take, drop, get_or, zero, reverse, inl, inr, refl, sym, ap, subst, ◌∙◌, arith, drop-cons}
+use Rattle.std.proofs.Common.{◌≡◌, ℕ, ◌<◌, ◌≤◌, true, false, List, [], ◌∷◌, ◌++◌, length, take, get_or, refl, sym, ap, subst, ◌∙◌, arith}
 use Rattle.std.proofs.lemmas.Bool.{eqb-true, ne_eqb}
-use Rattle.std.proofs.lemmas.Bool.Decides.{nat_tests, leb_tells}
-use Rattle.std.proofs.lemmas.List.{reverse-append, drop_all}
+use Rattle.std.proofs.lemmas.Bool.Decides.{nat_tests}
+use Rattle.std.proofs.lemmas.List.{take_all}
 use Rattle.std.proofs.lemmas.List.Elements.{All-get_or, All-from_recursion}
-use Rattle.std.proofs.Math.Seq.{take-suc}
 use Rattle.rtsp_message.specs.declared.byte_class.ByteClass.{ByteClass}
 use Rattle.rtsp_message.specs.declared.byte_class.ByteClass.TheVariants.{Token, Visible, Space, Blank}
 use Rattle.rtsp_message.specs.Lines.{is_in, is_visible, Each, OneOrMore, BeginsOutside, IsFrontRun}
@@ -63,35 +62,6 @@ pub Each-outside : (here there : ByteClass) → ((b : ℕ) → is_in here b ≡ 
 Each-outside here there apart [] p = tt
 Each-outside here there apart (b ∷ bytes) p = apart b p.0
 
-pub BeginsOutside-drop : (class : ByteClass) (bytes : List ℕ) (i : ℕ) → (i < length bytes → is_in class (get_or bytes i 0) ≡ false) → BeginsOutside class (drop i bytes)
-BeginsOutside-drop class bytes i h = elim (leb_tells (length bytes) i) [
-  | inl past ↦ let over : length bytes ≤ i = past.1 in rw (drop_all i bytes) tt
-  | inr within ↦ let below : i < length bytes = within.1 in rw (drop-cons bytes i 0) (h below)
-]
-
-pub BeginsOutside-take : (class : ByteClass) (bytes : List ℕ) (i : ℕ) → BeginsOutside class bytes → BeginsOutside class (take i bytes)
-BeginsOutside-take class [] zero p = tt
-BeginsOutside-take class [] (suc i) p = tt
-BeginsOutside-take class (b ∷ bytes) zero p = tt
-BeginsOutside-take class (b ∷ bytes) (suc i) p = p
-
--- the front of bytes, up to a byte of another class, ends with that
-pub ends_outside : (class : ByteClass) (bytes : List ℕ) (n : ℕ) → n ≤ length bytes → ((i : ℕ) → i + 1 ≡ n → is_in class (get_or bytes i 0) ≡ false) → BeginsOutside class (reverse (take n bytes))
-ends_outside class bytes zero h p = tt
-ends_outside class bytes (suc i) h p = let below : i < length bytes = omega arith in rw (take-suc bytes i 0 below, reverse-append) (p i (omega arith))
-
-pub Each-append : (class : ByteClass) (a b : List ℕ) → Each class a → Each class b → Each class (a ++ b)
-Each-append class [] b p q = q
-Each-append class (x ∷ a) b p q = (p.0, Each-append class a b p.1 q)
-
-pub Each-left : (class : ByteClass) (a b : List ℕ) → Each class (a ++ b) → Each class a
-Each-left class [] b p = tt
-Each-left class (x ∷ a) b p = (p.0, Each-left class a b p.1)
-
-pub Each-right : (class : ByteClass) (a b : List ℕ) → Each class (a ++ b) → Each class b
-Each-right class [] b p = p
-Each-right class (x ∷ a) b p = Each-right class a b p.1
-
-pub Each-reverse : (class : ByteClass) (a : List ℕ) → Each class a → Each class (reverse a)
-Each-reverse class [] p = tt
-Each-reverse class (x ∷ a) p = subst (Each class) (sym (reverse-append (x ∷ []) a)) (Each-append class (reverse a) (x ∷ []) (Each-reverse class a p.1) (p.0, tt))
+-- a run that is no shorter than the bytes is all of them
+pub all_leading : (class : ByteClass) (bytes : List ℕ) (n : ℕ) → Each class (take n bytes) → length bytes ≤ n → Each class bytes
+all_leading class bytes n run all = subst (Each class) (take_all n bytes all) run

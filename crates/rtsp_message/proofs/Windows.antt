@@ -1,36 +1,15 @@
 -- What stands in the first bytes of a stream is one thing only.
-use Rattle.std.proofs.Common.{◌≡◌, ℕ, false, List, [], ◌∷◌, ◌++◌, None, Some, length, eqb, refl, sym, ap, subst, ◌∙◌, arith, append_assoc, append-nil, length-append}
+use Rattle.std.proofs.Common.{◌≡◌, ℕ, List, [], ◌∷◌, ◌++◌, None, Some, length, refl, sym, ap, subst, ◌∙◌, arith, append_assoc, append-nil, length-append}
 use Rattle.rtsp_message.specs.declared.headers.Header.{Header}
 use Rattle.rtsp_message.specs.declared.fault.Fault.{Fault}
 use Rattle.rtsp_message.specs.declared.fault.Fault.TheVariants.{BadLine, BadHeader, BadLength, HeadTooLong, BodyTooLong}
-use Rattle.rtsp_message.specs.Lines.{IsRequestLine, IsHeaderLine, HasNoLf, ended, said}
+use Rattle.base_syntax.specs.Lines.{HasNoLf, ended, said}
+use Rattle.base_syntax.proofs.LineEnds.{same_line, no_whole_line}
+use Rattle.rtsp_message.specs.Lines.{IsRequestLine, IsHeaderLine}
 use Rattle.rtsp_message.specs.Lengths.{field_fault}
 use Rattle.rtsp_message.specs.Heads.{joined, AreHeaders, IsGoodHeader, IsBadHeader, HasBadField}
-use Rattle.rtsp_message.proofs.Runs.{false_is_true}
 use Rattle.rtsp_message.proofs.RequestLines.{same_request_line}
-use Rattle.rtsp_message.proofs.HeaderLines.{same_header_line, same_tail}
-
-pub same_head : {x y : ℕ} {xs ys : List ℕ} → x ∷ xs ≡ y ∷ ys → x ≡ y
-same_head e = cc
-
-lf_is_no_lf : (c : ℕ) → c ≡ 10 → eqb c 10 ≡ false → ⊥
-lf_is_no_lf c e h = false_is_true (sym h ∙ ap (λ (n : ℕ). eqb n 10) e)
-
--- a line ends at its first LF
-pub same_line : (a x b y : List ℕ) → HasNoLf a → HasNoLf b → ended a ++ x ≡ ended b ++ y → (a ≡ b) × (x ≡ y)
-same_line [] x [] y p q e = (refl, same_tail e)
-same_line [] x (d ∷ b) y p q e = absurd (lf_is_no_lf d (sym (same_head e)) q.0)
-same_line (c ∷ a) x [] y p q e = absurd (lf_is_no_lf c (same_head e) p.0)
-same_line (c ∷ a) x (d ∷ b) y p q e =
-    let rest = same_line a x b y p.1 q.1 (same_tail e) in
-    (ap (λ (n : ℕ). n ∷ a) (same_head e) ∙ ap (λ (l : List ℕ). d ∷ l) rest.0, rest.1)
-
--- bytes without an LF hold no whole line
-pub no_line : (w a x : List ℕ) → HasNoLf w → w ≡ ended a ++ x → ⊥
-no_line [] [] x p e = cc
-no_line [] (c ∷ a) x p e = cc
-no_line (b ∷ w) [] x p e = lf_is_no_lf b (same_head e) p.0
-no_line (b ∷ w) (c ∷ a) x p e = no_line w a x p.1 (same_tail e)
+use Rattle.rtsp_message.proofs.HeaderLines.{same_header_line}
 
 -- how a list of header lines stops: at the empty line with these bytes behind it, at a bad line, or before a whole line
 pub data Stop : Type 0 where
@@ -98,14 +77,14 @@ same_bad before text BodyTooLong HeadTooLong p q = absurd q
 same_stop : (before : List Header) (text : List ℕ) (s t : Stop) → StopsAs before text s → StopsAs before text t → s ≡ t
 same_stop before text (Blank m) (Blank n) p q = ap Blank (same_line p.0 m q.0 n p.2 q.2 (sym p.1 ∙ q.1)).1
 same_stop before text (Blank m) (Broken f) p q = let l = same_line p.0 m q.0 q.1 p.2 q.3 (sym p.1 ∙ q.2) in absurd (empty_not_bad before (said q.0) f (ap said (sym l.0) ∙ p.3) q.4)
-same_stop before text (Blank m) Open p q = absurd (no_line text p.0 m q p.1)
+same_stop before text (Blank m) Open p q = absurd (no_whole_line text p.0 m q p.1)
 same_stop before text (Broken f) (Blank n) p q = let l = same_line q.0 n p.0 p.1 q.2 p.3 (sym q.1 ∙ p.2) in absurd (empty_not_bad before (said p.0) f (ap said (sym l.0) ∙ q.3) p.4)
 same_stop before text (Broken f) (Broken g) p q =
     let l = same_line p.0 p.1 q.0 q.1 p.3 q.3 (sym p.2 ∙ q.2) in
     ap Broken (same_bad before (said q.0) f g (subst (λ (t : List ℕ). IsBadHeader before (said t) f) l.0 p.4) q.4)
-same_stop before text (Broken f) Open p q = absurd (no_line text p.0 p.1 q p.2)
-same_stop before text Open (Blank n) p q = absurd (no_line text q.0 n p q.1)
-same_stop before text Open (Broken g) p q = absurd (no_line text q.0 q.1 p q.2)
+same_stop before text (Broken f) Open p q = absurd (no_whole_line text p.0 p.1 q p.2)
+same_stop before text Open (Blank n) p q = absurd (no_whole_line text q.0 n p q.1)
+same_stop before text Open (Broken g) p q = absurd (no_whole_line text q.0 q.1 p q.2)
 same_stop before text Open Open p q = refl
 
 -- a good header line is not where the list stops
@@ -114,7 +93,7 @@ no_stop before text line rest header (Blank m) e g p = let l = same_line p.0 m l
 no_stop before text line rest header (Broken f) e g p =
     let l = same_line p.0 p.1 line rest p.3 g.unbroken (sym p.2 ∙ e) in
     good_not_bad before (said line) header f g.field g.allowed (subst (λ (t : List ℕ). IsBadHeader before (said t) f) l.0 p.4)
-no_stop before text line rest header Open e g p = no_line text line rest p e
+no_stop before text line rest header Open e g p = no_whole_line text line rest p e
 
 -- behind the fields before, the lines of a text are these header fields, and then it stops so
 unfoldable pub FieldsThen : (before : List Header) → List ℕ → List (List ℕ) → List Header → List ℕ → Stop → Type 0
@@ -170,14 +149,14 @@ after_eq a b c d e = cc
 
 pub same_window : (w : List ℕ) (x y : Window) → WindowIs w x → WindowIs w y → x ≡ y
 same_window w NoLine NoLine p q = refl
-same_window w NoLine NoRequest p q = absurd (no_line w q.0 q.1 p q.2)
-same_window w NoLine (After m u v hs s) p q = absurd (no_line w q.0 q.1 p q.2)
-same_window w NoRequest NoLine p q = absurd (no_line w p.0 p.1 q p.2)
+same_window w NoLine NoRequest p q = absurd (no_whole_line w q.0 q.1 p q.2)
+same_window w NoLine (After m u v hs s) p q = absurd (no_whole_line w q.0 q.1 p q.2)
+same_window w NoRequest NoLine p q = absurd (no_whole_line w p.0 p.1 q p.2)
 same_window w NoRequest NoRequest p q = refl
 same_window w NoRequest (After m u v hs s) p q =
     let l = same_line p.0 p.1 q.0 q.1 p.3 q.3 (sym p.2 ∙ q.2) in
     absurd (p.4 m u v (subst (λ (x : List ℕ). IsRequestLine (said x) m u v) (sym l.0) q.4))
-same_window w (After m u v hs s) NoLine p q = absurd (no_line w p.0 p.1 q p.2)
+same_window w (After m u v hs s) NoLine p q = absurd (no_whole_line w p.0 p.1 q p.2)
 same_window w (After m u v hs s) NoRequest p q =
     let l = same_line p.0 p.1 q.0 q.1 p.3 q.3 (sym p.2 ∙ q.2) in
     absurd (q.4 m u v (subst (λ (x : List ℕ). IsRequestLine (said x) m u v) l.0 p.4))

@@ -1,12 +1,12 @@
 -- What the functions that read the front of a stream answer.
-use Rattle.std.specs.Prelude.{ℕ, ◌+◌, ◌<◌, ◌≤◌, List, length, take}
-use Rattle.rtsp_message.specs.declared.TheConstants.{MAX_HEAD, MAX_BODY}
+use Rattle.std.specs.Prelude.{ℕ, ◌<◌, ◌≤◌, List, length, take}
 use Rattle.rtsp_message.specs.declared.head.HeaderBlock.{HeaderBlock}
 use Rattle.rtsp_message.specs.declared.head.HeaderBlock.TheVariants as blocks
 use Rattle.rtsp_message.specs.declared.head.HeadFront.{HeadFront}
 use Rattle.rtsp_message.specs.declared.head.HeadFront.TheVariants as heads
 use Rattle.rtsp_message.specs.declared.front.Front.{Front}
 use Rattle.rtsp_message.specs.declared.front.Front.TheVariants as fronts
+use Rattle.rtsp_message.specs.Limits.{waiting_limit}
 use Rattle.rtsp_message.specs.Heads.{EndsHeaders, BreaksHeaders, LeavesHeaders, IsHead, HasFault, IsUnfinished}
 use Rattle.rtsp_message.specs.Stream.{Waits, Fails, EndsAs, IsUnit}
 
@@ -26,4 +26,4 @@ IsHeadFront bytes heads.Unfinished = IsUnfinished bytes
 abbrev pub IsFront : List ℕ → Front → Type 0
 IsFront bytes (fronts.Whole content len) = (len ≤ length bytes) × IsUnit (take len bytes) content
 IsFront bytes (fronts.Bad fault) = EndsAs bytes (Fails fault)
-IsFront bytes fronts.Unfinished = EndsAs bytes (Waits bytes) × (length bytes < MAX_HEAD + MAX_BODY)
+IsFront bytes fronts.Unfinished = EndsAs bytes (Waits bytes) × (length bytes < waiting_limit)

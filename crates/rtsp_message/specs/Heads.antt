@@ -1,12 +1,13 @@
 -- The head of a message, and what may stand in its place (RFC 2326, 4 and 6).
 use Rattle.std.specs.Prelude.{◌≡◌, ℕ, ◌<◌, ◌≤◌, List, [], ◌∷◌, ◌++◌, ◌⊎◌, None, Some, length, take}
 use Rattle.std.specs.List.{flat_map}
-use Rattle.rtsp_message.specs.declared.TheConstants.{MAX_HEAD}
+use Rattle.base_syntax.specs.Lines.{HasNoLf, ended, said}
 use Rattle.rtsp_message.specs.declared.headers.Header.{Header}
 use Rattle.rtsp_message.specs.declared.request.Request.{Request}
 use Rattle.rtsp_message.specs.declared.fault.Fault.{Fault}
 use Rattle.rtsp_message.specs.declared.fault.Fault.TheVariants.{BadLine, BadHeader, BadLength, HeadTooLong, BodyTooLong}
-use Rattle.rtsp_message.specs.Lines.{IsRequestLine, IsHeaderLine, HasNoLf, ended, said}
+use Rattle.rtsp_message.specs.Limits.{head_limit}
+use Rattle.rtsp_message.specs.Lines.{IsRequestLine, IsHeaderLine}
 use Rattle.rtsp_message.specs.Headers.{cseq_of}
 use Rattle.rtsp_message.specs.Lengths.{field_fault}
 
@@ -77,7 +78,7 @@ pub record IsHead (bytes : List ℕ) (request : Request) : Type 0 where
   pub request_line : IsRequestLine (said first) request.method request.uri request.version
   pub fields : EndsHeaders rest request.headers
   pub cseq : request.cseq ≡ cseq_of request.headers
-  pub short : length bytes ≤ MAX_HEAD
+  pub short : length bytes ≤ head_limit
 
 -- The first line has come whole, and is no request line.
 pub record HasBadRequestLine (bytes : List ℕ) : Type 0 where
@@ -103,14 +104,14 @@ pub record HasRequestLine (bytes : List ℕ) (then : List ℕ → Type 0) : Type
 abbrev pub GoesOn : List ℕ → Type 0
 GoesOn bytes = HasNoLf bytes ⊎ HasRequestLine bytes LeavesHeaders
 
--- The first bad line of the first MAX_HEAD bytes decides. Where these hold neither a bad line nor the end of the head, it is too long.
+-- The first bad line of the first 8,192 bytes decides. Where these hold neither a bad line nor the end of the head, it is too long.
 abbrev pub HasFault : List ℕ → Fault → Type 0
-HasFault bytes BadLine = HasBadRequestLine (take MAX_HEAD bytes)
-HasFault bytes BadHeader = HasRequestLine (take MAX_HEAD bytes) (λ rest. BreaksHeaders rest BadHeader)
-HasFault bytes BadLength = HasRequestLine (take MAX_HEAD bytes) (λ rest. BreaksHeaders rest BadLength)
-HasFault bytes BodyTooLong = HasRequestLine (take MAX_HEAD bytes) (λ rest. BreaksHeaders rest BodyTooLong)
-HasFault bytes HeadTooLong = GoesOn (take MAX_HEAD bytes) × (MAX_HEAD ≤ length bytes)
+HasFault bytes BadLine = HasBadRequestLine (take head_limit bytes)
+HasFault bytes BadHeader = HasRequestLine (take head_limit bytes) (λ rest. BreaksHeaders rest BadHeader)
+HasFault bytes BadLength = HasRequestLine (take head_limit bytes) (λ rest. BreaksHeaders rest BadLength)
+HasFault bytes BodyTooLong = HasRequestLine (take head_limit bytes) (λ rest. BreaksHeaders rest BodyTooLong)
+HasFault bytes HeadTooLong = GoesOn (take head_limit bytes) × (head_limit ≤ length bytes)
 
 -- a head that may still go on
 abbrev pub IsUnfinished : List ℕ → Type 0
-IsUnfinished bytes = GoesOn bytes × (length bytes < MAX_HEAD)
+IsUnfinished bytes = GoesOn bytes × (length bytes < head_limit)

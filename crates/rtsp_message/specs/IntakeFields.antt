@@ -7,10 +7,10 @@ use Rattle.rtsp_message.specs.Intakes.{IntakeState}
 use Rattle.rtsp_message.specs.Stream.{ReadsOn}
 
 abbrev pub state_of : {S : Type 0} → Inside S → IntakeState S
-state_of i = record { source = i.source; queue = into_iter_items i.units; reading = i.reader; held = take i.held i.piece; ended = i.ended }
+state_of i = record { source = i.source; queue = into_iter_items i.units; reading = i.reader.reading; held = take i.held i.piece; ended = i.ended }
 
 -- what always holds of them
 pub record IsIntake {S : Type 0} (incoming : S → Option (List ℕ)) (i : Inside S) : Type 0 where
   pub within : i.held ≤ 4096
-  pub settled : ReadsOn i.reader [] [] i.reader
+  pub settled : ReadsOn i.reader.reading [] [] i.reader.reading
   pub at_end : i.ended ≡ true → IsAtEnd (incoming i.source) × (i.held ≡ 0)

@@ -1,5 +1,6 @@
 -- What an intake still has to hand out.
-use Rattle.std.specs.Prelude.{◌≡◌, ◌+◌, ℕ, Bool, true, false, List, [], ◌∷◌, ◌++◌, Option, None, Some, length}
+use Rattle.std.specs.Prelude.{◌≡◌, ◌+◌, ◌<◌, ◌⊎◌, ℕ, Bool, true, false, List, [], ◌∷◌, ◌++◌, Option, None, Some, length}
+use Rattle.std.specs.List.{concat}
 use Rattle.std.specs.Io.KnownBytes.{Consumes, IsAtEnd}
 use Rattle.rtsp_message.specs.declared.unit.Unit.{Unit as StreamUnit}
 use Rattle.rtsp_message.specs.declared.intake.Next.{Next}
@@ -71,6 +72,45 @@ module _ {S : Type 0} where
   Lasts failed intake (answers.Fault fault) = IsOver failed intake (answers.Fault fault)
   Lasts failed intake answers.ReadFailed = IsOver failed intake answers.ReadFailed
   Lasts failed intake answers.OutOfMemory = Unit {0}
+
+module _ {S : Type 0} (gives : S → List ℕ → S → Type 0) where
+  -- from the one state to the other the source gave these pieces, one a read, and none of them was empty
+  abbrev pub Gave : S → List (List ℕ) → S → Type 0
+  Gave old [] new = new ≡ old
+  Gave old (piece ∷ pieces) new = (mid : S) × (0 < length piece) × gives old piece mid × Gave mid pieces new
+
+  -- The source was read while nothing was at hand. No unit was queued, and the source had not ended. What was held and
+  -- what these pieces brought held no unit and no fault; then came the last read.
+  pub record ReadsInNeed (old new : IntakeState S) : Type 0 where
+    pub pieces : List (List ℕ)
+    pub before : S
+    pub reading : Ending
+    pub last : List ℕ
+    pub none_queued : old.queue ≡ []
+    pub not_ended : old.ended ≡ false
+    pub came : Gave old.source pieces before
+    pub no_unit : ReadsOn old.reading (old.held ++ concat pieces) [] reading
+    pub no_fault : fault_of reading ≡ None
+    pub last_read : gives before last new.source
+
+  -- the source is as it was, or was read only while nothing was at hand
+  abbrev pub IsPrompt : IntakeState S → IntakeState S → Type 0
+  IsPrompt old new = (new.source ≡ old.source) ⊎ ReadsInNeed old new
+
+  -- at most one read, and that only where nothing was queued or held, there was no fault and the source had not ended
+  abbrev pub ReadsOnce : IntakeState S → IntakeState S → Type 0
+  ReadsOnce old new =
+      (new.source ≡ old.source)
+      ⊎ (old.queue ≡ []) × (old.held ≡ []) × (fault_of old.reading ≡ None) × (old.ended ≡ false) × (piece : List ℕ) × gives old.source piece new.source
+
+  -- All that was held and what these pieces brought was read. The units that it made are queued.
+  pub record TakesAll (old new : IntakeState S) : Type 0 where
+    pub pieces : List (List ℕ)
+    pub none_queued : old.queue ≡ []
+    pub not_ended : old.ended ≡ false
+    pub came : Gave old.source pieces new.source
+    pub reads : ReadsOn old.reading (old.held ++ concat pieces) new.queue new.reading
+    pub none_held : new.held ≡ []
 
 -- an answer that hands out no unit
 abbrev pub IsNoUnit : Next → Type 0

@@ -1,7 +1,8 @@
 -- The lines of a message's head, and the bytes that they are made of.
 -- RFC 2326, 4 (messages end their lines), 6.1 (request line), 12 (header fields), 15.1 (tokens).
-use Rattle.std.specs.Prelude.{◌≡◌, ℕ, ◌<◌, Bool, true, false, not, ◌&&◌, ◌||◌, ◌==◌, nat_le, if◌then◌else◌, List, [], ◌∷◌, ◌++◌, length, reverse, codes}
+use Rattle.std.specs.Prelude.{◌≡◌, ℕ, ◌<◌, Bool, true, false, not, ◌&&◌, ◌||◌, ◌==◌, nat_le, List, [], ◌∷◌, ◌++◌, length, codes}
 use Rattle.std.specs.List.{list_any, AllByRecursion}
+use Rattle.base_syntax.specs.Blanks.{is_blank, IsTrimOf}
 use Rattle.rtsp_message.specs.declared.byte_class.ByteClass.{ByteClass}
 use Rattle.rtsp_message.specs.declared.byte_class.ByteClass.TheVariants.{Token, Visible, Space, Blank, Value}
 use Rattle.rtsp_message.specs.declared.headers.Header.{Header}
@@ -12,10 +13,6 @@ is_visible b = nat_le 33 b && nat_le b 126
 -- the characters that no token has
 abbrev pub separators : List ℕ
 separators = codes "()<>@,;:\\\"/[]?={}"
-
--- a space or a tab
-abbrev pub is_blank : ℕ → Bool
-is_blank b = b == 32 || b == 9
 
 -- what a class of bytes has
 abbrev pub is_in : ByteClass → ℕ → Bool
@@ -51,16 +48,6 @@ pub record IsRequestLine (line method uri version : List ℕ) : Type 0 where
   pub version_bytes : OneOrMore Visible version
   pub tail_blank : Each Blank tail
 
--- Text without the blanks at both its ends.
-pub record IsTrimOf (text trimmed : List ℕ) : Type 0 where
-  pub front : List ℕ
-  pub back : List ℕ
-  pub whole : text ≡ front ++ (trimmed ++ back)
-  pub front_blank : Each Blank front
-  pub back_blank : Each Blank back
-  pub begins : BeginsOutside Blank trimmed
-  pub ends : BeginsOutside Blank (reverse trimmed)
-
 -- A name of token bytes, a colon, and a value with blanks round it that don't count (RFC 2326, 12; RFC 2068, 4.2).
 pub record IsHeaderLine (line : List ℕ) (header : Header) : Type 0 where
   pub text : List ℕ
@@ -69,29 +56,8 @@ pub record IsHeaderLine (line : List ℕ) (header : Header) : Type 0 where
   pub value : IsTrimOf text header.value
   pub value_bytes : Each Value header.value
 
--- a line feed ends a line, and stands nowhere else in it
-abbrev pub HasNoLf : List ℕ → Type 0
-HasNoLf bytes = AllByRecursion (λ b. b == 10 ≡ false) bytes
-
--- the line as it came, with its LF
-abbrev pub ended : List ℕ → List ℕ
-ended line = line ++ 10 ∷ []
-
 -- Bytes as one or more of a class at the front, and what follows them.
 pub record IsFrontRun (class : ByteClass) (bytes run rest : List ℕ) : Type 0 where
   pub whole : bytes ≡ run ++ rest
   pub run_bytes : OneOrMore class run
   pub stops : BeginsOutside class rest
-
--- what a line says: one CR before its LF is dropped
-abbrev pub said : List ℕ → List ℕ
-said [] = []
-said (b ∷ []) = if b == 13 then [] else b ∷ []
-said (b ∷ c ∷ bs) = b ∷ said (c ∷ bs)
-
--- Bytes as a first line, of which this is said, and what follows its LF.
-pub record IsFirstLine (bytes text rest : List ℕ) : Type 0 where
-  pub line : List ℕ
-  pub whole : bytes ≡ ended line ++ rest
-  pub unbroken : HasNoLf line
-  pub text_is : text ≡ said line

@@ -1,13 +1,13 @@
 -- The stream of a connection: messages and frames, with pads between them, and what has come of the next
 -- (RFC 2326, 4 to 6 and 10.12).
-use Rattle.std.specs.Prelude.{◌≡◌, ◌+◌, ◌<◌, ◌≤◌, ℕ, Bool, true, false, ◌||◌, ◌==◌, List, [], ◌∷◌, ◌++◌, Option, None, Some, length, take, drop, codes}
+use Rattle.std.specs.Prelude.{◌≡◌, ◌<◌, ◌≤◌, ℕ, Bool, true, false, ◌||◌, ◌==◌, List, [], ◌∷◌, ◌++◌, Option, None, Some, length, take, drop, codes}
 use Rattle.interleaved.specs.Frame.{IsFrame}
-use Rattle.rtsp_message.specs.declared.TheConstants.{MAX_HEAD, MAX_BODY}
 use Rattle.rtsp_message.specs.declared.request.Request.{Request}
 use Rattle.rtsp_message.specs.declared.unit.Unit.{Unit as StreamUnit}
 use Rattle.rtsp_message.specs.declared.unit.Unit.TheVariants.{Message, Frame}
 use Rattle.rtsp_message.specs.declared.fault.Fault.{Fault}
 use Rattle.rtsp_message.specs.declared.fault.Fault.TheVariants.{BadLine, BadHeader, BadLength, HeadTooLong, BodyTooLong}
+use Rattle.rtsp_message.specs.Limits.{waiting_limit}
 use Rattle.rtsp_message.specs.Lengths.{body_len}
 use Rattle.rtsp_message.specs.Heads.{IsHead, HasFault}
 
@@ -105,6 +105,11 @@ abbrev pub waiting_len : Ending → ℕ
 waiting_len (Waits rest) = length rest
 waiting_len (Fails fault) = 0
 
+-- A reader: where its reading stands, and for how many bytes it holds memory.
+pub record ReaderState : Type 0 where
+  pub reading : Ending
+  pub room : ℕ
+
 -- the faults by the numbers that the program reports
 abbrev pub fault_number : Fault → ℕ
 fault_number BadLine = 1
@@ -131,7 +136,7 @@ pub record ReadsSoFar (bytes : List ℕ) (units : List StreamUnit) (len : ℕ) :
 
 -- the bytes behind them wait, and are fewer than a head and a body may have, or have this fault
 abbrev pub IsScanEnd : List ℕ → Option Fault → Type 0
-IsScanEnd rest None = EndsAs rest (Waits rest) × (length rest < MAX_HEAD + MAX_BODY)
+IsScanEnd rest None = EndsAs rest (Waits rest) × (length rest < waiting_limit)
 IsScanEnd rest (Some fault) = EndsAs rest (Fails fault)
 
 abbrev pub IsScan : List ℕ → List StreamUnit → ℕ → Option Fault → Type 0

@@ -45,19 +45,6 @@ impl ByteClass {
         }
         bytes.len()
     }
-
-    /// Where the bytes of the class at the end begin.
-    pub fn trailing(self, bytes: &[u8]) -> usize
-        ensures within { result ≤ length bytes.now }
-        ensures run { Each self (drop result bytes.now) }
-        ensures stop { (i : ℕ) → i + 1 ≡ result → is_in self (slice_index bytes.now i) ≡ false }
-    {
-        let mut end = bytes.len();
-        while end > 0 && self.contains(bytes[end - 1]) {
-            end -= 1;
-        }
-        end
-    }
 }
 
 fn is_visible(byte: u8) -> bool

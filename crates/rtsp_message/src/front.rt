@@ -5,9 +5,10 @@ ghost use Rattle.rtsp_message.specs.Fronts.{IsFront};
 
 use crate::fault::Fault;
 use crate::head::{HeadFront, read_head};
-use crate::text::Text;
+use crate::headers::body_len;
 use crate::unit::Unit;
-use interleaved::{FRAME_HEAD, Frame, FrameAt, Payload, frame_at};
+use base_syntax::Bytes;
+use interleaved::{FRAME_HEAD, Frame, FrameAt, frame_at};
 use std::alloc::{AllocError, Global};
 
 /// What stands at the front of a stream, where a unit may begin.
@@ -43,7 +44,7 @@ fn read_frame(alloc: Global, bytes: &[u8]) -> Result<Front, AllocError>
     };
     let channel = bytes[1];
     let (_, data) = bytes[..len].split_at(FRAME_HEAD);
-    let payload = Payload::new(Vec::from_slice(alloc, data)?);
+    let payload = Bytes::from_slice(alloc, data)?;
     Ok(Front::Whole {
         unit: Unit::Frame(Frame { channel, payload }),
         len,
@@ -61,11 +62,11 @@ fn read_message(alloc: Global, bytes: &[u8]) -> Result<Front, AllocError>
         HeadFront::Unfinished => return Ok(Front::Unfinished),
     };
     let (_, rest) = bytes.split_at(head);
-    let len = request.headers.body_len();
+    let len = body_len(&request.headers);
     if rest.len() < len {
         return Ok(Front::Unfinished);
     }
-    request.body = Text::from_slice(alloc, &rest[..len])?;
+    request.body = Bytes::from_slice(alloc, &rest[..len])?;
     Ok(Front::Whole {
         unit: Unit::Message(request),
         len: head + len,

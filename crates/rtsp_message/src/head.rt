@@ -6,14 +6,14 @@ ghost use Rattle.rtsp_message.specs.Heads.{GoesOn, IsBadHeader, HasRequestLine};
 ghost use Rattle.rtsp_message.specs.Headers.{cseq_of};
 ghost use Rattle.rtsp_message.specs.Lengths.{field_fault, length_fault as fault_in_length};
 ghost use Rattle.rtsp_message.specs.Fronts.{IsHeadFront, IsBlock};
+ghost use Rattle.rtsp_message.specs.Limits.{head_limit};
 
 use crate::fault::Fault;
-use crate::headers::{Header, Headers, is_same_name};
-use crate::lines::{RequestLine, first_line, read_header_line, read_request_line};
-use crate::numbers::{is_numeral, read_number};
+use crate::headers::{Header, Headers, announced, header_value};
+use crate::lines::{RequestLine, read_header_line, read_request_line};
 use crate::request::Request;
-use crate::text::Text;
 use crate::{MAX_BODY, MAX_HEAD};
+use base_syntax::{Bytes, first_line, is_numeral, is_same_name, read_number};
 use std::alloc::{AllocError, Global};
 
 /// What stands at the front of a stream, where a message begins.
@@ -59,7 +59,7 @@ pub fn read_head(alloc: Global, bytes: &[u8]) -> Result<HeadFront, AllocError>
 
 /// The bytes that a head may have.
 fn head_window(bytes: &[u8]) -> &[u8]
-    ensures { result.now ≡ take MAX_HEAD bytes.now }
+    ensures { result.now ≡ take head_limit bytes.now }
 {
     if bytes.len() < MAX_HEAD {
         bytes
@@ -70,7 +70,7 @@ fn head_window(bytes: &[u8]) -> &[u8]
 
 /// A head that goes on: more of it may come, unless it is too long already.
 fn unfinished(bytes: &[u8]) -> HeadFront
-    requires { GoesOn (take MAX_HEAD bytes.now) }
+    requires { GoesOn (take head_limit bytes.now) }
     ensures { IsHeadFront bytes.now result }
 {
     let is_long = bytes.len() >= MAX_HEAD;
@@ -85,7 +85,7 @@ fn unfinished(bytes: &[u8]) -> HeadFront
 fn read_headers(alloc: Global, text: &[u8]) -> Result<HeaderBlock, AllocError>
     ensures { IfOk result (IsBlock text.now) }
 {
-    let mut headers = Headers::new(alloc);
+    let mut headers = Headers::empty(alloc);
     let mut rest = text;
     while let Some((line, after)) = first_line(rest) {
         if line.is_empty() {
@@ -114,12 +114,12 @@ fn read_header(
         return Ok(Err(Fault::BadHeader));
     };
     if is_same_name(parts.name, b"Content-Length") {
-        if let Some(fault) = length_fault(before.announced(), parts.value) {
+        if let Some(fault) = length_fault(announced(before), parts.value) {
             return Ok(Err(fault));
         }
     }
-    let name = Text::from_slice(alloc, parts.name)?;
-    let value = Text::from_slice(alloc, parts.value)?;
+    let name = Bytes::from_slice(alloc, parts.name)?;
+    let value = Bytes::from_slice(alloc, parts.value)?;
     Ok(Ok(Header { name, value }))
 }
 
@@ -151,16 +151,16 @@ fn new_request(
     ensures headers { IfOk result (λ request. request.headers ≡ headers) }
 {
     let cseq = read_cseq(&headers);
-    let method = Text::from_slice(alloc, start.method)?;
-    let uri = Text::from_slice(alloc, start.uri)?;
-    let version = Text::from_slice(alloc, start.version)?;
+    let method = Bytes::from_slice(alloc, start.method)?;
+    let uri = Bytes::from_slice(alloc, start.uri)?;
+    let version = Bytes::from_slice(alloc, start.version)?;
     Ok(Request {
         method,
         uri,
         version,
         cseq,
         headers,
-        body: Text::new(Vec::new(alloc)),
+        body: Bytes::empty(alloc),
     })
 }
 
@@ -168,6 +168,6 @@ fn new_request(
 fn read_cseq(headers: &Headers) -> Option<u32>
     ensures { result ≡ cseq_of headers.now }
 {
-    let text = headers.value(b"CSeq")?;
+    let text = header_value(headers, b"CSeq")?;
     read_number(text.as_slice(), u32::MAX)
 }

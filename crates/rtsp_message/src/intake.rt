@@ -52,7 +52,7 @@ impl<S: Source> Model for Intake<S> {
 }
 
 impl<S: Source + Drop> Intake<S> {
-    ghost use Rattle.rtsp_message.specs.Intakes.{fresh, handed, weight, HandsOut, Tells, IsOver, Lasts, IsNoUnit};
+    ghost use Rattle.rtsp_message.specs.Intakes.{fresh, handed, weight, HandsOut, Tells, IsOver, Lasts, IsNoUnit, IsPrompt, ReadsOnce, TakesAll};
 
     pub fn new(alloc: Global, source: S) -> Intake<S>
         ensures { result ≡ fresh source }
@@ -67,13 +67,24 @@ impl<S: Source + Drop> Intake<S> {
         }
     }
 
+    /// Gives the source back, as far as it was read.
+    pub fn into_source(self) -> S
+        ensures { result ≡ self.source }
+    {
+        self.source
+    }
+
     /// The next unit, or why there is none. After `End`, `Fault` or `ReadFailed` it answers the same for good.
+    ///
+    /// The source is read only where no unit, no fault and no end is at hand, so that a source that waits for more
+    /// keeps back nothing that has come whole.
     pub fn next(&mut self) -> Next
         ensures hands_out { HandsOut S.incoming self.old self.new (handed result) }
         ensures tells { Tells S.incoming S.failed self.new result }
         ensures lasts { Lasts S.failed self.new result }
         ensures for_good { (answer : _) → IsOver S.failed self.old answer → result ≡ answer }
         ensures ends { weight S.bound self.new + length (handed result) ≤ weight S.bound self.old }
+        ensures prompt { IsPrompt S.gives self.old self.new }
     {
         loop {
             if let Some(unit) = self.units.next() {
@@ -94,6 +105,8 @@ impl<S: Source + Drop> Intake<S> {
         ensures lasts { IfSome result (Lasts S.failed self.new) }
         ensures for_good { (answer : _) → IsOver S.failed self.old answer → IfSome result (λ a. a ≡ answer) × IfNone result ⊥ }
         ensures ends { weight S.bound self.new ≤ weight S.bound self.old }
+        ensures once { ReadsOnce S.gives self.old self.new }
+        ensures takes_all { IfNone result (TakesAll S.gives self.old self.new) }
         ensures goes_on { IfNone result (S.bound self.new.source + length self.new.held < S.bound self.old.source + length self.old.held) }
     {
         if let Some(fault) = self.reader.fault() {

@@ -10,9 +10,10 @@ mod headers;
 mod intake;
 pub mod laws;
 mod lines;
-mod numbers;
 mod plain;
 mod reader;
+#[cfg(test)]
+mod reading_tests;
 mod reply;
 mod request;
 mod status;
@@ -20,20 +21,17 @@ mod status;
 mod stream_tests;
 #[cfg(test)]
 mod tests;
-mod text;
 mod unit;
 
 pub use byte_class::ByteClass;
 pub use fault::Fault;
 pub use headers::{Header, Headers};
 pub use intake::{Intake, Next};
-pub use numbers::read_number;
 pub use plain::put_plain;
 pub use reader::{Fed, Reader};
 pub use reply::{Fields, Reply, put_reply};
 pub use request::Request;
 pub use status::Status;
-pub use text::Text;
 pub use unit::Unit;
 
 /// The most bytes that a head may have, its empty line included.

@@ -1,10 +1,10 @@
 //! The lines of a head, and their parts.
 ghost use Rattle.std.specs.Prelude.{◌≡◌, ◌≢◌, ℕ, List, ◌∷◌, IfSome, IfNone};
 ghost use Rattle.rtsp_message.specs.declared.headers.Header.{Header};
-ghost use Rattle.rtsp_message.specs.Lines.{IsRequestLine, IsHeaderLine, IsTrimOf, IsFrontRun, IsFirstLine, BeginsOutside, HasNoLf, said};
+ghost use Rattle.rtsp_message.specs.Lines.{IsRequestLine, IsHeaderLine, IsFrontRun, BeginsOutside};
 
 use crate::byte_class::ByteClass;
-use memchr::memchr;
+use base_syntax::trim;
 
 /// The parts of a request line (RFC 2326, 6.1).
 #[derive(Clone, Copy)]
@@ -19,24 +19,6 @@ pub struct RequestLine<'a> {
 pub struct HeaderLine<'a> {
     pub name: &'a [u8],
     pub value: &'a [u8],
-}
-
-/// The first line, without its LF and one CR before it, and what follows it. `None` where no line has come whole.
-pub fn first_line(bytes: &[u8]) -> Option<(&[u8], &[u8])>
-    ensures some { IfSome result (λ r. IsFirstLine bytes.now r.0.now r.1.now) }
-    ensures none { IfNone result (HasNoLf bytes.now) }
-{
-    let end = memchr(b'\n', bytes)?;
-    Some((without_cr(&bytes[..end]), &bytes[end + 1..]))
-}
-
-fn without_cr(line: &[u8]) -> &[u8]
-    ensures { result.now ≡ said line.now }
-{
-    match line.strip_suffix(b"\r") {
-        Some(front) => front,
-        None => line,
-    }
 }
 
 /// Reads a request line. `None` where it is none.
@@ -66,7 +48,7 @@ pub fn read_header_line(line: &[u8]) -> Option<HeaderLine<'_>>
 {
     let (name, rest) = split_run(ByteClass::Token, line)?;
     let text = after_colon(rest)?;
-    let value = trim_blanks(text);
+    let value = trim(text);
     if ByteClass::Value.leading(value) < value.len() {
         return None;
     }
@@ -90,12 +72,4 @@ fn after_colon(bytes: &[u8]) -> Option<&[u8]>
     ensures none { IfNone result ((text : List ℕ) → bytes.now ≢ 58 ∷ text) }
 {
     bytes.strip_prefix(b":")
-}
-
-fn trim_blanks(text: &[u8]) -> &[u8]
-    ensures { IsTrimOf text.now result.now }
-{
-    let (_, text) = text.split_at(ByteClass::Blank.leading(text));
-    let (trimmed, _) = text.split_at(ByteClass::Blank.trailing(text));
-    trimmed
 }

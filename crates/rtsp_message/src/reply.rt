@@ -4,21 +4,21 @@ ghost use Rattle.std.specs.Option.{option_map};
 ghost use Rattle.rtsp_message.specs.Reply.{reply_text, status_line, cseq_field, fields_text, field, length_field};
 
 use crate::status::Status;
-use crate::text::Text;
+use base_syntax::Bytes;
 use itoa::Buffer;
 use std::alloc::{AllocError, Global};
 
 /// The fields that a reply may have between CSeq and Content-Length, each with its value where it is written.
 #[derive(Drop)]
 pub struct Fields {
-    pub session: Option<Text>,
-    pub public: Option<Text>,
-    pub allow: Option<Text>,
-    pub unsupported: Option<Text>,
-    pub transport: Option<Text>,
-    pub rtp_info: Option<Text>,
-    pub content_base: Option<Text>,
-    pub content_type: Option<Text>,
+    pub session: Option<Bytes>,
+    pub public: Option<Bytes>,
+    pub allow: Option<Bytes>,
+    pub unsupported: Option<Bytes>,
+    pub transport: Option<Bytes>,
+    pub rtp_info: Option<Bytes>,
+    pub content_base: Option<Bytes>,
+    pub content_type: Option<Bytes>,
 }
 
 impl Fields {
@@ -47,7 +47,7 @@ pub struct Reply {
     pub cseq: Option<u32>,
     pub fields: Fields,
     /// Empty where there is no body.
-    pub body: Text,
+    pub body: Bytes,
 }
 
 /// Appends the text of a reply. After an `Err` `out` is as before.
@@ -108,7 +108,7 @@ fn push_fields(text: &mut Vec<u8>, fields: &Fields) -> Result<(), AllocError>
     push_given(text, b"Content-Type", &fields.content_type)
 }
 
-fn push_given(text: &mut Vec<u8>, name: &[u8], value: &Option<Text>) -> Result<(), AllocError>
+fn push_given(text: &mut Vec<u8>, name: &[u8], value: &Option<Bytes>) -> Result<(), AllocError>
     ensures { OnOk result (text.new.items ≡ text.old.items ++ field name.now value.now) }
 {
     match value {

@@ -2,29 +2,29 @@
 ghost use Rattle.std.specs.Prelude.{◌≡◌};
 ghost use Rattle.std.specs.Option.{option_copied};
 
-use crate::headers::Headers;
-use crate::text::Text;
+use crate::headers::{Headers, header_value};
+use base_syntax::Bytes;
 
 /// A request as it came (RFC 2326, 6). Its texts are bytes.
 #[derive(Drop)]
 pub struct Request {
-    pub method: Text,
-    pub uri: Text,
-    pub version: Text,
+    pub method: Bytes,
+    pub uri: Bytes,
+    pub version: Bytes,
     /// The number of its CSeq field, where that can be read (RFC 2326, 12.17).
     pub cseq: Option<u32>,
     pub headers: Headers,
     /// As many bytes as the Content-Length field announces, none without it (RFC 2326, 4.4).
-    pub body: Text,
+    pub body: Bytes,
 }
 
 impl Request {
     ghost use Rattle.rtsp_message.specs.Headers.{value_of};
 
     /// The value of the first header field of that name, whatever the case of its ASCII letters.
-    pub fn header(&self, name: &[u8]) -> Option<&Text>
+    pub fn header(&self, name: &[u8]) -> Option<&Bytes>
         ensures { option_copied result ≡ value_of self.now.headers name.now }
     {
-        self.headers.value(name)
+        header_value(&self.headers, name)
     }
 }

@@ -1,8 +1,9 @@
 //! Streams in pieces, replies by their bytes.
 use crate::{
-    ByteClass, Fault, Fed, Fields, Header, Headers, Intake, Next, Reader, Reply, Request, Status,
-    Text, Unit, put_plain, put_reply, read_number,
+    ByteClass, Fault, Fed, Fields, Intake, Next, Reader, Reply, Request, Status, Unit, put_plain,
+    put_reply,
 };
+use base_syntax::Bytes;
 use interleaved::ListSource;
 use std::alloc::Global;
 use std::test::Fail;
@@ -11,8 +12,8 @@ use std::test::Fail;
 const STREAM: &[u8] =
     b"\r\n\nOPTIONS * RTSP/1.0\r\nCSeq: 1\r\n\r\n\nPLAY rtsp://h/a  RTSP/1.0 \t\nX:\t a b \ncseq: 2\nCSeq: 3\n\n\r";
 
-fn text(alloc: Global, bytes: &[u8]) -> Result<Text, Fail> {
-    Ok(Text::from_slice(alloc, bytes)?)
+fn text(alloc: Global, bytes: &[u8]) -> Result<Bytes, Fail> {
+    Ok(Bytes::from_slice(alloc, bytes)?)
 }
 
 /// Feeds these pieces one after another.
@@ -259,23 +260,8 @@ fn reply_has_its_fields_in_order(rt: HostRuntime) -> Result<(), Fail> {
 }
 
 #[test]
-fn headers_and_texts_give_back_what_they_hold(rt: HostRuntime) -> Result<(), Fail> {
-    let alloc = rt.alloc();
-    let mut headers = Headers::new(alloc);
-    headers.push(Header {
-        name: text(alloc, b"A")?,
-        value: text(alloc, b"1")?,
-    })?;
-    assert_eq!(rt; headers.as_slice().len(), 1);
-    let headers = Headers::from_vec(headers.into_vec());
-    let value = headers.value(b"a").ok_or("a field a")?;
-    assert_eq!(rt; value.as_slice(), b"1".as_slice());
-    assert_eq!(rt;
-        text(alloc, b"\xff")?.into_vec().as_slice(),
-        b"\xff".as_slice()
-    );
+fn classes_of_bytes(rt: HostRuntime) -> Result<(), Fail> {
     assert_eq!(rt; ByteClass::Token.leading(b"ab:c"), 2);
-    assert_eq!(rt; ByteClass::Blank.trailing(b"ab \t"), 2);
     assert!(rt; ByteClass::Value.contains(0x80));
     Ok(())
 }
@@ -293,14 +279,5 @@ fn faults_have_numbers_and_words(rt: HostRuntime) -> Result<(), Fail> {
         assert_eq!(rt; fault.number(), number);
         assert_eq!(rt; fault.to_string(rt.alloc())?.as_str(), words);
     }
-    Ok(())
-}
-
-#[test]
-fn numbers_up_to_a_limit(rt: HostRuntime) -> Result<(), Fail> {
-    assert_eq!(rt; read_number(b"007", 7), Some(7));
-    assert_eq!(rt; read_number(b"8", 7), None);
-    assert_eq!(rt; read_number(b"", 7), None);
-    assert_eq!(rt; read_number(b"7x", 7), None);
     Ok(())
 }

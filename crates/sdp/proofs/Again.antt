@@ -4,17 +4,18 @@ use Rattle.std.specs.List.{AllByRecursion, flat_map, list_all}
 use Rattle.std.specs.Str.Parse.{AllDigits}
 use Rattle.std.specs.Char.{digit_value}
 use Rattle.std.proofs.lemmas.Fmt.{decimal_is_IsNumeral}
-use Rattle.std.proofs.lemmas.Bool.{eqb-true}
+use Rattle.std.proofs.lemmas.Bool.{and_parts, eqb-true}
 use Rattle.std.proofs.lemmas.Bool.Decides.{eqb_tells, leb_tells}
 use Rattle.sdp.specs.declared.track.Track.{Track}
 use Rattle.sdp.specs.declared.sections.Sections.{Sections}
-use Rattle.sdp.specs.Lines.{HasNoLf, ended, said, has_bytes, AreLines}
+use Rattle.base_syntax.specs.Lines.{HasNoLf, ended, said, has_bytes}
+use Rattle.sdp.specs.Lines.{AreLines}
 use Rattle.sdp.specs.Fields.{version_line, is_field, is_value_byte, is_letter, has_equals, is_media, is_control, control_among, control_prefix}
 use Rattle.sdp.specs.Sections.{announced, lines_of, AreGood, IsTrack, BeginsWithVersion}
 use Rattle.sdp.specs.Written.{written, without_controls, track_control, session_lines, track_lines, lines_from, description_text, AreSameTracks}
 use Rattle.sdp.specs.Readings.{Reads}
 use Rattle.sdp.proofs.Cuts.{true_false}
-use Rattle.sdp.proofs.LineEnds.{said-cr}
+use Rattle.base_syntax.proofs.LineEnds.{said-cr}
 use Rattle.sdp.proofs.Goods.{push_all, join_all, left_all, right_all}
 
 abbrev IsGoodLine : List ℕ → Type 0
@@ -24,10 +25,6 @@ written_ended : (lines : List (List ℕ)) → flat_map written lines ≡ flat_ma
 written_ended [] = refl
 written_ended (l ∷ lines) = ap (λ (r : List ℕ). written l ++ r) (written_ended lines) ∙ ap (λ (w : List ℕ). w ++ (flat_map ended (map (λ x. x ++ 13 ∷ []) lines) ++ [])) (sym (append_assoc l (13 ∷ []) (10 ∷ []))) ∙ sym (append_assoc (ended (l ++ 13 ∷ [])) (flat_map ended (map (λ x. x ++ 13 ∷ []) lines)) [])
 
-both : (x y : Bool) → (x && y) ≡ true → (x ≡ true) × (y ≡ true)
-both true y h = (refl, h)
-both false y h = absurd (true_false (sym h))
-
 value_byte : (b : ℕ) → is_value_byte b ≡ true → (b == 10) ≡ false
 value_byte b h = elim (eqb_tells b 10) [ inl same ↦ absurd (true_false (sym h ∙ ap is_value_byte same.1)) | inr other ↦ other.0 ]
 
@@ -36,16 +33,16 @@ letter_byte b h = elim (eqb_tells b 10) [ inl same ↦ absurd (true_false (sym h
 
 no_lf_value : (value : List ℕ) → list_all is_value_byte value ≡ true → HasNoLf (value ++ 13 ∷ [])
 no_lf_value [] h = (refl, tt)
-no_lf_value (b ∷ value) h = let parts = both (is_value_byte b) (list_all is_value_byte value) h in (value_byte b parts.0, no_lf_value value parts.1)
+no_lf_value (b ∷ value) h = let parts = and_parts (is_value_byte b) (list_all is_value_byte value) h in (value_byte b parts.0, no_lf_value value parts.1)
 
 -- a good line has no LF, and isn't empty
 no_lf_field : (line : List ℕ) → IsGoodLine line → HasNoLf (line ++ 13 ∷ []) × (has_bytes line ≡ true)
 no_lf_field [] h = absurd (true_false (sym h))
 no_lf_field (b ∷ []) h = absurd (true_false (sym h))
 no_lf_field (b ∷ c ∷ value) h =
-    let parts = both (has_equals (b ∷ c ∷ value)) (is_letter b && list_all is_value_byte value) h in
-    let equals = both (nat_lt 1 (length (b ∷ c ∷ value))) (c == 61) parts.0 in
-    let rest = both (is_letter b) (list_all is_value_byte value) parts.1 in
+    let parts = and_parts (has_equals (b ∷ c ∷ value)) (is_letter b && list_all is_value_byte value) h in
+    let equals = and_parts (nat_lt 1 (length (b ∷ c ∷ value))) (c == 61) parts.0 in
+    let rest = and_parts (is_letter b) (list_all is_value_byte value) parts.1 in
     let second : (c == 10) ≡ false = rw (eqb-true c 61 equals.1) refl in
     ((letter_byte b rest.0, (second, no_lf_value value rest.1)), refl)
 
@@ -96,7 +93,7 @@ kept_all P (l ∷ lines) p = elim (is_control l) as (λ b. AllByRecursion P (con
 
 media_no_control : (line : List ℕ) → is_media line ≡ true → is_control line ≡ false
 media_no_control [] h = absurd (true_false (sym h))
-media_no_control (b ∷ bs) h = elim (eqb_tells b 109) [ inl same ↦ rw same.1 refl | inr other ↦ absurd (true_false (sym (both (b == 109) _ h).0 ∙ other.0)) ]
+media_no_control (b ∷ bs) h = elim (eqb_tells b 109) [ inl same ↦ rw same.1 refl | inr other ↦ absurd (true_false (sym (and_parts (b == 109) _ h).0 ∙ other.0)) ]
 
 control_step : (l : List ℕ) (b : Bool) → is_control l ≡ b → (kept : List (List ℕ)) (control : List ℕ) (r : Option (List ℕ)) → control_among (kept ++ control ∷ []) ≡ r → control_among (cond (not b) (l ∷ kept) kept ++ control ∷ []) ≡ r
 control_step l true e kept control r h = h

@@ -4,13 +4,11 @@ use Rattle.std.specs.List.{AllByRecursion, flat_map, find}
 use Rattle.std.specs.Option.{option_map}
 use Rattle.std.proofs.lemmas.Bool.{eqb-true}
 use Rattle.std.proofs.lemmas.List.Concat.{flat_map-append}
-use Rattle.sdp.specs.declared.TheConstants.{MAX_TRACKS}
 use Rattle.sdp.specs.declared.track.Track.{Track}
 use Rattle.sdp.specs.declared.sections.Sections.{Sections}
 use Rattle.sdp.specs.Fields.{version_line, is_field, is_media, is_control, control_among}
 use Rattle.sdp.specs.Sections.{announced, lines_of, AreGood, IsTrack, BeginsWithVersion, HasNoMedia}
-use Rattle.sdp.specs.declared.media.MediaLine.{MediaLine}
-use Rattle.sdp.specs.Media.{media_of}
+use Rattle.sdp.specs.Media.{MediaLine, media_of}
 use Rattle.sdp.specs.Steps.{control_with, with_line, ExtendsLast}
 
 pub push_all : {X : Type 0} (P : X → Type 0) (xs : List X) (x : X) → AllByRecursion P xs → P x → AllByRecursion P (xs ++ x ∷ [])
@@ -56,7 +54,7 @@ track_push track line p plain = record {
 
 -- a line of the session section
 pub session_kept : (session : List (List ℕ)) (line : List ℕ) (tracks : List Track) → tracks ≡ [] → (session ++ line ∷ []) ++ flat_map lines_of tracks ≡ (session ++ flat_map lines_of tracks) ++ line ∷ []
-session_kept session line tracks none = rw none (rw (append-nil, append-nil) refl)
+session_kept session line tracks none = rw none (simp append-nil)
 
 pub tracks_kept : (session : List (List ℕ)) (line : List ℕ) {old new : List Track} → ExtendsLast old line new → session ++ flat_map lines_of new ≡ (session ++ flat_map lines_of old) ++ line ∷ []
 tracks_kept session line {old} {new} e =
@@ -68,7 +66,7 @@ tracks_kept session line {old} {new} e =
 
 -- one more line is good, where its section is
 pub good_push : {old new : Sections} {line : List ℕ} → AreGood old → announced new ≡ announced old ++ line ∷ [] → (announced old ≡ [] → line ≡ version_line) → is_field line ≡ true
-    → HasNoMedia new.session → AllByRecursion IsTrack new.tracks → length new.tracks ≤ MAX_TRACKS → AreGood new
+    → HasNoMedia new.session → AllByRecursion IsTrack new.tracks → length new.tracks ≤ 16 → AreGood new
 good_push {old} {new} {line} p kept first field session tracks few = record {
   begins = subst BeginsWithVersion (sym kept) (version_push (announced old) line p.begins first);
   fields = subst (AllByRecursion (λ l. is_field l ≡ true)) (sym kept) (push_all (λ l. is_field l ≡ true) (announced old) line p.fields field);
@@ -90,7 +88,7 @@ no_lines e h = omega (arith, ap length e, h)
 
 -- sections with one more track
 pub opened : {old : Sections} (line : List ℕ) (track : Track) (named : MediaLine) (tracks : List Track) → AreGood old → 0 < length (announced old) → is_field line ≡ true → is_media line ≡ true
-    → media_of line ≡ Some named → track.media ≡ named.media → track.formats ≡ named.formats → track.control ≡ None → track.lines ≡ line ∷ [] → length old.tracks < MAX_TRACKS → tracks ≡ old.tracks ++ track ∷ []
+    → media_of line ≡ Some named → track.media ≡ named.media → track.formats ≡ named.formats → track.control ≡ None → track.lines ≡ line ∷ [] → length old.tracks < 16 → tracks ≡ old.tracks ++ track ∷ []
     → (announced (record { session = old.session; tracks = tracks }) ≡ announced old ++ line ∷ []) × AreGood (record { session = old.session; tracks = tracks })
 opened {old} line track named tracks p some field opens names media formats control lines few tracks_are =
     let is : IsTrack track = record {
@@ -107,7 +105,7 @@ opened {old} line track named tracks p some field opens names media formats cont
     ∙ ap (λ (l : List (List ℕ)). old.session ++ l) (flat_map-append lines_of old.tracks (track ∷ []) ∙ ap (λ (l : List (List ℕ)). flat_map lines_of old.tracks ++ l) (append-nil track.lines ∙ lines))
     ∙ sym (append_assoc old.session (flat_map lines_of old.tracks) (line ∷ [])) in
     let all : AllByRecursion IsTrack tracks = subst (AllByRecursion IsTrack) (sym tracks_are) (push_all IsTrack old.tracks track p.track_parts is) in
-    let count : length tracks ≤ MAX_TRACKS = omega (arith, few, ap length tracks_are, length-append old.tracks (track ∷ [])) in
+    let count : length tracks ≤ 16 = omega (arith, few, ap length tracks_are, length-append old.tracks (track ∷ [])) in
     (kept, good_push {old = old} {new = record { session = old.session; tracks = tracks }} {line = line} p kept (λ none. absurd (no_lines none some)) field p.session_part all count)
 
 -- sections with one more line in front of the tracks

@@ -1,10 +1,10 @@
-pub mod LineEnds
 pub mod Cuts
 pub mod Goods
 pub mod Texts
 pub mod SoFar
 pub mod Refusals
 pub mod Again
+pub mod OneFault
 pub mod OneReading
 pub mod Ports
 pub mod MediaForms

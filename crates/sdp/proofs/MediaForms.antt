@@ -1,21 +1,22 @@
 -- What an `m=` line is found to name is what its form names.
-use Rattle.std.proofs.Common.{◌≡◌, ◌==◌, ◌<◌, ◌≤◌, ◌+◌, ◌-◌, ℕ, suc, Bool, true, false, if◌then◌else◌, List, [], ◌∷◌, ◌++◌, None, Some, inl, inr, length, take, drop, filter, get_or, reverse, codes, refl, sym, ap, subst, ◌∙◌, arith, length-take, length-drop, get_or-take, get_or-drop, take-append-drop, length-append}
+use Rattle.std.proofs.Common.{◌≡◌, ◌==◌, ◌<◌, ◌≤◌, ◌+◌, ◌-◌, ℕ, suc, Bool, true, false, if◌then◌else◌, List, [], ◌∷◌, ◌++◌, None, Some, inl, inr, length, take, drop, filter, get_or, codes, refl, sym, ap, subst, ◌∙◌, arith, length-take, length-drop, get_or-take, get_or-drop, take-append-drop, length-append}
 use Rattle.std.specs.List.{prefix_len, suffix_len, position_or_len, slice_split, AllPass}
 use Rattle.std.proofs.lemmas.Bool.{and_parts, cases_Bool}
 use Rattle.std.proofs.lemmas.Bool.Decides.{leb_tells, eqb_tells}
-use Rattle.std.proofs.lemmas.List.{get_or-reverse, length-reverse, drop_all, take_all, take_at, get_or_append_left, get_or-append_right}
+use Rattle.std.proofs.lemmas.List.{drop_all, take_all, take_at, get_or_append_left, get_or-append_right}
 use Rattle.std.proofs.lemmas.List.Splits.{slice_split_at, slice_split_none, slice_split-cons_yes}
 use Rattle.std.proofs.lemmas.List.Sums.{prefix_len_passes, prefix_len_stops, suffix_len_is, suffix_len-le-length, fails_before_first, passes_at_first}
 use Rattle.std.proofs.lemmas.Slice.Eq.{bytes_eq-Decides}
-use Rattle.sdp.specs.Lines.{has_bytes}
-use Rattle.sdp.specs.declared.media.MediaLine.{MediaLine}
-use Rattle.sdp.specs.Media.{words, is_space, is_blank, is_port, without_end_blanks, names_transport, named_by, begins_with_space, media_of}
+use Rattle.base_syntax.specs.Blanks.{is_blank, without_trailing_blanks}
+use Rattle.base_syntax.specs.Lines.{has_bytes}
+use Rattle.sdp.specs.Media.{MediaLine, words, is_space, is_port, names_transport, named_by, begins_with_space, media_of}
 use Rattle.sdp.specs.MediaForm.{IsWord, AreSpaces, AreWords, HasBareEnd, IsMedia}
+use Rattle.base_syntax.proofs.Trims.{back_blank, bare_end}
 use Rattle.sdp.proofs.Cuts.{first_word}
 use Rattle.sdp.proofs.Ports.{port_tells, port_is}
 
 -- blanks at the end of a text
-trimmed_is : (text blanks : List ℕ) → HasBareEnd text → AllPass is_blank blanks → without_end_blanks (text ++ blanks) ≡ text
+trimmed_is : (text blanks : List ℕ) → HasBareEnd text → AllPass is_blank blanks → without_trailing_blanks (text ++ blanks) ≡ text
 trimmed_is text blanks ends blank =
     let whole : List ℕ = text ++ blanks in
     let last : length text - 1 < length text = omega (arith, ends.0) in
@@ -26,28 +27,14 @@ trimmed_is text blanks ends blank =
     let kept : length whole - suffix_len is_blank whole ≡ length text = omega (arith, length-append text blanks) in
     ap (λ n. take n whole) kept ∙ take_at text blanks (length text) refl
 
-trimmed_off : (text : List ℕ) → AllPass is_blank (drop (length text - suffix_len is_blank text) text)
-trimmed_off text k d below =
-    let n : ℕ = length text - suffix_len is_blank text in
-    let inside : n + k < length text = omega (arith, length-drop n text) in
-    let at : ℕ = length text - 1 - (n + k) in
-    let within : at < length text = omega arith in
-    let back : length text - 1 - at ≡ n + k = omega arith in
-    let same : get_or (reverse text) at d ≡ get_or text (n + k) d = get_or-reverse text at d within ∙ ap (λ i. get_or text i d) back in
-    ap is_blank (get_or-drop n text k d ∙ sym same) ∙ prefix_len_passes is_blank (reverse text) at d (omega (arith, suffix_len-le-length is_blank text))
-
-trimmed_ends : (text : List ℕ) → 0 < length (without_end_blanks text) → HasBareEnd (without_end_blanks text)
+trimmed_ends : (text : List ℕ) → 0 < length (without_trailing_blanks text) → HasBareEnd (without_trailing_blanks text)
 trimmed_ends text some =
     let m : ℕ = suffix_len is_blank text in
     let n : ℕ = length text - m in
     let fewer : m ≤ length text = suffix_len-le-length is_blank text in
     let long : length (take n text) ≡ n = length-take n text ∙ omega arith in
-    let left : m < length text = omega (arith, long, some) in
-    let back : length text - 1 - m ≡ n - 1 = omega (arith, left) in
-    let same : get_or (reverse text) m 0 ≡ get_or text (n - 1) 0 = get_or-reverse text m 0 left ∙ ap (λ i. get_or text i 0) back in
-    let last : n - 1 < n = omega (arith, left) in
-    let end : is_blank (get_or text (n - 1) 0) ≡ false = ap is_blank (sym same) ∙ prefix_len_stops is_blank (reverse text) 0 (omega (arith, length-reverse text, left)) in
-    (some, ap is_blank (ap (λ i. get_or (take n text) (i - 1) 0) long ∙ get_or-take n text (n - 1) 0 last) ∙ end)
+    let last : n - 1 < n = omega (arith, long, some) in
+    (some, ap is_blank (ap (λ i. get_or (take n text) (i - 1) 0) long ∙ get_or-take n text (n - 1) 0 last) ∙ bare_end text 0 (omega (arith, last)))
 
 bare_behind : (text : List ℕ) (n : ℕ) → n < length text → HasBareEnd text → HasBareEnd (drop n text)
 bare_behind text n inside ends =
@@ -222,7 +209,7 @@ media_tells line named e = elim (cases_Bool (begins_with_space (drop 2 line))) [
   | inl space ↦ let none = rw space at e in absurd (cc)
   | inr bare ↦
       let value : List ℕ = drop 2 line in
-      let text : List ℕ = without_end_blanks value in
+      let text : List ℕ = without_trailing_blanks value in
       let n : ℕ = length value - suffix_len is_blank value in
       let p = named_tells (words text) named (rw bare at e) in
       let some : 0 < length text = some_text text named.media (p.port ∷ codes "RTP/AVP" ∷ named.formats) p.are in
@@ -233,7 +220,7 @@ media_tells line named e = elim (cases_Bool (begins_with_space (drop 2 line))) [
         text = text;
         blanks = drop n value;
         whole = sym (take-append-drop n value);
-        blank = trimmed_off value;
+        blank = back_blank value n (omega (arith, suffix_len-le-length is_blank value));
         ends = ends;
         port = p.port;
         good = port_tells p.port p.good;
@@ -251,9 +238,13 @@ pub media_is_found : (line : List ℕ) (named : MediaLine) → IsMedia (drop 2 l
 unfolding media_of
 media_is_found line named p =
     let value : List ℕ = drop 2 line in
-    let text_is : without_end_blanks value ≡ p.text = ap without_end_blanks p.whole ∙ trimmed_is p.text p.blanks p.ends p.blank in
+    let text_is : without_trailing_blanks value ≡ p.text = ap without_trailing_blanks p.whole ∙ trimmed_is p.text p.blanks p.ends p.blank in
     let head : is_space (get_or value 0 0) ≡ false =
     ap (λ (l : List ℕ). is_space (get_or l 0 0)) p.whole ∙ ap is_space (get_or_append_left p.text p.blanks 0 0 p.ends.0) ∙ first_of p.text named.media (p.port ∷ codes "RTP/AVP" ∷ named.formats) p.words in
     let bare = begins_so value head in
     let are = words_are p.text (named.media ∷ p.port ∷ codes "RTP/AVP" ∷ named.formats) p.words in
     rw (bare, text_is, are) (named_is named.media p.port named.formats (port_is p.port p.good) p.some)
+
+-- where nothing is found, no form stands
+pub no_media_named : (line : List ℕ) → media_of line ≡ None → (named : MediaLine) → ¬ IsMedia (drop 2 line) named
+no_media_named line none named p = let found = media_is_found line named p in absurd (cc)

@@ -1,58 +1,31 @@
 -- A text reads in one way.
-use Rattle.std.proofs.Common.{◌≡◌, ◌≢◌, ◌⊎◌, ℕ, ◌+◌, ◌<◌, ◌==◌, ◌&&◌, suc, Bool, true, false, List, [], ◌∷◌, ◌++◌, None, Some, length, slice_index, map, filter, refl, sym, ap, subst, ◌∙◌, inl, inr, arith, append_assoc, length-append}
+use Rattle.std.proofs.Common.{◌≡◌, ◌≢◌, ◌⊎◌, ℕ, ◌+◌, ◌<◌, true, List, [], ◌∷◌, ◌++◌, Some, length, map, filter, refl, sym, ap, subst, ◌∙◌, inl, inr, arith, append_assoc, length-append}
 use Rattle.std.specs.List.{AllByRecursion, flat_map}
-use Rattle.std.proofs.lemmas.Bool.Decides.{leb_tells}
 use Rattle.std.proofs.lemmas.List.Elements.{filter-append}
-use Rattle.sdp.specs.declared.TheConstants.{MAX_TRACKS}
 use Rattle.sdp.specs.declared.fault.SdpFault.{SdpFault}
 use Rattle.sdp.specs.declared.fault.SdpFault.TheVariants.{NoVersion, BadLine, UnknownLetter, BadMedia, NoMedia, TooManyTracks, OutOfMemory}
 use Rattle.sdp.specs.declared.track.Track.{Track}
-use Rattle.sdp.specs.declared.media.MediaLine.{MediaLine}
 use Rattle.sdp.specs.declared.sections.Sections.{Sections}
-use Rattle.sdp.specs.Lines.{HasNoLf, ended, said, has_bytes, AreLines}
-use Rattle.sdp.specs.Fields.{version_line, is_field, is_letter, has_equals, names_unknown, is_media, control_among}
-use Rattle.sdp.specs.Media.{media_of}
+use Rattle.base_syntax.specs.Lines.{HasNoLf, ended, said, has_bytes}
+use Rattle.sdp.specs.Lines.{AreLines}
+use Rattle.sdp.specs.Fields.{is_field, is_media, control_among}
+use Rattle.sdp.specs.Media.{MediaLine, media_of}
 use Rattle.sdp.specs.Sections.{announced, lines_of, AreGood, IsTrack, BeginsWithVersion, HasNoMedia}
-use Rattle.sdp.specs.Faults.{fault_behind, media_fault, later_fault}
+use Rattle.sdp.specs.Faults.{IsFaultAfter}
 use Rattle.sdp.specs.Written.{description_text, AreSameTracks}
 use Rattle.sdp.specs.Readings.{Reads, HasBadLine, HasNoTrack, IsRefused}
+use Rattle.base_syntax.proofs.LineEnds.{same_line, no_whole_line}
+use Rattle.base_syntax.proofs.Lists.{same_head, same_tail, same_cons, nothing_is_more}
 use Rattle.sdp.proofs.Cuts.{true_false}
 use Rattle.sdp.proofs.Goods.{join_all, right_all, announced_some}
+use Rattle.sdp.proofs.MediaForms.{media_tells}
+use Rattle.sdp.proofs.OneFault.{field_known, one_fault}
 use Rattle.sdp.proofs.Again.{written_again}
-
-same_head : {X : Type 0} {x y : X} {xs ys : List X} → x ∷ xs ≡ y ∷ ys → x ≡ y
-same_head e = cc
-
-same_tail : {X : Type 0} {x y : X} {xs ys : List X} → x ∷ xs ≡ y ∷ ys → xs ≡ ys
-same_tail e = cc
-
-same_cons : {X : Type 0} {x y : X} {xs ys : List X} → x ≡ y → xs ≡ ys → x ∷ xs ≡ y ∷ ys
-same_cons a b = cc
-
-nothing_is_more : {X : Type 0} {x : X} {xs : List X} → [] ≡ x ∷ xs → ⊥
-nothing_is_more e = cc
-
-lf_is_no_lf : (c : ℕ) → c ≡ 10 → (c == 10) ≡ false → ⊥
-lf_is_no_lf c e h = true_false (sym (ap (λ (n : ℕ). n == 10) e) ∙ h)
-
--- a line ends at its first LF
-same_line : (a x b y : List ℕ) → HasNoLf a → HasNoLf b → ended a ++ x ≡ ended b ++ y → (a ≡ b) × (x ≡ y)
-same_line [] x [] y p q e = (refl, same_tail e)
-same_line [] x (d ∷ b) y p q e = absurd (lf_is_no_lf d (sym (same_head e)) q.0)
-same_line (c ∷ a) x [] y p q e = absurd (lf_is_no_lf c (same_head e) p.0)
-same_line (c ∷ a) x (d ∷ b) y p q e = let rest = same_line a x b y p.1 q.1 (same_tail e) in (same_cons (same_head e) rest.0, rest.1)
-
--- bytes without an LF hold no whole line
-no_line : (w a x : List ℕ) → HasNoLf w → w ≡ ended a ++ x → ⊥
-no_line [] [] x p e = cc
-no_line [] (c ∷ a) x p e = cc
-no_line (b ∷ w) [] x p e = lf_is_no_lf b (same_head e) p.0
-no_line (b ∷ w) (c ∷ a) x p e = no_line w a x p.1 (same_tail e)
 
 same_cut : (ls : List (List ℕ)) (x : List ℕ) (ms : List (List ℕ)) (y : List ℕ) → AllByRecursion HasNoLf ls → HasNoLf x → AllByRecursion HasNoLf ms → HasNoLf y → flat_map ended ls ++ x ≡ flat_map ended ms ++ y → (ls ≡ ms) × (x ≡ y)
 same_cut [] x [] y p a q b e = (refl, e)
-same_cut [] x (m ∷ ms) y p a q b e = absurd (no_line x m (flat_map ended ms ++ y) a (e ∙ append_assoc (ended m) (flat_map ended ms) y))
-same_cut (l ∷ ls) x [] y p a q b e = absurd (no_line y l (flat_map ended ls ++ x) b (sym e ∙ append_assoc (ended l) (flat_map ended ls) x))
+same_cut [] x (m ∷ ms) y p a q b e = absurd (no_whole_line x m (flat_map ended ms ++ y) a (e ∙ append_assoc (ended m) (flat_map ended ms) y))
+same_cut (l ∷ ls) x [] y p a q b e = absurd (no_whole_line y l (flat_map ended ls ++ x) b (sym e ∙ append_assoc (ended l) (flat_map ended ls) x))
 same_cut (l ∷ ls) x (m ∷ ms) y p a q b e =
     let line = same_line l (flat_map ended ls ++ x) m (flat_map ended ms ++ y) p.0 q.0 (sym (append_assoc (ended l) (flat_map ended ls) x) ∙ e ∙ append_assoc (ended m) (flat_map ended ms) y) in
     let rest = same_cut ls x ms y p.1 a q.1 b line.1 in
@@ -157,50 +130,30 @@ tracks_named (t ∷ tracks) p =
 all_named : (sections : Sections) → AreGood sections → AllByRecursion NamesMedia (announced sections)
 all_named sections p = join_all NamesMedia sections.session (flat_map lines_of sections.tracks) (plain_named sections.session p.session_part) (tracks_named sections.tracks p.track_parts)
 
-and_false : (a b : Bool) → (a && (b && false)) ≡ false
-and_false a b = elim a as (λ v. (v && (b && false)) ≡ false) [ true ↦ elim b as (λ v. (v && false) ≡ false) [ true ↦ refl | false ↦ refl ] | false ↦ refl ]
-
-left_true : (a b : Bool) → (a && b) ≡ true → a ≡ true
-left_true true b h = refl
-left_true false b h = h
-
-right_true : (a b : Bool) → (a && b) ≡ true → b ≡ true
-right_true true b h = h
-right_true false b h = absurd (true_false (sym h))
-
--- a good line names a listed letter
-field_known : (line : List ℕ) → is_field line ≡ true → names_unknown line ≡ false
-field_known line h = let listed : is_letter (slice_index line 0) ≡ true = left_true _ _ (right_true (has_equals line) _ h) in rw listed (and_false (has_equals line) _)
-
-media_none : (tracks : ℕ) (line : List ℕ) → NamesMedia line → (is_media line ≡ true → tracks < MAX_TRACKS) → (b : Bool) → is_media line ≡ b → media_fault tracks line ≡ None
-media_none tracks line p few false e = rw e refl
-media_none tracks line p few true e = rw (e, (p e).1) (elim (leb_tells (suc tracks) MAX_TRACKS) [ inl below ↦ rw below.0 refl | inr over ↦ absurd (omega (arith, few e, over.1)) ])
-
-later_none : (tracks : ℕ) (line : List ℕ) → is_field line ≡ true → NamesMedia line → (is_media line ≡ true → tracks < MAX_TRACKS) → later_fault tracks line ≡ None
-later_none tracks line field p few = rw (field_known line field, field) (media_none tracks line p few (is_media line) refl)
-
-few_before : (sections : Sections) (before : List (List ℕ)) (line : List ℕ) (after : List (List ℕ)) → AreGood sections → announced sections ≡ before ++ line ∷ after → is_media line ≡ true → count before < MAX_TRACKS
+few_before : (sections : Sections) (before : List (List ℕ)) (line : List ℕ) (after : List (List ℕ)) → AreGood sections → announced sections ≡ before ++ line ∷ after → is_media line ≡ true → count before < 16
 few_before sections before line after p e opens =
     omega (arith, p.few, count_announced sections p, ap count e, count_join before (line ∷ after), ap length (kept_media line after opens))
 
+field_at : (sections before : Sections) (line : List ℕ) (after : List (List ℕ)) → AreGood sections → announced sections ≡ announced before ++ line ∷ after → is_field line ≡ true
+field_at sections before line after p e = (right_all (λ x. is_field x ≡ true) (announced before) (line ∷ after) (subst (AllByRecursion (λ x. is_field x ≡ true)) e p.fields)).0
+
 -- no line of good sections has a fault
-no_fault : (sections : Sections) (before : List (List ℕ)) (line : List ℕ) (after : List (List ℕ)) → AreGood sections → announced sections ≡ before ++ line ∷ after → fault_behind before (count before) line ≡ None
-no_fault sections [] line after p e = let version : line ≡ version_line = subst BeginsWithVersion e p.begins in rw version refl
-no_fault sections (l ∷ before) line after p e =
-    later_none (count (l ∷ before)) line
-    (right_all (λ x. is_field x ≡ true) (l ∷ before) (line ∷ after) (subst (AllByRecursion (λ x. is_field x ≡ true)) e p.fields)).0
-    (right_all NamesMedia (l ∷ before) (line ∷ after) (subst (AllByRecursion NamesMedia) e (all_named sections p))).0
-    (few_before sections (l ∷ before) line after p e)
-
-none_is_some : {X : Type 0} {x : X} → None ≡ Some x → ⊥
-none_is_some e = cc
-
-bad_fault : {text : List ℕ} {fault : SdpFault} (p : HasBadLine text fault) → fault_behind (announced p.before) (count (announced p.before)) p.line ≡ Some fault
-bad_fault p = ap (λ (n : ℕ). fault_behind (announced p.before) n p.line) (count_announced p.before p.good) ∙ p.wrong
+no_fault : (sections before : Sections) (line : List ℕ) (after : List (List ℕ)) → AreGood sections → AreGood before → announced sections ≡ announced before ++ line ∷ after → (fault : SdpFault) → IsFaultAfter before line fault → ⊥
+no_fault sections before line after p q e NoVersion fault =
+    fault.other (subst BeginsWithVersion (e ∙ ap (λ (ls : List (List ℕ)). ls ++ line ∷ after) fault.first) p.begins)
+no_fault sections before line after p q e UnknownLetter fault = true_false (sym fault.unknown ∙ field_known line (field_at sections before line after p e))
+no_fault sections before line after p q e BadLine fault = true_false (sym (field_at sections before line after p e) ∙ fault.malformed)
+no_fault sections before line after p q e BadMedia fault =
+    let named = (right_all NamesMedia (announced before) (line ∷ after) (subst (AllByRecursion NamesMedia) e (all_named sections p))).0 fault.opens.begins in
+    fault.nothing named.0 (media_tells line named.0 named.1)
+no_fault sections before line after p q e NoMedia fault = fault
+no_fault sections before line after p q e TooManyTracks fault =
+    omega (arith, few_before sections (announced before) line after p e fault.opens.begins, count_announced before q, fault.sixteen)
+no_fault sections before line after p q e OutOfMemory fault = fault
 
 -- good lines have no bad one among them
 good_not_bad : (sections : Sections) → AreGood sections → {text : List ℕ} {fault : SdpFault} (q : HasBadLine text fault) (more : List (List ℕ)) → announced sections ≡ announced q.before ++ q.line ∷ more → ⊥
-good_not_bad sections p q more e = none_is_some (sym (no_fault sections (announced q.before) q.line more p e) ∙ bad_fault q)
+good_not_bad sections p {fault = fault} q more e = no_fault sections q.before q.line more p q.good e fault q.wrong
 
 abbrev Places : List (List ℕ) → List ℕ → List (List ℕ) → List ℕ → Type 0
 Places x a y b = ((x ≡ y) × (a ≡ b)) ⊎ (((more : List (List ℕ)) × (y ≡ x ++ a ∷ more)) ⊎ ((more : List (List ℕ)) × (x ≡ y ++ b ∷ more)))
@@ -216,13 +169,13 @@ places (l ∷ x) a xs (m ∷ y) b ys e =
       | inr two ↦ elim two [ inl first ↦ inr (inl (first.0, same_cons (sym (same_head e)) first.1)) | inr last ↦ inr (inr (last.0, same_cons (same_head e) last.1)) ]
     ]
 
-same_some : {x y : SdpFault} → Some x ≡ Some y → x ≡ y
-same_some e = cc
-
 same_bad : {text : List ℕ} {f g : SdpFault} → HasBadLine text f → HasBadLine text g → f ≡ g
 same_bad {f = f} {g = g} p q =
     elim (places (announced p.before) p.line p.after (announced q.before) q.line q.after (same_lines p.lines q.lines)) [
-      | inl one ↦ same_some (sym (bad_fault p) ∙ ap (λ (ls : List (List ℕ)). fault_behind ls (count ls) p.line) one.0 ∙ ap (fault_behind (announced q.before) (count (announced q.before))) one.1 ∙ bad_fault q)
+      | inl one ↦
+          let before : p.before ≡ q.before = same_sections p.before q.before p.good q.good one.0 in
+          let wrong : IsFaultAfter q.before q.line f = subst (λ (s : Sections). IsFaultAfter s q.line f) before (subst (λ (l : List ℕ). IsFaultAfter p.before l f) one.1 p.wrong) in
+          one_fault q.before q.line f g wrong q.wrong
       | inr two ↦ elim two [ inl first ↦ absurd (good_not_bad q.before q.good p first.0 first.1) | inr last ↦ absurd (good_not_bad p.before p.good q last.0 last.1) ]
     ]
 

@@ -1,14 +1,15 @@
 -- Reading a text line by line.
-use Rattle.std.proofs.Common.{◌≡◌, ℕ, ◌<◌, ◌==◌, true, false, List, [], ◌∷◌, ◌++◌, Some, length, map, filter, refl, sym, ap, ◌∙◌, inl, inr, arith, append_assoc, append-nil, length-append}
+use Rattle.std.proofs.Common.{◌≡◌, ℕ, ◌<◌, ◌==◌, true, false, List, [], ◌∷◌, ◌++◌, length, map, filter, refl, sym, ap, ◌∙◌, inl, inr, arith, append_assoc, append-nil, length-append}
 use Rattle.std.specs.List.{AllByRecursion, flat_map}
 use Rattle.std.proofs.lemmas.Bool.Decides.{eqb_tells}
 use Rattle.std.proofs.lemmas.List.Concat.{flat_map-append}
 use Rattle.std.proofs.lemmas.List.Elements.{filter-append}
 use Rattle.sdp.specs.declared.fault.SdpFault.{SdpFault}
 use Rattle.sdp.specs.declared.sections.Sections.{Sections}
-use Rattle.sdp.specs.Lines.{HasNoLf, ended, said, has_bytes, AreLines, IsFirstLine}
+use Rattle.base_syntax.specs.Lines.{HasNoLf, ended, said, has_bytes, IsFirstLine}
+use Rattle.sdp.specs.Lines.{AreLines}
 use Rattle.sdp.specs.Sections.{announced, AreGood}
-use Rattle.sdp.specs.Faults.{fault_after}
+use Rattle.sdp.specs.Faults.{IsFaultAfter}
 use Rattle.sdp.specs.Readings.{HasBadLine}
 use Rattle.sdp.proofs.Goods.{push_all, join_all}
 
@@ -83,7 +84,7 @@ kept_line : (line : List ℕ) → has_bytes line ≡ true → (more : List (List
 kept_line line h more = rw h refl
 
 -- a line that an LF ends is bad
-pub bad_line : {text rest line after : List ℕ} {fault : SdpFault} (sections : Sections) → SoFar text rest sections → IsFirstLine rest line after → has_bytes line ≡ true → fault_after sections line ≡ Some fault → HasBadLine text fault
+pub bad_line : {text rest line after : List ℕ} {fault : SdpFault} (sections : Sections) → SoFar text rest sections → IsFirstLine rest line after → has_bytes line ≡ true → IsFaultAfter sections line fault → HasBadLine text fault
 bad_line {text} {rest} {line} {after} {fault} sections p q some wrong =
     let more = cut after in
     let all = p.done ++ q.line ∷ more.whole_lines in
@@ -108,7 +109,7 @@ bad_line {text} {rest} {line} {after} {fault} sections p q some wrong =
     }
 
 -- the bytes behind the last LF are bad
-pub bad_last : {text rest : List ℕ} {fault : SdpFault} (sections : Sections) → SoFar text rest sections → HasNoLf rest → has_bytes rest ≡ true → fault_after sections rest ≡ Some fault → HasBadLine text fault
+pub bad_last : {text rest : List ℕ} {fault : SdpFault} (sections : Sections) → SoFar text rest sections → HasNoLf rest → has_bytes rest ≡ true → IsFaultAfter sections rest fault → HasBadLine text fault
 bad_last {rest = rest} sections p none some wrong = record {
   before = sections;
   line = rest;

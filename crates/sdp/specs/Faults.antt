@@ -1,13 +1,11 @@
--- When a line is wrong behind good ones, and by which fault.
-use Rattle.std.specs.Prelude.{ℕ, nat_lt, if◌then◌else◌, List, [], ◌∷◌, Option, None, Some, length, codes}
-use Rattle.std.specs.Str.{bytes_eq}
-use Rattle.sdp.specs.declared.TheConstants.{MAX_TRACKS}
+-- When a line is wrong behind good ones, and by which fault. At most one holds.
+use Rattle.std.specs.Prelude.{◌≡◌, ◌≢◌, ◌<◌, ℕ, true, false, List, [], length, drop, codes}
 use Rattle.sdp.specs.declared.fault.SdpFault.{SdpFault}
 use Rattle.sdp.specs.declared.fault.SdpFault.TheVariants.{NoVersion, BadLine, UnknownLetter, BadMedia, NoMedia, TooManyTracks, OutOfMemory}
 use Rattle.sdp.specs.declared.sections.Sections.{Sections}
 use Rattle.sdp.specs.Fields.{version_line, is_field, names_unknown, is_media}
-use Rattle.sdp.specs.declared.media.MediaLine.{MediaLine}
-use Rattle.sdp.specs.Media.{media_of}
+use Rattle.sdp.specs.Media.{MediaLine}
+use Rattle.sdp.specs.MediaForm.{IsMedia}
 use Rattle.sdp.specs.Sections.{announced}
 
 -- the faults by the numbers that the program reports
@@ -30,27 +28,46 @@ fault_text NoMedia = codes "no media line"
 fault_text TooManyTracks = codes "too many tracks"
 fault_text OutOfMemory = codes "out of memory"
 
--- the first line tells the version (RFC 4566, 5.1)
-abbrev pub first_line_fault : List ℕ → Option SdpFault
-first_line_fault line = if bytes_eq line version_line then None else Some NoVersion
+-- The first line, and it isn't the version (RFC 4566, 5.1).
+pub record LacksVersion (before : Sections) (line : List ℕ) : Type 0 where
+  pub first : announced before ≡ []
+  pub other : line ≢ version_line
 
--- an `m=` line that names something opens a track, unless there are as many as a description may have
-abbrev pub track_fault : ℕ → Option MediaLine → Option SdpFault
-track_fault tracks None = Some BadMedia
-track_fault tracks (Some named) = if nat_lt tracks MAX_TRACKS then None else Some TooManyTracks
+-- A later line, and it begins with a lower-case letter that isn't listed, and an equals sign (RFC 4566, 5).
+pub record HasUnknownLetter (before : Sections) (line : List ℕ) : Type 0 where
+  pub later : 0 < length (announced before)
+  pub unknown : names_unknown line ≡ true
 
-abbrev pub media_fault : ℕ → List ℕ → Option SdpFault
-media_fault tracks line = if is_media line then track_fault tracks (media_of line) else None
+-- A later line of another form than <type>=<value> (RFC 4566, 5).
+pub record IsMalformed (before : Sections) (line : List ℕ) : Type 0 where
+  pub later : 0 < length (announced before)
+  pub known : names_unknown line ≡ false
+  pub malformed : is_field line ≡ false
 
--- a later line: its letter, then its form, then what an `m=` line says
-abbrev pub later_fault : ℕ → List ℕ → Option SdpFault
-later_fault tracks line =
-    if names_unknown line then Some UnknownLetter else if is_field line then media_fault tracks line else Some BadLine
+-- A later line of that form, and it begins `m=`.
+pub record OpensTrack (before : Sections) (line : List ℕ) : Type 0 where
+  pub later : 0 < length (announced before)
+  pub field : is_field line ≡ true
+  pub begins : is_media line ≡ true
+
+-- An `m=` line that names no media, port, protocol and formats (RFC 4566, 5.14).
+pub record NamesNothing (before : Sections) (line : List ℕ) : Type 0 where
+  pub opens : OpensTrack before line
+  pub nothing : (named : MediaLine) → ¬ IsMedia (drop 2 line) named
+
+-- An `m=` line that names them behind sixteen tracks.
+pub record IsSeventeenth (before : Sections) (line : List ℕ) : Type 0 where
+  pub opens : OpensTrack before line
+  pub named : MediaLine
+  pub names : IsMedia (drop 2 line) named
+  pub sixteen : length before.tracks ≡ 16
 
 -- what is wrong with a line behind these
-abbrev pub fault_behind : List (List ℕ) → ℕ → List ℕ → Option SdpFault
-fault_behind [] tracks line = first_line_fault line
-fault_behind (first ∷ others) tracks line = later_fault tracks line
-
-abbrev pub fault_after : Sections → List ℕ → Option SdpFault
-fault_after sections line = fault_behind (announced sections) (length sections.tracks) line
+abbrev pub IsFaultAfter : Sections → List ℕ → SdpFault → Type 0
+IsFaultAfter before line NoVersion = LacksVersion before line
+IsFaultAfter before line BadLine = IsMalformed before line
+IsFaultAfter before line UnknownLetter = HasUnknownLetter before line
+IsFaultAfter before line BadMedia = NamesNothing before line
+IsFaultAfter before line NoMedia = ⊥
+IsFaultAfter before line TooManyTracks = IsSeventeenth before line
+IsFaultAfter before line OutOfMemory = ⊥

@@ -1,9 +1,10 @@
 -- The form of an `m=` line, apart from how it is read (RFC 4566, 5.14: m=<media> <port>/<number of ports> <proto> <fmt> ..).
 use Rattle.std.specs.Prelude.{◌≡◌, ◌<◌, ◌≤◌, ◌-◌, ℕ, false, List, [], ◌∷◌, ◌++◌, ◌⊎◌, length, codes, slice_index}
 use Rattle.std.specs.List.{All, AllPass}
-use Rattle.std.specs.Char.{is_ascii_digit}
-use Rattle.sdp.specs.declared.media.MediaLine.{MediaLine}
-use Rattle.sdp.specs.Media.{is_space, is_blank, decimal_value}
+use Rattle.std.specs.Str.Parse.{IsNumeral}
+use Rattle.base_syntax.specs.Blanks.{is_blank}
+use Rattle.base_syntax.specs.Numbers.{IsNumberUpTo}
+use Rattle.sdp.specs.Media.{MediaLine, is_space}
 
 -- one byte or more, and no space
 pub record IsWord (word : List ℕ) : Type 0 where
@@ -21,20 +22,15 @@ AreWords text [] = ⊥
 AreWords text (word ∷ []) = (text ≡ word) × IsWord word
 AreWords text (word ∷ next ∷ others) = (gap rest : List ℕ) × (text ≡ word ++ (gap ++ rest)) × IsWord word × AreSpaces gap × AreWords rest (next ∷ others)
 
--- one or more digits
-pub record IsNumeral (text : List ℕ) : Type 0 where
-  pub digits : AllPass is_ascii_digit text
-  pub some : 1 ≤ length text
-
 -- at most five digits, of a value up to 65,535
 pub record IsPortNumber (text : List ℕ) : Type 0 where
-  pub numeral : IsNumeral text
+  pub number : ℕ
+  pub value : IsNumberUpTo 65535 text number
   pub short : length text ≤ 5
-  pub most : decimal_value text ≤ 65535
 
 -- a port, and after a slash the number of ports, if it is given
 abbrev pub IsPort : List ℕ → Type 0
-IsPort text = IsPortNumber text ⊎ ((port count : List ℕ) × (text ≡ port ++ 47 ∷ count) × IsPortNumber port × IsNumeral count)
+IsPort text = IsPortNumber text ⊎ ((port count : List ℕ) × (text ≡ port ++ 47 ∷ count) × IsPortNumber port × IsNumeral 10 count)
 
 -- the last byte is neither a space nor a tab
 abbrev pub HasBareEnd : List ℕ → Type 0

@@ -1,12 +1,12 @@
 -- What a text of a description reads as, and why it is refused: the first bad line decides, and a text without a
 -- media section is refused last.
-use Rattle.std.specs.Prelude.{◌≡◌, ◌<◌, ℕ, List, [], ◌∷◌, ◌++◌, ◌⊎◌, length, Some}
+use Rattle.std.specs.Prelude.{◌≡◌, ◌<◌, ℕ, List, [], ◌∷◌, ◌++◌, ◌⊎◌, length}
 use Rattle.sdp.specs.declared.fault.SdpFault.{SdpFault}
 use Rattle.sdp.specs.declared.fault.SdpFault.TheVariants.{NoVersion, BadLine, UnknownLetter, BadMedia, NoMedia, TooManyTracks, OutOfMemory}
 use Rattle.sdp.specs.declared.sections.Sections.{Sections}
 use Rattle.sdp.specs.Lines.{AreLines}
 use Rattle.sdp.specs.Sections.{announced, AreGood}
-use Rattle.sdp.specs.Faults.{fault_after}
+use Rattle.sdp.specs.Faults.{IsFaultAfter}
 
 -- The text is these sections: its lines are theirs, none more and none less, all of them good, with a track among them.
 pub record Reads (text : List ℕ) (sections : Sections) : Type 0 where
@@ -21,7 +21,7 @@ pub record HasBadLine (text : List ℕ) (fault : SdpFault) : Type 0 where
   pub after : List (List ℕ)
   pub lines : AreLines text (announced before ++ line ∷ after)
   pub good : AreGood before
-  pub wrong : fault_after before line ≡ Some fault
+  pub wrong : IsFaultAfter before line fault
 
 -- Good lines alone, one or more of them, and no track.
 pub record HasNoTrack (text : List ℕ) : Type 0 where

@@ -1,7 +1,6 @@
 -- A description as a session section and its media sections (RFC 4566, 5).
 use Rattle.std.specs.Prelude.{◌≡◌, ◌≤◌, ℕ, true, false, List, [], ◌∷◌, ◌++◌, length, Some}
 use Rattle.std.specs.List.{AllByRecursion, flat_map}
-use Rattle.sdp.specs.declared.TheConstants.{MAX_TRACKS}
 use Rattle.sdp.specs.declared.track.Track.{Track}
 use Rattle.sdp.specs.declared.sections.Sections.{Sections}
 use Rattle.sdp.specs.Fields.{version_line, is_field, is_media, control_among}
@@ -38,4 +37,4 @@ pub record AreGood (sections : Sections) : Type 0 where
   pub fields : AllByRecursion (λ line. is_field line ≡ true) (announced sections)
   pub session_part : HasNoMedia sections.session
   pub track_parts : AllByRecursion IsTrack sections.tracks
-  pub few : length sections.tracks ≤ MAX_TRACKS
+  pub few : length sections.tracks ≤ 16

@@ -1,10 +1,10 @@
 //! A description of a session.
-ghost use Rattle.std.specs.Prelude.{◌≡◌, ◌<◌, length};
+ghost use Rattle.std.specs.Prelude.{◌≡◌, ◌<◌, ◌≤◌, length};
 ghost use Rattle.sdp.specs.Sections.{AreGood};
 
 use crate::sections::Sections;
-use crate::text::Text;
 use crate::track::Track;
+use base_syntax::Bytes;
 use std::marker::Model;
 
 /// A description that was read: good lines, with a track or more among them (RFC 4566, 5).
@@ -40,12 +40,13 @@ impl Description {
     pub fn tracks(&self) -> &[Track]
         ensures all { result.now ≡ self.now.tracks }
         ensures some { 0 < length result.now }
+        ensures most { length result.now ≤ 16 }
     {
         self.sections.tracks.as_slice()
     }
 
     /// The lines in front of the first track, as they were announced.
-    pub fn session(&self) -> &[Text]
+    pub fn session(&self) -> &[Bytes]
         ensures { result.now ≡ self.now.session }
     {
         self.sections.session.as_slice()

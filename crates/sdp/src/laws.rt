@@ -3,12 +3,12 @@
 ghost use Rattle.std.specs.Prelude.{◌≡◌, ◌≢◌, ◌<◌, length, drop, List, ℕ, Some};
 ghost use Rattle.sdp.specs.declared.fault.SdpFault.{SdpFault};
 ghost use Rattle.sdp.specs.declared.fault.SdpFault.TheVariants.{OutOfMemory};
-ghost use Rattle.sdp.specs.declared.media.MediaLine.{MediaLine};
 ghost use Rattle.sdp.specs.declared.sections.Sections.{Sections};
-ghost use Rattle.sdp.specs.Media.{media_of};
+ghost use Rattle.sdp.specs.Media.{MediaLine, media_of};
 ghost use Rattle.sdp.specs.MediaForm.{IsMedia};
 ghost use Rattle.sdp.specs.Sections.{AreGood};
 ghost use Rattle.sdp.specs.Written.{description_text, AreSameTracks};
+ghost use Rattle.sdp.specs.Faults.{IsFaultAfter};
 ghost use Rattle.sdp.specs.Readings.{Reads, IsRefused};
 
 /// An `m=` line is found to name exactly what its form names (RFC 4566, 5.14).
@@ -18,10 +18,11 @@ pub fn one_media()
 {}
 
 /// A text reads in one way: as one list of sections, or it is refused for one fault, and never both. Want of memory
-/// stands apart, since it may refuse any text.
+/// stands apart, since it may refuse any text. A line behind others has one fault at most.
 pub fn one_reading()
     ensures sections { (text : List ℕ) (a b : Sections) → Reads text a → Reads text b → a ≡ b }
     ensures fault { (text : List ℕ) (f g : SdpFault) → f ≢ OutOfMemory → g ≢ OutOfMemory → IsRefused text f → IsRefused text g → f ≡ g }
+    ensures line { (before : Sections) (line : List ℕ) (f g : SdpFault) → IsFaultAfter before line f → IsFaultAfter before line g → f ≡ g }
     ensures apart { (text : List ℕ) (sections : Sections) (fault : SdpFault) → fault ≢ OutOfMemory → Reads text sections → IsRefused text fault → ⊥ }
 {}
 

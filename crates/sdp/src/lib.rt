@@ -5,24 +5,20 @@
 mod description;
 mod fault;
 mod field;
-mod laws;
-mod line;
+pub mod laws;
 mod media;
 mod port;
 mod reading;
 mod sections;
-mod text;
 mod track;
 mod words;
 mod writing;
 
 pub use description::Description;
 pub use fault::SdpFault;
-pub use laws::{one_reading, written_reads};
 pub use reading::read;
 pub use sections::Sections;
-pub use text::{Text, TextList};
-pub use track::{Track, TrackList};
+pub use track::Track;
 pub use writing::write;
 
 /// The most tracks that a description may have.

@@ -1,30 +1,23 @@
 //! What an `m=` line says (RFC 4566, 5.14).
-ghost use Rattle.std.specs.Prelude.{◌≡◌, ◌≤◌, length, IfOk};
-ghost use Rattle.sdp.specs.Media.{media_of, named_by, names_transport, words};
+ghost use Rattle.std.specs.Prelude.{◌≡◌, ◌≤◌, length, None, Some, IfSome, IfNone};
+ghost use Rattle.sdp.specs.Media.{media_of, media_line, named_by, names_transport, words};
 
 use crate::port::is_port;
-use crate::text::{Text, TextList};
-use crate::words::{next_word, read_words, trim_end};
-use std::alloc::{AllocError, Global};
+use crate::words::next_word;
+use base_syntax::trim_end;
 
-/// What an `m=` line names.
-#[derive(Drop)]
-pub struct MediaLine {
-    pub media: Text,
-    pub formats: TextList,
-}
-
-/// Reads an `m=` line. `None` where it has another form.
+/// The media of an `m=` line, and the text in which its formats stand. `None` where the line has another form.
 #[tactic(auto, unfolding(crate::specs::Media::media_of))]
-pub(crate) fn read_media(alloc: Global, line: &[u8]) -> Result<Option<MediaLine>, AllocError>
+pub(crate) fn find_media(line: &[u8]) -> Option<(&[u8], &[u8])>
     requires { 2 ≤ length line.now }
-    ensures { IfOk result (λ read. read ≡ media_of line.now) }
+    ensures some { IfSome result (λ r. media_of line.now ≡ Some (media_line r.0.now r.1.now)) }
+    ensures none { IfNone result (media_of line.now ≡ None) }
 {
     let value = &line[2..];
     if value.starts_with(b" ") {
-        return Ok(None);
+        return None;
     }
-    read_fields(alloc, trim_end(value))
+    find_fields(trim_end(value))
 }
 
 /// Whether a port and the one protocol of this profile stand in their places.
@@ -34,26 +27,18 @@ fn is_transport(port: &[u8], proto: &[u8]) -> bool
     is_port(port) && proto == b"RTP/AVP".as_slice()
 }
 
-/// Reads the words of an `m=` line.
-fn read_fields(alloc: Global, text: &[u8]) -> Result<Option<MediaLine>, AllocError>
-    ensures { IfOk result (λ read. read ≡ named_by (words text.now)) }
+/// The media among the words of an `m=` line, and the text in which its formats stand.
+fn find_fields(text: &[u8]) -> Option<(&[u8], &[u8])>
+    ensures some { IfSome result (λ r. named_by (words text.now) ≡ Some (media_line r.0.now r.1.now)) }
+    ensures none { IfNone result (named_by (words text.now) ≡ None) }
 {
-    let Some((media, rest)) = next_word(text) else {
-        return Ok(None);
-    };
-    let Some((port, rest)) = next_word(rest) else {
-        return Ok(None);
-    };
-    let Some((proto, rest)) = next_word(rest) else {
-        return Ok(None);
-    };
-    let formats = read_words(alloc, rest)?;
-    if formats.as_slice().is_empty() {
-        return Ok(None);
+    let (media, rest) = next_word(text)?;
+    let (port, rest) = next_word(rest)?;
+    let (proto, formats) = next_word(rest)?;
+    let _ = next_word(formats)?;
+    if is_transport(port, proto) {
+        Some((media, formats))
+    } else {
+        None
     }
-    if !is_transport(port, proto) {
-        return Ok(None);
-    }
-    let media = Text::from_slice(alloc, media)?;
-    Ok(Some(MediaLine { media, formats }))
 }

@@ -7,8 +7,8 @@ ghost use Rattle.sdp.specs.declared.fault.SdpFault.TheVariants.{OutOfMemory};
 
 use crate::description::Description;
 use crate::fault::SdpFault;
-use crate::line::first_line;
 use crate::sections::Sections;
+use base_syntax::first_line;
 use std::alloc::Global;
 
 /// The sections of a text, or its first bad line.

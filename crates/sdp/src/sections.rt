@@ -1,41 +1,40 @@
 //! The sections of a description while it is read.
-ghost use Rattle.std.specs.Prelude.{◌≡◌, ◌<◌, ◌++◌, ◌∷◌, ◌⊎◌, [], true, false, Some, length, filter, IfErr, OnOk};
+ghost use Rattle.std.specs.Prelude.{◌≡◌, ◌<◌, ◌++◌, ◌∷◌, ◌⊎◌, [], true, false, length, filter, IfErr, OnOk};
 
 use crate::MAX_TRACKS;
 use crate::fault::SdpFault;
 use crate::field::{is_field, is_media, names_unknown};
-use crate::media::read_media;
-use crate::text::{Text, TextList};
-use crate::track::{Track, TrackList};
+use crate::media::find_media;
+use crate::track::{Track, extend_last};
+use base_syntax::{Bytes, Items};
 use std::alloc::{AllocError, Global};
 
 /// The lines in front of the first `m=` line, and the tracks.
 #[derive(Drop)]
 pub struct Sections {
-    pub session: TextList,
-    pub tracks: TrackList,
+    pub session: Items<Bytes>,
+    pub tracks: Items<Track>,
 }
 
 impl Sections {
-    ghost use Rattle.sdp.specs.Lines.{has_bytes};
+    ghost use Rattle.base_syntax.specs.Lines.{has_bytes};
     ghost use Rattle.sdp.specs.Sections.{announced, AreGood};
     ghost use Rattle.sdp.specs.Fields.{version_line, is_field as is_good, is_media as opens_track};
-    ghost use Rattle.sdp.specs.Media.{media_of};
-    ghost use Rattle.sdp.specs.Faults.{fault_after, track_fault};
+    ghost use Rattle.sdp.specs.Faults.{IsFaultAfter};
     ghost use Rattle.sdp.specs.declared.fault.SdpFault.TheVariants.{OutOfMemory};
 
-    pub fn new(alloc: Global) -> Sections
+    pub(crate) fn new(alloc: Global) -> Sections
         ensures nothing { announced result ≡ [] }
         ensures good { AreGood result }
     {
         Sections {
-            session: TextList::new(alloc),
-            tracks: TrackList::new(alloc),
+            session: Items::empty(alloc),
+            tracks: Items::empty(alloc),
         }
     }
 
     /// Whether no line has been read.
-    pub fn is_empty(&self) -> bool
+    pub(crate) fn is_empty(&self) -> bool
         requires { AreGood self.now }
         ensures yes { result ≡ true → announced self.now ≡ [] }
         ensures no { result ≡ false → 0 < length (announced self.now) }
@@ -48,7 +47,7 @@ impl Sections {
         requires { AreGood self.old }
         ensures kept { OnOk result (announced self.new ≡ announced self.old ++ filter has_bytes (line.now ∷ [])) }
         ensures good { OnOk result (AreGood self.new) }
-        ensures fault { IfErr result (λ fault. (fault ≡ OutOfMemory) ⊎ ((has_bytes line.now ≡ true) × (fault_after self.old line.now ≡ Some fault))) }
+        ensures fault { IfErr result (λ fault. (fault ≡ OutOfMemory) ⊎ ((has_bytes line.now ≡ true) × IsFaultAfter self.old line.now fault)) }
     {
         if line.is_empty() {
             return Ok(());
@@ -61,7 +60,7 @@ impl Sections {
         requires { AreGood self.old }
         ensures kept { OnOk result (announced self.new ≡ announced self.old ++ line.now ∷ []) }
         ensures good { OnOk result (AreGood self.new) }
-        ensures fault { IfErr result (λ fault. (fault ≡ OutOfMemory) ⊎ (fault_after self.old line.now ≡ Some fault)) }
+        ensures fault { IfErr result (λ fault. (fault ≡ OutOfMemory) ⊎ IsFaultAfter self.old line.now fault) }
     {
         if self.is_empty() {
             if line != b"v=0".as_slice() {
@@ -93,13 +92,13 @@ impl Sections {
         ensures good { OnOk result (AreGood self.new) }
     {
         if self.tracks.as_slice().is_empty() {
-            self.session.push(Text::from_slice(alloc, line)?)
+            self.session.push(Bytes::from_slice(alloc, line)?)
         } else {
-            self.tracks.extend_last(alloc, line)
+            extend_last(&mut self.tracks, alloc, line)
         }
     }
 
-    /// Opens a track.
+    /// Opens a track. Nothing is copied before the line was judged and there is room for it.
     fn open_track(&mut self, alloc: Global, line: &[u8]) -> Result<(), SdpFault>
         requires good { AreGood self.old }
         requires later { 0 < length (announced self.old) }
@@ -107,16 +106,16 @@ impl Sections {
         requires opens { opens_track line.now ≡ true }
         ensures kept { OnOk result (announced self.new ≡ announced self.old ++ line.now ∷ []) }
         ensures good { OnOk result (AreGood self.new) }
-        ensures fault { IfErr result (λ fault. (fault ≡ OutOfMemory) ⊎ (track_fault (length self.old.tracks) (media_of line.now) ≡ Some fault)) }
+        ensures fault { IfErr result (λ fault. (fault ≡ OutOfMemory) ⊎ IsFaultAfter self.old line.now fault) }
     {
-        let Some(named) = read_media(alloc, line)? else {
+        let Some((media, formats)) = find_media(line) else {
             return Err(SdpFault::BadMedia);
         };
-        let is_full = self.tracks.as_slice().len() >= MAX_TRACKS;
+        let is_full = self.tracks.len() >= MAX_TRACKS;
         if is_full {
             return Err(SdpFault::TooManyTracks);
         }
-        let track = Track::open(alloc, named, line)?;
+        let track = Track::open(alloc, media, formats, line)?;
         self.tracks.push(track)?;
         Ok(())
     }

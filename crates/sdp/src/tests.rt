@@ -1,4 +1,4 @@
-use crate::{Description, SdpFault, Text, TextList, one_reading, read, write, written_reads};
+use crate::{Description, SdpFault, laws, read, write};
 use std::alloc::Global;
 use std::process::Abort;
 use std::test::Fail;
@@ -44,13 +44,212 @@ const ANNOUNCED_LONG: &[u8] =
 const DESCRIBED_LONG: &[u8] =
     b"v=0\r\no=- 0 0 IN IP4 127.0.0.1\r\ns=No Name\r\nc=IN IP4 127.0.0.1\r\nt=0 0\r\na=tool:x\r\na=control:*\r\nm=video 0 RTP/AVP 96\r\na=rtpmap:96 H264/90000\r\na=fmtp:96 packetization-mode=1\r\na=control:trackID=0\r\n";
 
+// What ffmpeg 5.1 (libavformat 59) announces.
+const FFMPEG: &[u8] = b"v=0\r\n\
+    o=- 0 0 IN IP4 127.0.0.1\r\n\
+    s=No Name\r\n\
+    c=IN IP4 127.0.0.1\r\n\
+    t=0 0\r\n\
+    a=tool:libavformat LIBAVFORMAT_VERSION\r\n\
+    m=video 0 RTP/AVP 96\r\n\
+    b=AS:120\r\n\
+    a=rtpmap:96 H264/90000\r\n\
+    a=fmtp:96 packetization-mode=1; sprop-parameter-sets=Z0LADdoFB+wEQAAAAwBAAAAMo8UKqA==,aM48gA==; profile-level-id=42C00D\r\n\
+    a=control:streamid=0\r\n\
+    m=audio 0 RTP/AVP 97\r\n\
+    b=AS:32\r\n\
+    a=rtpmap:97 MPEG4-GENERIC/48000/1\r\n\
+    a=fmtp:97 profile-level-id=1;mode=AAC-hbr;sizelength=13;indexlength=3;indexdeltalength=3; config=118856E500\r\n\
+    a=control:streamid=1\r\n";
+
+const FFMPEG_DESCRIBED: &[u8] = b"v=0\r\n\
+    o=- 0 0 IN IP4 127.0.0.1\r\n\
+    s=No Name\r\n\
+    c=IN IP4 127.0.0.1\r\n\
+    t=0 0\r\n\
+    a=tool:libavformat LIBAVFORMAT_VERSION\r\n\
+    a=control:*\r\n\
+    m=video 0 RTP/AVP 96\r\n\
+    b=AS:120\r\n\
+    a=rtpmap:96 H264/90000\r\n\
+    a=fmtp:96 packetization-mode=1; sprop-parameter-sets=Z0LADdoFB+wEQAAAAwBAAAAMo8UKqA==,aM48gA==; profile-level-id=42C00D\r\n\
+    a=control:trackID=0\r\n\
+    m=audio 0 RTP/AVP 97\r\n\
+    b=AS:32\r\n\
+    a=rtpmap:97 MPEG4-GENERIC/48000/1\r\n\
+    a=fmtp:97 profile-level-id=1;mode=AAC-hbr;sizelength=13;indexlength=3;indexdeltalength=3; config=118856E500\r\n\
+    a=control:trackID=1\r\n";
+
+// What GStreamer 1.22 announces: its controls are not in the order of its tracks.
+const GSTREAMER: &[u8] = b"v=0\r\n\
+    o=- 4200737809 1 IN IP4 127.0.0.1\r\n\
+    s=Session streamed with GStreamer\r\n\
+    i=rtspclientsink\r\n\
+    t=0 0\r\n\
+    a=tool:GStreamer\r\n\
+    m=audio 0 RTP/AVP 96\r\n\
+    c=IN IP4 0.0.0.0\r\n\
+    b=AS:32\r\n\
+    a=rtpmap:96 OPUS/48000/2\r\n\
+    a=fmtp:96 sprop-stereo=0;sprop-maxcapturerate=48000\r\n\
+    a=control:stream=1\r\n\
+    a=ts-refclk:local\r\n\
+    a=mediaclk:sender\r\n\
+    a=ssrc:1749622028 cname:user1@example\r\n\
+    m=video 0 RTP/AVP 99\r\n\
+    c=IN IP4 0.0.0.0\r\n\
+    b=AS:122\r\n\
+    a=rtpmap:99 H264/90000\r\n\
+    a=framerate:25\r\n\
+    a=fmtp:99 packetization-mode=1;sprop-parameter-sets=Z/QADZDZaBQfsBagwMDIAAADAAgAAAMBlHihVQ==,aM4xkg==\r\n\
+    a=control:stream=0\r\n\
+    a=ts-refclk:local\r\n\
+    a=mediaclk:sender\r\n\
+    a=ssrc:3333903757 cname:user1@example\r\n";
+
+const GSTREAMER_DESCRIBED: &[u8] = b"v=0\r\n\
+    o=- 4200737809 1 IN IP4 127.0.0.1\r\n\
+    s=Session streamed with GStreamer\r\n\
+    i=rtspclientsink\r\n\
+    t=0 0\r\n\
+    a=tool:GStreamer\r\n\
+    a=control:*\r\n\
+    m=audio 0 RTP/AVP 96\r\n\
+    c=IN IP4 0.0.0.0\r\n\
+    b=AS:32\r\n\
+    a=rtpmap:96 OPUS/48000/2\r\n\
+    a=fmtp:96 sprop-stereo=0;sprop-maxcapturerate=48000\r\n\
+    a=ts-refclk:local\r\n\
+    a=mediaclk:sender\r\n\
+    a=ssrc:1749622028 cname:user1@example\r\n\
+    a=control:trackID=0\r\n\
+    m=video 0 RTP/AVP 99\r\n\
+    c=IN IP4 0.0.0.0\r\n\
+    b=AS:122\r\n\
+    a=rtpmap:99 H264/90000\r\n\
+    a=framerate:25\r\n\
+    a=fmtp:99 packetization-mode=1;sprop-parameter-sets=Z/QADZDZaBQfsBagwMDIAAADAAgAAAMBlHihVQ==,aM4xkg==\r\n\
+    a=ts-refclk:local\r\n\
+    a=mediaclk:sender\r\n\
+    a=ssrc:3333903757 cname:user1@example\r\n\
+    a=control:trackID=1\r\n";
+
+// The example of RFC 4566, 5.
+const SEMINAR: &[u8] = b"v=0\r\n\
+    o=jdoe 2890844526 2890842807 IN IP4 10.47.16.5\r\n\
+    s=SDP Seminar\r\n\
+    i=A Seminar on the session description protocol\r\n\
+    u=http://www.example.com/seminars/sdp.pdf\r\n\
+    e=j.doe@example.com (Jane Doe)\r\n\
+    c=IN IP4 224.2.17.12/127\r\n\
+    t=2873397496 2873404696\r\n\
+    a=recvonly\r\n\
+    m=audio 49170 RTP/AVP 0\r\n\
+    m=video 51372 RTP/AVP 99\r\n\
+    a=rtpmap:99 h263-1998/90000\r\n";
+
+const SEMINAR_DESCRIBED: &[u8] = b"v=0\r\n\
+    o=jdoe 2890844526 2890842807 IN IP4 10.47.16.5\r\n\
+    s=SDP Seminar\r\n\
+    i=A Seminar on the session description protocol\r\n\
+    u=http://www.example.com/seminars/sdp.pdf\r\n\
+    e=j.doe@example.com (Jane Doe)\r\n\
+    c=IN IP4 224.2.17.12/127\r\n\
+    t=2873397496 2873404696\r\n\
+    a=recvonly\r\n\
+    a=control:*\r\n\
+    m=audio 49170 RTP/AVP 0\r\n\
+    a=control:trackID=0\r\n\
+    m=video 51372 RTP/AVP 99\r\n\
+    a=rtpmap:99 h263-1998/90000\r\n\
+    a=control:trackID=1\r\n";
+
+// As cameras announce: lines of every letter, absolute controls, and spaces behind the formats.
+const CAMERA: &[u8] = b"v=0\r\n\
+    o=- 1109162014219182 1 IN IP4 192.0.2.7\r\n\
+    s=RTSP/RTP stream\r\n\
+    i=live.sdp\r\n\
+    u=http://192.0.2.7/\r\n\
+    e=NONE\r\n\
+    p=+1 617 555-6011\r\n\
+    b=AS:4096\r\n\
+    t=0 0\r\n\
+    r=7d 1h 0 25h\r\n\
+    z=2882844526 -1h 2898848070 0\r\n\
+    a=control:rtsp://192.0.2.7/live/\r\n\
+    a=range:npt=0-\r\n\
+    a=type:broadcast\r\n\
+    a=etag:\"485748\"\r\n\
+    m=video 0/1 RTP/AVP 96 26  \r\n\
+    i=\r\n\
+    c=IN IP4 0.0.0.0\r\n\
+    b=AS:4000\r\n\
+    k=clear:x\r\n\
+    a=rtpmap:96 H264/90000\r\n\
+    a=fmtp:96 packetization-mode=1;profile-level-id=4D001F\r\n\
+    a=framerate:25.000000\r\n\
+    a=framesize:96 1280-720\r\n\
+    a=cliprect:0,0,720,1280\r\n\
+    a=control:rtsp://192.0.2.7/live/trackID=2\r\n\
+    a=recvonly\r\n\
+    m=audio 0 RTP/AVP 0\r\n\
+    a=rtpmap:0 PCMU/8000/1\r\n\
+    a=ptime:20\r\n\
+    a=control:rtsp://192.0.2.7/live/trackID=1\r\n\
+    a=recvonly\r\n\
+    m=application 0 RTP/AVP 107\r\n\
+    a=rtpmap:107 vnd.onvif.metadata/90000\r\n\
+    a=control:rtsp://192.0.2.7/live/trackID=4\r\n\
+    a=recvonly\r\n";
+
+const CAMERA_DESCRIBED: &[u8] = b"v=0\r\n\
+    o=- 1109162014219182 1 IN IP4 192.0.2.7\r\n\
+    s=RTSP/RTP stream\r\n\
+    i=live.sdp\r\n\
+    u=http://192.0.2.7/\r\n\
+    e=NONE\r\n\
+    p=+1 617 555-6011\r\n\
+    b=AS:4096\r\n\
+    t=0 0\r\n\
+    r=7d 1h 0 25h\r\n\
+    z=2882844526 -1h 2898848070 0\r\n\
+    a=range:npt=0-\r\n\
+    a=type:broadcast\r\n\
+    a=etag:\"485748\"\r\n\
+    a=control:*\r\n\
+    m=video 0/1 RTP/AVP 96 26  \r\n\
+    i=\r\n\
+    c=IN IP4 0.0.0.0\r\n\
+    b=AS:4000\r\n\
+    k=clear:x\r\n\
+    a=rtpmap:96 H264/90000\r\n\
+    a=fmtp:96 packetization-mode=1;profile-level-id=4D001F\r\n\
+    a=framerate:25.000000\r\n\
+    a=framesize:96 1280-720\r\n\
+    a=cliprect:0,0,720,1280\r\n\
+    a=recvonly\r\n\
+    a=control:trackID=0\r\n\
+    m=audio 0 RTP/AVP 0\r\n\
+    a=rtpmap:0 PCMU/8000/1\r\n\
+    a=ptime:20\r\n\
+    a=recvonly\r\n\
+    a=control:trackID=1\r\n\
+    m=application 0 RTP/AVP 107\r\n\
+    a=rtpmap:107 vnd.onvif.metadata/90000\r\n\
+    a=recvonly\r\n\
+    a=control:trackID=2\r\n";
+
 #[test]
 fn writes_what_players_are_told(rt: HostRuntime) -> Result<(), Fail> {
     assert_eq!(rt; (ANNOUNCED.len(), DESCRIBED.len()), (137, 149));
     assert_eq!(rt; (ANNOUNCED_LONG.len(), DESCRIBED_LONG.len()), (179, 191));
-    let table: [(&[u8], &[u8]); 7] = [
+    let table: [(&[u8], &[u8]); 9] = [
         (ANNOUNCED, DESCRIBED),
         (ANNOUNCED_LONG, DESCRIBED_LONG),
+        (FFMPEG, FFMPEG_DESCRIBED),
+        (GSTREAMER, GSTREAMER_DESCRIBED),
+        (SEMINAR, SEMINAR_DESCRIBED),
+        (CAMERA, CAMERA_DESCRIBED),
         // No line end, and none but LF.
         (
             b"v=0\r\nm=audio 0 RTP/AVP 0",
@@ -64,16 +263,6 @@ fn writes_what_players_are_told(rt: HostRuntime) -> Result<(), Fail> {
         (
             b"v=0\na=control:rtsp://x/\nm=audio 0 RTP/AVP 0\na=control:a\na=control\na=controlx:y\na=control:b\n",
             b"v=0\r\na=control:*\r\nm=audio 0 RTP/AVP 0\r\na=control\r\na=controlx:y\r\na=control:trackID=0\r\n",
-        ),
-        // What ffmpeg announces.
-        (
-            b"v=0\r\no=- 0 0 IN IP4 127.0.0.1\r\ns=No Name\r\nt=0 0\r\na=tool:libavformat\r\nm=video 0 RTP/AVP 96\r\nb=AS:120\r\na=fmtp:96 packetization-mode=1; sprop-parameter-sets=Z0LADdoFB+w==,aM48gA==\r\na=control:streamid=0\r\nm=audio 0 RTP/AVP 97\r\nb=AS:32\r\na=control:streamid=1\r\n",
-            b"v=0\r\no=- 0 0 IN IP4 127.0.0.1\r\ns=No Name\r\nt=0 0\r\na=tool:libavformat\r\na=control:*\r\nm=video 0 RTP/AVP 96\r\nb=AS:120\r\na=fmtp:96 packetization-mode=1; sprop-parameter-sets=Z0LADdoFB+w==,aM48gA==\r\na=control:trackID=0\r\nm=audio 0 RTP/AVP 97\r\nb=AS:32\r\na=control:trackID=1\r\n",
-        ),
-        // What GStreamer announces: its controls are not in the order of its tracks.
-        (
-            b"v=0\r\ni=rtspclientsink\r\nm=audio 0 RTP/AVP 96\r\nc=IN IP4 0.0.0.0\r\na=control:stream=1\r\na=ts-refclk:local\r\nm=video 0 RTP/AVP 99\r\na=control:stream=0\r\na=ssrc:3 cname:u\r\n",
-            b"v=0\r\ni=rtspclientsink\r\na=control:*\r\nm=audio 0 RTP/AVP 96\r\nc=IN IP4 0.0.0.0\r\na=ts-refclk:local\r\na=control:trackID=0\r\nm=video 0 RTP/AVP 99\r\na=ssrc:3 cname:u\r\na=control:trackID=1\r\n",
         ),
     ];
     for (announced, described) in table {
@@ -91,14 +280,14 @@ fn tells_its_tracks(rt: HostRuntime) -> Result<(), Fail> {
     let tracks = description.tracks();
     assert_eq!(rt; tracks.len(), 2);
     assert_eq!(rt; tracks[0].media.as_slice(), b"video".as_slice());
+    assert_eq!(rt; tracks[0].formats.len(), 2);
     let formats = tracks[0].formats.as_slice();
-    assert_eq!(rt; formats.len(), 2);
     assert_eq!(rt; formats[0].as_slice(), b"96".as_slice());
     assert_eq!(rt; formats[1].as_slice(), b"97".as_slice());
-    assert_eq!(rt; tracks[0].lines.as_slice().len(), 3);
+    assert_eq!(rt; tracks[0].lines.len(), 3);
     assert!(rt; tracks[1].control.is_none());
     assert_eq!(rt; tracks[1].media.as_slice(), b"a\tb".as_slice());
-    assert_eq!(rt; tracks[1].formats.as_slice().len(), 2);
+    assert_eq!(rt; tracks[1].formats.len(), 2);
     match &tracks[0].control {
         Some(control) => assert_eq!(rt; control.as_slice(), b"a".as_slice()),
         None => assert!(rt; false, "no control"),
@@ -191,20 +380,30 @@ fn tells_its_faults(rt: HostRuntime) -> Result<(), Fail> {
 }
 
 #[test]
-fn gives_texts_back(rt: HostRuntime) -> Result<(), Fail> {
-    one_reading();
-    written_reads();
-    let text = Text::new(b"96".to_vec(rt.alloc())?);
-    let mut texts = Vec::new(rt.alloc());
-    texts.push(text)?;
-    let mut list = TextList::from_vec(texts);
-    list.push(Text::from_slice(rt.alloc(), b"97")?)?;
-    assert_eq!(rt; list.as_slice().len(), 2);
-    let mut kept = list.into_vec();
-    match kept.pop() {
-        Some(last) => assert_eq!(rt; last.into_vec().as_slice(), b"97".as_slice()),
-        None => assert!(rt; false, "no text"),
+fn takes_long_lines_and_many(rt: HostRuntime) -> Result<(), Fail> {
+    let mut text = b"v=0\na=".to_vec(rt.alloc())?;
+    text.resize(text.len() + 59_998, b'x')?;
+    for _ in 0..999 {
+        text.extend_from_slice(b"\na=x")?;
     }
-    assert_eq!(rt; kept.len(), 1);
+    text.extend_from_slice(b"\nm=audio 0 RTP/AVP 0\na=")?;
+    text.resize(text.len() + 59_998, b'y')?;
+    for _ in 0..998 {
+        text.extend_from_slice(b"\na=y")?;
+    }
+    let description = read(rt.alloc(), text.as_slice())?;
+    assert_eq!(rt; description.session().len(), 1001);
+    assert_eq!(rt; description.session()[1].len(), 60_000);
+    assert_eq!(rt; description.tracks()[0].lines.len(), 1000);
+    assert_eq!(rt; description.tracks()[0].lines.as_slice()[1].len(), 60_000);
+    let written = write(rt.alloc(), &description)?;
+    assert_eq!(rt; read(rt.alloc(), written.as_slice())?.session().len(), 1002);
     Ok(())
+}
+
+#[test]
+fn the_laws_are_called() {
+    laws::one_media();
+    laws::one_reading();
+    laws::written_reads();
 }

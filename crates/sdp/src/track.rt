@@ -1,42 +1,46 @@
 //! A media section of a description (RFC 4566, 5.14).
-ghost use Rattle.std.specs.Prelude.{◌≡◌, ◌<◌, ◌++◌, ◌∷◌, [], None, length, IfOk, OnOk, OnErr};
+ghost use Rattle.std.specs.Prelude.{◌≡◌, ◌<◌, ◌∷◌, [], None, length, IfOk, OnOk};
 ghost use Rattle.std.specs.Option.{option_map};
 
 use crate::field::control_value;
-use crate::media::MediaLine;
-use crate::text::{Text, TextList};
+use crate::words::read_words;
+use base_syntax::{Bytes, Items};
 use std::alloc::{AllocError, Global};
-use std::marker::Model;
 
 /// A track: an `m=` line and the lines behind it, up to the next one.
 #[derive(Drop)]
 pub struct Track {
     /// What is sent, as `audio` or `video`.
-    pub media: Text,
+    pub media: Bytes,
     /// The payload formats, one or more.
-    pub formats: TextList,
+    pub formats: Items<Bytes>,
     /// The announced control: the value of the first `a=control:` line (RFC 2326, C.1.1).
-    pub control: Option<Text>,
+    pub control: Option<Bytes>,
     /// All lines as they were announced, the `m=` line first.
-    pub lines: TextList,
+    pub lines: Items<Bytes>,
 }
 
 impl Track {
     ghost use Rattle.sdp.specs.Steps.{with_line, control_with};
+    ghost use Rattle.sdp.specs.Media.{words};
 
-    /// A track that an `m=` line opens.
-    pub(crate) fn open(alloc: Global, named: MediaLine, line: &[u8]) -> Result<Track, AllocError>
-        ensures media { IfOk result (λ track. track.media ≡ named.media) }
-        ensures formats { IfOk result (λ track. track.formats ≡ named.formats) }
+    /// A track that an `m=` line opens, of which these are the media and the text of the formats.
+    pub(crate) fn open(
+        alloc: Global,
+        media: &[u8],
+        formats: &[u8],
+        line: &[u8],
+    ) -> Result<Track, AllocError>
+        ensures media { IfOk result (λ track. track.media ≡ media.now) }
+        ensures formats { IfOk result (λ track. track.formats ≡ words formats.now) }
         ensures control { IfOk result (λ track. track.control ≡ None) }
         ensures lines { IfOk result (λ track. track.lines ≡ line.now ∷ []) }
     {
-        let MediaLine { media, formats } = named;
-        let mut lines = TextList::new(alloc);
-        lines.push(Text::from_slice(alloc, line)?)?;
+        let mut lines = Items::empty(alloc);
+        lines.push(Bytes::from_slice(alloc, line)?)?;
         Ok(Track {
-            media,
-            formats,
+            media: Bytes::from_slice(alloc, media)?,
+            formats: read_words(alloc, formats)?,
             control: None,
             lines,
         })
@@ -53,7 +57,7 @@ impl Track {
             mut lines,
         } = self;
         let control = first_control(alloc, control, line)?;
-        lines.push(Text::from_slice(alloc, line)?)?;
+        lines.push(Bytes::from_slice(alloc, line)?)?;
         Ok(Track {
             media,
             formats,
@@ -68,66 +72,29 @@ ghost use Rattle.sdp.specs.Steps.{control_with, ExtendsLast};
 /// The control so far, or that of a further line where there is none.
 fn first_control(
     alloc: Global,
-    control: Option<Text>,
+    control: Option<Bytes>,
     line: &[u8],
-) -> Result<Option<Text>, AllocError>
+) -> Result<Option<Bytes>, AllocError>
     ensures { IfOk result (λ read. read ≡ control_with control line.now) }
 {
     match control {
         Some(first) => Ok(Some(first)),
         None => match control_value(line) {
-            Some(value) => Ok(Some(Text::from_slice(alloc, value)?)),
+            Some(value) => Ok(Some(Bytes::from_slice(alloc, value)?)),
             None => Ok(None),
         },
     }
 }
 
-/// The tracks of a description, in order.
-#[derive(Drop)]
-pub struct TrackList {
-    tracks: Vec<Track>,
-}
-
-impl Model for TrackList {
-    ghost use Rattle.std.specs.Prelude.{List};
-    ghost use Rattle.sdp.specs.declared.track.Track.{Track};
-
-    ghost Value = { List Track };
-
-    ghost view = { λ l. l.tracks.items };
-}
-
-impl TrackList {
-    pub fn new(alloc: Global) -> TrackList
-        ensures { result ≡ [] }
-    {
-        TrackList {
-            tracks: Vec::new(alloc),
-        }
-    }
-
-    pub fn as_slice(&self) -> &[Track]
-        ensures { result.now ≡ self.now }
-    {
-        self.tracks.as_slice()
-    }
-
-    /// Adds a track behind the others.
-    pub(crate) fn push(&mut self, track: Track) -> Result<(), AllocError>
-        ensures ok { OnOk result (self.new ≡ self.old ++ track ∷ []) }
-        ensures err { OnErr result (self.new ≡ self.old) }
-    {
-        self.tracks.push(track)?;
-        Ok(())
-    }
-
-    /// Adds a line to the last track. After an error that track is lost.
-    pub(crate) fn extend_last(&mut self, alloc: Global, line: &[u8]) -> Result<(), AllocError>
-        requires { 0 < length self.old }
-        ensures { OnOk result (ExtendsLast self.old line.now self.new) }
-    {
-        let track = self.tracks.pop().unwrap();
-        self.tracks.push(track.with_line(alloc, line)?)?;
-        Ok(())
-    }
+/// Adds a line to the last track. After an error that track is lost.
+pub(crate) fn extend_last(
+    tracks: &mut Items<Track>,
+    alloc: Global,
+    line: &[u8],
+) -> Result<(), AllocError>
+    requires { 0 < length tracks.old }
+    ensures { OnOk result (ExtendsLast tracks.old line.now tracks.new) }
+{
+    let last = tracks.pop().unwrap();
+    tracks.push(last.with_line(alloc, line)?)
 }

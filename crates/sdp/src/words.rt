@@ -1,40 +1,9 @@
-//! Words of a line, and the blanks between and behind them.
+//! Words of a line, and the spaces between them.
 ghost use Rattle.std.specs.Prelude.{◌≡◌, ◌≤◌, ◌<◌, ◌∷◌, ◌==◌, [], false, length, drop, slice_index, IfSome, IfNone, IfOk};
-ghost use Rattle.std.specs.List.{position_or_len};
-ghost use Rattle.sdp.specs.Media.{words, is_blank as may_end, without_end_blanks};
+ghost use Rattle.sdp.specs.Media.{words};
 
-use crate::text::{Text, TextList};
+use base_syntax::{Bytes, Items, cut};
 use std::alloc::{AllocError, Global};
-
-/// The first place of a byte in a text, or the text's length.
-pub(crate) fn find_byte(text: &[u8], wanted: u8) -> usize
-    ensures place { result ≡ position_or_len (λ b. b == wanted) text.now }
-    ensures within { result ≤ length text.now }
-{
-    for (i, byte) in text.iter().enumerate() {
-        if *byte == wanted {
-            return i;
-        }
-    }
-    text.len()
-}
-
-fn is_blank(byte: u8) -> bool
-    ensures { result ≡ may_end byte }
-{
-    byte == b' ' || byte == b'\t'
-}
-
-/// The text without the spaces and tabs at its end.
-pub(crate) fn trim_end(text: &[u8]) -> &[u8]
-    ensures { result.now ≡ without_end_blanks text.now }
-{
-    let mut end = text.len();
-    while end > 0 && is_blank(text[end - 1]) {
-        end -= 1;
-    }
-    &text[..end]
-}
 
 /// How many spaces the text begins with.
 fn leading_spaces(text: &[u8]) -> usize
@@ -60,17 +29,18 @@ pub(crate) fn next_word(text: &[u8]) -> Option<(&[u8], &[u8])>
     if text.is_empty() {
         return None;
     }
-    Some(text.split_at(find_byte(text, b' ')))
+    let (word, rest) = cut(text, b' ');
+    Some((word, rest.unwrap_or(b"".as_slice())))
 }
 
 /// The words of a text.
-pub(crate) fn read_words(alloc: Global, text: &[u8]) -> Result<TextList, AllocError>
+pub(crate) fn read_words(alloc: Global, text: &[u8]) -> Result<Items<Bytes>, AllocError>
     ensures { IfOk result (λ list. list ≡ words text.now) }
 {
-    let mut list = TextList::new(alloc);
+    let mut list = Items::empty(alloc);
     let mut rest = text;
     while let Some((word, after)) = next_word(rest) {
-        list.push(Text::from_slice(alloc, word)?)?;
+        list.push(Bytes::from_slice(alloc, word)?)?;
         rest = after;
     }
     Ok(list)

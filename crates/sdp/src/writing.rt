@@ -6,13 +6,13 @@ ghost use Rattle.sdp.specs.Written.{written, without_controls, track_control, tr
 
 use crate::description::Description;
 use crate::field::control_value;
-use crate::text::Text;
 use crate::track::Track;
+use base_syntax::Bytes;
 use itoa::Buffer;
 use std::alloc::{AllocError, Global};
 
 /// Appends lines, but for control attributes, each with CRLF.
-fn write_lines(out: &mut Vec<u8>, lines: &[Text]) -> Result<(), AllocError>
+fn write_lines(out: &mut Vec<u8>, lines: &[Bytes]) -> Result<(), AllocError>
     ensures { OnOk result (out.new.items ≡ out.old.items ++ flat_map written (without_controls lines.now)) }
 {
     for line in lines {

@@ -1,11 +1,10 @@
 pub mod Free
 pub mod First
 pub mod Joined
-pub mod Parts
-pub mod Digits
-pub mod AreParts
 pub mod ReadAgain
 pub mod OneChoice
-pub mod IsCore
 pub mod Grammar
+pub mod FirstNamed
+pub mod Modes
+pub mod SpecForms
 pub mod RoundTrip

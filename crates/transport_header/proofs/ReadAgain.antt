@@ -1,46 +1,44 @@
 -- Session identifiers are read as they are written, and tell sessions apart.
-use Rattle.std.proofs.Common.{◌≡◌, ◌<◌, ◌-◌, ◌/◌, ◌%◌, ◌^◌, ◌==◌, ℕ, zero, suc, false, List, [], ◌∷◌, ◌++◌, length, take, drop, get_or, ap, ◌∙◌, arith}
+use Rattle.std.proofs.Common.{◌≡◌, ◌<◌, ◌-◌, ◌/◌, ◌%◌, ◌^◌, ◌==◌, ℕ, zero, suc, false, List, [], ◌∷◌, ◌++◌, length, take, drop, get_or, sym, ap, ◌∙◌, arith, append-nil}
 use Rattle.std.specs.Fmt.{digit_glyph}
-use Rattle.std.specs.List.{position_or_len, prefix_len, suffix_len, AllByRecursion}
+use Rattle.std.specs.List.{AllByRecursion}
 use Rattle.std.proofs.lemmas.Bool.Decides.{nat_tests}
-use Rattle.std.proofs.lemmas.List.{take_all}
-use Rattle.std.proofs.lemmas.List.Sums.{position_or_len_is, prefix_len_is, suffix_len_is}
-use Rattle.transport_header.specs.Text.{is_blank, trimmed, without_leading_blanks, without_trailing_blanks}
+use Rattle.base_syntax.specs.Blanks.{is_blank, trimmed}
+use Rattle.base_syntax.specs.Cuts.{HasNone}
+use Rattle.base_syntax.proofs.Cuts.{uncut}
+use Rattle.base_syntax.proofs.Trims.{only_core}
 use Rattle.transport_header.specs.Session.{digit_at, eight_digits, identifier_text, identifier_in}
 
 -- a byte that neither ends an identifier nor is dropped at its ends
 abbrev pub IsPlain : ℕ → Type 0
 IsPlain b = ((b == 59) ≡ false) × (is_blank b ≡ false)
 
-abbrev pub ArePlain : List ℕ → Type 0
-ArePlain text = (k : ℕ) → k < length text → IsPlain (get_or text k 0)
+-- where each byte is plain, nothing is cut off
+pub plain_at : (text : List ℕ) → AllByRecursion IsPlain text → (k : ℕ) → k < length text → IsPlain (get_or text k 0)
+plain_at [] h k below = absurd (omega arith)
+plain_at (b ∷ bs) h zero below = h.0
+plain_at (b ∷ bs) h (suc k) below = plain_at bs h.1 k (omega arith)
+
+no_semicolon : (text : List ℕ) → AllByRecursion IsPlain text → HasNone 59 text
+no_semicolon [] h = tt
+no_semicolon (b ∷ bs) h = (h.0.0, no_semicolon bs h.1)
+
+pub plain_trimmed : (text : List ℕ) → AllByRecursion IsPlain text → trimmed text ≡ text
+plain_trimmed text plain = sym (only_core text text (record {
+  front = [];
+  back = [];
+  whole = sym (append-nil text);
+  front_blank = λ k d below. absurd (omega arith);
+  back_blank = λ k d below. absurd (omega arith);
+  bare = λ some. ((plain_at text plain 0 some).1, (plain_at text plain (length text - 1) (omega arith)).1);
+}))
+
+plain_identifier : (text : List ℕ) → AllByRecursion IsPlain text → identifier_in text ≡ text
+unfolding identifier_in
+plain_identifier text plain = ap trimmed (uncut 59 text (no_semicolon text plain)).0 ∙ plain_trimmed text plain
 
 plain_glyph : (d : ℕ) → IsPlain (digit_glyph false (d % 16))
 plain_glyph d = (grind (arith, nat_tests), grind (arith, nat_tests))
-
-without_semicolon : (text : List ℕ) → ArePlain text → take (position_or_len (λ b. b == 59) text) text ≡ text
-without_semicolon text plain =
-    let whole : position_or_len (λ b. b == 59) text ≡ length text = position_or_len_is (λ b. b == 59) text (length text) 0 (omega arith) (λ k below. (plain k below).0) (λ less. absurd (omega arith)) in
-    take_all _ text (omega arith)
-
-pub no_leading : (text : List ℕ) → ArePlain text → without_leading_blanks text ≡ text
-no_leading text plain =
-    let none : prefix_len is_blank text ≡ 0 = prefix_len_is is_blank text 0 0 (omega arith) (λ k below. absurd (omega arith)) (λ some. (plain 0 some).1) in
-    ap (λ n. drop n text) none
-
-pub no_trailing : (text : List ℕ) → ArePlain text → without_trailing_blanks text ≡ text
-no_trailing text plain =
-    let none : suffix_len is_blank text ≡ length text - length text = suffix_len_is is_blank text (length text) 0 (omega arith) (λ k from below. absurd (omega arith)) (λ some. (plain (length text - 1) (omega arith)).1) in
-    take_all _ text (omega arith)
-
-plain_identifier : (text : List ℕ) → ArePlain text → identifier_in text ≡ text
-unfolding identifier_in
-plain_identifier text plain = ap trimmed (without_semicolon text plain) ∙ ap without_trailing_blanks (no_leading text plain) ∙ no_trailing text plain
-
-by_index : (text : List ℕ) → AllByRecursion IsPlain text → ArePlain text
-by_index [] h k below = absurd (omega arith)
-by_index (b ∷ bs) h zero below = h.0
-by_index (b ∷ bs) h (suc k) below = by_index bs h.1 k (omega arith)
 
 plain_digits : (n : ℕ) (rest : List ℕ) → AllByRecursion IsPlain rest → AllByRecursion IsPlain (eight_digits n ++ rest)
 plain_digits n rest plain =
@@ -52,7 +50,7 @@ unfolding identifier_text
 plain_text number word = plain_digits number (eight_digits word) (plain_digits word [] tt)
 
 pub read_again : (number word : ℕ) → identifier_in (identifier_text number word) ≡ identifier_text number word
-read_again number word = plain_identifier (identifier_text number word) (by_index (identifier_text number word) (plain_text number word))
+read_again number word = plain_identifier (identifier_text number word) (plain_text number word)
 
 -- the digits of a number tell it
 glyph_tells : (a b : ℕ) → digit_glyph false (a % 16) ≡ digit_glyph false (b % 16) → a % 16 ≡ b % 16

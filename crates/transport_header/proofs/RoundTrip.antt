@@ -1,26 +1,28 @@
 -- The Transport header of a reply is read as what was chosen.
 use Rattle.std.proofs.Common.{◌≡◌, ◌<◌, ◌==◌, ◌&&◌, ℕ, Bool, true, false, not, cond, List, [], ◌∷◌, ◌++◌, map, codes, decimal, Option, Some, inr, refl, ap, sym, ◌∙◌, arith, append_assoc, append-nil}
 use Rattle.std.specs.Char.{digit_value}
-use Rattle.std.specs.List.{list_all, join_with_byte}
+use Rattle.std.specs.List.{AllByRecursion, list_all, join_with_byte}
 use Rattle.std.specs.Str.Parse.{AllDigits}
+use Rattle.std.proofs.lemmas.Bool.{and_parts}
 use Rattle.std.proofs.lemmas.Bool.Decides.{nat_tests}
 use Rattle.std.proofs.lemmas.Fmt.{decimal_is_IsNumeral}
 use Rattle.std.proofs.lemmas.List.Folds.{list_all-append}
-use Rattle.std.proofs.lemmas.List.Sums.{fold-append, AllPass-from_list_all}
+use Rattle.std.proofs.lemmas.List.Sums.{fold-append}
 use Rattle.transport_header.specs.declared.spec.Spec.{Spec}
 use Rattle.transport_header.specs.declared.spec.ChannelPair.{ChannelPair}
 use Rattle.transport_header.specs.declared.spec.Mode.{Mode}
 use Rattle.transport_header.specs.declared.spec.Mode.TheVariants.{Play, Record}
 use Rattle.transport_header.specs.declared.spec.Protocol.TheVariants.{Tcp}
 use Rattle.transport_header.specs.declared.chosen.Chosen.{Chosen}
-use Rattle.transport_header.specs.Text.{cuts, quoted_after, is_blank, trimmed, without_trailing_blanks, parts}
+use Rattle.base_syntax.specs.Blanks.{is_blank, trimmed}
+use Rattle.base_syntax.specs.Quotes.{cuts, quoted_after, parts}
 use Rattle.transport_header.specs.Transport.{channels_of, mode_of, spec_of, specs_of, spec_of_parts}
 use Rattle.transport_header.specs.Chosen.{mode_text, transport_text}
 use Rattle.transport_header.specs.Interleaved.{IsChannel}
 use Rattle.transport_header.specs.Answered.{answered}
-use Rattle.transport_header.proofs.AreParts.{open_after, Uncut, Parts, last_part, only_parts}
-use Rattle.transport_header.proofs.Grammar.{both, reads}
-use Rattle.transport_header.proofs.ReadAgain.{ArePlain, no_leading, no_trailing}
+use Rattle.base_syntax.proofs.AreParts.{open_after, Uncut, Parts, last_part, only_parts}
+use Rattle.transport_header.proofs.Grammar.{reads}
+use Rattle.transport_header.proofs.ReadAgain.{IsPlain, plain_trimmed}
 
 -- bytes that aren't cut, by a test
 abbrev passes : ℕ → Bool → List ℕ → Bool
@@ -37,13 +39,13 @@ all_of a b at_a at_b = rw (at_a, at_b) refl
 passed : (separator : ℕ) (quoted : Bool) (bytes : List ℕ) → passes separator quoted bytes ≡ true → Uncut separator quoted bytes
 passed separator quoted [] h = tt
 passed separator quoted (b ∷ bs) h =
-    let here : (not (cuts separator quoted b) ≡ true) × (passes separator (quoted_after quoted b) bs ≡ true) = both _ _ h in
+    let here : (not (cuts separator quoted b) ≡ true) × (passes separator (quoted_after quoted b) bs ≡ true) = and_parts _ _ h in
     (fails _ here.0, passed separator (quoted_after quoted b) bs here.1)
 
 passes_both : (separator : ℕ) (quoted : Bool) (xs ys : List ℕ) → passes separator quoted xs ≡ true → passes separator (open_after quoted xs) ys ≡ true → passes separator quoted (xs ++ ys) ≡ true
 passes_both separator quoted [] ys h h' = h'
 passes_both separator quoted (x ∷ xs) ys h h' =
-    let here : (not (cuts separator quoted x) ≡ true) × (passes separator (quoted_after quoted x) xs ≡ true) = both _ _ h in
+    let here : (not (cuts separator quoted x) ≡ true) × (passes separator (quoted_after quoted x) xs ≡ true) = and_parts _ _ h in
     all_of _ _ here.0 (passes_both separator (quoted_after quoted x) xs ys here.1 h')
 
 -- bytes that aren't cut, and leave no quote open
@@ -83,12 +85,12 @@ abbrev parameter_of : ℕ → ℕ → List ℕ
 parameter_of a b = codes "interleaved=" ++ asked a b
 
 numeral : (n : ℕ) → n < 256 → IsChannel (decimal n) n
-numeral n small = let written = decimal_is_IsNumeral n (omega arith) in (written.0, written.1, small)
+numeral n small = let written = decimal_is_IsNumeral n (omega arith) in record { numeral = written.0; value = written.1; most = omega arith }
 
 calm_asked : (separator : ℕ) → ((c : ℕ) → digit_value c < 10 → (c == separator) ≡ false) → Calm separator (45 ∷ []) → (a b : ℕ) → a < 256 → b < 256 → Calm separator (asked a b)
 calm_asked separator other dash a b small small' =
-    calm_both separator (decimal a) (45 ∷ decimal b) (calm_digits separator other (decimal a) (numeral a small).0.1)
-    (calm_both separator (45 ∷ []) (decimal b) dash (calm_digits separator other (decimal b) (numeral b small').0.1))
+    calm_both separator (decimal a) (45 ∷ decimal b) (calm_digits separator other (decimal a) (numeral a small).numeral.1)
+    (calm_both separator (45 ∷ []) (decimal b) dash (calm_digits separator other (decimal b) (numeral b small').numeral.1))
 
 -- no blank at the ends of that parameter
 abbrev is_plain : ℕ → Bool
@@ -98,22 +100,20 @@ plain_digits : (ds : List ℕ) → AllDigits 10 ds → list_all is_plain ds ≡ 
 plain_digits [] h = refl
 plain_digits (c ∷ cs) h = all_of _ _ (all_of _ _ (ap not (not_semicolon c h.0)) (ap not (not_blank c h.0))) (plain_digits cs h.1)
 
-plain_from : (text : List ℕ) → list_all is_plain text ≡ true → ArePlain text
-plain_from text h k below =
-    let here = both _ _ (AllPass-from_list_all is_plain text h k 0 below) in (fails _ here.0, fails _ here.1)
+plain_from : (text : List ℕ) → list_all is_plain text ≡ true → AllByRecursion IsPlain text
+plain_from [] h = tt
+plain_from (b ∷ bs) h = let parts = and_parts _ _ h in let here = and_parts _ _ parts.0 in ((fails _ here.0, fails _ here.1), plain_from bs parts.1)
 
 plain_parameter : (a b : ℕ) → a < 256 → b < 256 → list_all is_plain (parameter_of a b) ≡ true
 plain_parameter a b small small' =
     list_all-append is_plain (codes "interleaved=") (asked a b)
-    ∙ all_of _ _ refl (list_all-append is_plain (decimal a) (45 ∷ decimal b) ∙ all_of _ _ (plain_digits (decimal a) (numeral a small).0.1) (plain_digits_behind b small'))
+    ∙ all_of _ _ refl (list_all-append is_plain (decimal a) (45 ∷ decimal b) ∙ all_of _ _ (plain_digits (decimal a) (numeral a small).numeral.1) (plain_digits_behind b small'))
   where
     plain_digits_behind : (b : ℕ) → b < 256 → list_all is_plain (45 ∷ decimal b) ≡ true
-    plain_digits_behind b small' = plain_digits (decimal b) (numeral b small').0.1
+    plain_digits_behind b small' = plain_digits (decimal b) (numeral b small').numeral.1
 
 trimmed_parameter : (a b : ℕ) → a < 256 → b < 256 → trimmed (parameter_of a b) ≡ parameter_of a b
-trimmed_parameter a b small small' =
-    let plain : ArePlain (parameter_of a b) = plain_from (parameter_of a b) (plain_parameter a b small small') in
-    ap without_trailing_blanks (no_leading (parameter_of a b) plain) ∙ no_trailing (parameter_of a b) plain
+trimmed_parameter a b small small' = plain_trimmed (parameter_of a b) (plain_from (parameter_of a b) (plain_parameter a b small small'))
 
 -- the parts of the text, with and without a mode
 abbrev transport : List ℕ

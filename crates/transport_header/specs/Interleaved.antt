@@ -1,12 +1,12 @@
 -- What the value of `interleaved` may be, apart from how it is read (RFC 2326, 12.39: "interleaved" "=" channel [ "-" channel ]).
 use Rattle.std.specs.Prelude.{◌≡◌, ℕ, ◌<◌, ◌+◌, List, ◌∷◌, ◌++◌, ◌⊎◌}
-use Rattle.std.specs.Str.Parse.{IsNumeral, digits_value}
-use Rattle.transport_header.specs.Text.{dash}
+use Rattle.base_syntax.specs.Numbers.{IsNumberUpTo}
+use Rattle.transport_header.specs.Separators.{dash}
 use Rattle.transport_header.specs.declared.spec.ChannelPair.{ChannelPair}
 
--- decimal digits, one or more, of a number below 256
+-- decimal digits, one or more, of a number up to 255
 abbrev pub IsChannel : List ℕ → ℕ → Type 0
-IsChannel digits channel = IsNumeral 10 digits × (digits_value 10 digits ≡ channel) × (channel < 256)
+IsChannel digits channel = IsNumberUpTo 255 digits channel
 
 -- one channel alone, which asks for the next one too where there is one
 abbrev pub AsksAlone : List ℕ → ChannelPair → Type 0

@@ -1,9 +1,10 @@
-pub mod Text
+pub mod Separators
 pub mod Session
 pub mod Chosen
 pub mod RtpInfo
 pub mod Transport
-pub mod Cutting
-pub mod Trimmed
 pub mod Interleaved
+pub mod Parameter
+pub mod Recording
+pub mod SpecForm
 pub mod Answered

@@ -1,7 +1,7 @@
 -- The RTP-Info header of the reply to PLAY (RFC 2326, 12.33).
 use Rattle.std.specs.Prelude.{ℕ, ◌+◌, ◌%◌, zero, suc, List, [], ◌∷◌, ◌++◌, map, codes, decimal}
 use Rattle.std.specs.List.{join_with_byte}
-use Rattle.transport_header.specs.Text.{comma}
+use Rattle.transport_header.specs.Separators.{comma}
 use Rattle.transport_header.specs.declared.rtp_info.InfoEntry.{InfoEntry}
 
 -- one track: its URL, the sequence number that comes after its point's, and its point's RTP time

@@ -2,7 +2,8 @@
 use Rattle.std.specs.Prelude.{ℕ, ◌/◌, ◌%◌, ◌^◌, ◌==◌, false, List, [], ◌∷◌, ◌++◌}
 use Rattle.std.specs.Fmt.{digit_glyph}
 use Rattle.std.specs.List.{before_first}
-use Rattle.transport_header.specs.Text.{semicolon, trimmed}
+use Rattle.base_syntax.specs.Blanks.{trimmed}
+use Rattle.transport_header.specs.Separators.{semicolon}
 
 -- the lower-case hexadecimal digit of n that stands for its multiples of 16 ^ place
 abbrev pub digit_at : ℕ → ℕ → ℕ

@@ -1,10 +1,14 @@
 -- What a Transport header's value asks for (RFC 2326, 12.39).
-use Rattle.std.specs.Prelude.{ℕ, ◌+◌, ◌==◌, ◌&&◌, ◌||◌, Bool, not, cond, nat_lt, List, [], Option, None, Some, is_some, length, drop, map, find, filter, slice_index_or, codes}
-use Rattle.std.specs.Char.{is_ascii_digit}
-use Rattle.std.specs.List.{list_any, list_all, before_first, after_first}
+use Rattle.std.specs.Prelude.{ℕ, ◌+◌, ◌==◌, ◌||◌, Bool, cond, nat_lt, List, [], Option, None, Some, is_some, unwrap_or, drop, map, find, slice_index_or, codes}
+use Rattle.std.specs.List.{list_any, before_first}
 use Rattle.std.specs.Option.{option_map, option_and_then, option_map_or}
-use Rattle.std.specs.Str.Parse.{digits_value}
-use Rattle.transport_header.specs.Text.{double_quote, comma, semicolon, equals_sign, dash, trimmed, same_name, parts}
+use Rattle.base_syntax.specs.Blanks.{trimmed}
+use Rattle.base_syntax.specs.Cuts.{behind_first}
+use Rattle.base_syntax.specs.Names.{same_name}
+use Rattle.base_syntax.specs.Numbers.{number_up_to}
+use Rattle.base_syntax.specs.Quotes.{parts}
+use Rattle.transport_header.specs.Separators.{comma, semicolon, equals_sign, dash}
+use Rattle.transport_header.specs.Recording.{without_quotes}
 use Rattle.transport_header.specs.declared.spec.Spec.{Spec}
 use Rattle.transport_header.specs.declared.spec.ChannelPair.{ChannelPair}
 use Rattle.transport_header.specs.declared.spec.Protocol.{Protocol}
@@ -21,33 +25,32 @@ abbrev pub name_of : List ℕ → List ℕ
 name_of parameter = before_first (λ b. b == equals_sign) parameter
 
 abbrev pub value_of : List ℕ → List ℕ
-value_of parameter = after_first (λ b. b == equals_sign) parameter
+value_of parameter = unwrap_or (behind_first equals_sign parameter) []
 
 -- the value of the first of the parameters that has a name
 abbrev pub value_named : List ℕ → List (List ℕ) → Option (List ℕ)
 value_named name parameters = option_map value_of (find (λ parameter. same_name (name_of parameter) name) parameters)
 
 -- the channel that decimal digits name, 0 to 255
-abbrev pub names_channel : List ℕ → Bool
-names_channel digits = nat_lt 0 (length digits) && list_all is_ascii_digit digits && nat_lt (digits_value 10 digits) 256
-
 abbrev pub channel_of : List ℕ → Option ℕ
-channel_of digits = cond (names_channel digits) (Some (digits_value 10 digits)) None
+channel_of digits = number_up_to 255 digits
 
 -- the channel after another, where there is one
 abbrev pub next_channel : ℕ → Option ℕ
 next_channel channel = cond (nat_lt channel 255) (Some (channel + 1)) None
 
-abbrev pub is_dash : ℕ → Bool
-is_dash b = b == dash
-
--- the second channel of `interleaved=a-b`, and of `interleaved=a`, which means a and a + 1
-abbrev pub second_of : List ℕ → ℕ → Option ℕ
-second_of value first = cond (list_any is_dash value) (channel_of (after_first is_dash value)) (next_channel first)
+-- the second channel: that of `interleaved=a-b`, where digits stand behind the dash, and the one after the first of
+-- `interleaved=a`
+abbrev pub second_of : Option (List ℕ) → ℕ → Option ℕ
+second_of None first = next_channel first
+second_of (Some digits) first = channel_of digits
 
 -- both channels
 unfoldable pub channels_of : List ℕ → Option ChannelPair
-channels_of value = option_and_then (λ first. option_map (λ second. record { first = first; second = second }) (second_of value first)) (channel_of (before_first is_dash value))
+channels_of value =
+    option_and_then
+    (λ first. option_map (λ second. record { first = first; second = second }) (second_of (behind_first dash value) first))
+    (channel_of (before_first (λ b. b == dash) value))
 
 -- a part of `mode`'s value that asks for recording
 abbrev pub asks_record : List ℕ → Bool
@@ -55,7 +58,7 @@ asks_record part = same_name (trimmed part) (codes "record") || same_name (trimm
 
 -- the mode that `mode`'s value asks for: without its quotes, which leaves none, it is cut at commas
 unfoldable pub mode_of : List ℕ → Mode
-mode_of value = cond (list_any asks_record (parts comma (filter (λ b. not (b == double_quote)) value))) Record Play
+mode_of value = cond (list_any asks_record (parts comma (without_quotes value))) Record Play
 
 -- what a spec's parameters ask for: nothing and PLAY where they don't say
 abbrev pub channels_in : List (List ℕ) → Option ChannelPair

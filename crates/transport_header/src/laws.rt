@@ -1,31 +1,38 @@
 //! What the definitions of this crate mean, as theorems that call nothing.
-ghost use Rattle.std.specs.Prelude.{◌≡◌, ◌<◌, ◌^◌, ℕ, List, [], ◌∷◌, Option};
-ghost use Rattle.std.specs.List.{join_with_byte};
-ghost use Rattle.transport_header.specs.Text.{parts, trimmed};
-ghost use Rattle.transport_header.specs.Trimmed.{IsCore};
+ghost use Rattle.std.specs.Prelude.{◌≡◌, ◌<◌, ◌^◌, ℕ, List, [], ◌∷◌, Option, None, Some};
 ghost use Rattle.transport_header.specs.Answered.{answered};
-ghost use Rattle.transport_header.specs.Cutting.{AreParts};
 ghost use Rattle.transport_header.specs.Session.{identifier_text, identifier_in};
 ghost use Rattle.transport_header.specs.Interleaved.{AsksFor};
-ghost use Rattle.transport_header.specs.Transport.{channels_of, specs_of};
+ghost use Rattle.transport_header.specs.Parameter.{IsFirstNamed, NoneHasName};
+ghost use Rattle.transport_header.specs.Recording.{AsksRecord};
+ghost use Rattle.transport_header.specs.SpecForm.{IsSpec};
+ghost use Rattle.transport_header.specs.Transport.{value_named, mode_of, channels_of, spec_of, specs_of};
+ghost use Rattle.transport_header.specs.declared.spec.Mode.TheVariants.{Record};
 ghost use Rattle.transport_header.specs.declared.spec.ChannelPair.{ChannelPair};
 ghost use Rattle.transport_header.specs.Chosen.{IsChosen, transport_text};
 ghost use Rattle.transport_header.specs.declared.spec.Spec.{Spec};
 ghost use Rattle.transport_header.specs.declared.chosen.Chosen.{Chosen};
 
-/// Cutting a text outside of double quotes: its parts have no separator left to cut at, each but the
-/// last closes its quotes, and joined by the separator they give the text back. No other list does.
-pub fn cutting()
-    ensures uncut { (separator : ℕ) (text : List ℕ) → AreParts separator (parts separator text) }
-    ensures joined { (separator : ℕ) (text : List ℕ) → join_with_byte separator (parts separator text) ≡ text }
-    ensures only { (separator : ℕ) (others : List (List ℕ)) → AreParts separator others → parts separator (join_with_byte separator others) ≡ others }
+/// The first parameter of a name: its value is found where a part has the name and no earlier one does, and
+/// nowhere else; nothing is found where no part has it, and nowhere else.
+pub fn parameters()
+    ensures first { (parts : List (List ℕ)) (name value : List ℕ) → IsFirstNamed parts name value → value_named name parts ≡ Some value }
+    ensures only { (parts : List (List ℕ)) (name value : List ℕ) → value_named name parts ≡ Some value → IsFirstNamed parts name value }
+    ensures absent { (parts : List (List ℕ)) (name : List ℕ) → NoneHasName name parts → value_named name parts ≡ None }
+    ensures none { (parts : List (List ℕ)) (name : List ℕ) → value_named name parts ≡ None → NoneHasName name parts }
 {}
 
-/// Dropping the spaces and tabs at a text's ends: what is left has neither at its ends, and stands
-/// between nothing but spaces and tabs. Nothing else does.
-pub fn trimming()
-    ensures core { (text : List ℕ) → IsCore text (trimmed text) }
-    ensures only { (text other : List ℕ) → IsCore text other → other ≡ trimmed text }
+/// The value of `mode`: it is read as RECORD where one of its parts is `record` or `receive`, and nowhere else.
+pub fn modes()
+    ensures reads { (value : List ℕ) → AsksRecord value → mode_of value ≡ Record }
+    ensures only { (value : List ℕ) → mode_of value ≡ Record → AsksRecord value }
+{}
+
+/// A spec: it is read as its parts say, the first naming the transport and the others being its parameters, and as
+/// nothing else.
+pub fn specs()
+    ensures reads { (text : List ℕ) → IsSpec text (spec_of text) }
+    ensures only { (text : List ℕ) (spec : Spec) → IsSpec text spec → spec ≡ spec_of text }
 {}
 
 /// The value of `interleaved`: it is read as a pair of channels where the grammar has it, and nowhere

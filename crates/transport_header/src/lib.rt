@@ -6,23 +6,19 @@
 
 mod channels;
 mod chosen;
-mod laws;
+pub mod laws;
 mod parameter;
 mod read;
 mod rtp_info;
 mod session;
 mod spec;
-mod text;
-mod track_url;
 
 pub use channels::Channels;
 pub use chosen::{Chosen, choose, put_transport};
-pub use laws::{answering, choice, cutting, identifiers, interleaving, trimming};
 pub use read::read_transport;
 pub use rtp_info::{InfoEntry, put_rtp_info};
 pub use session::{put_session, read_session};
 pub use spec::{ChannelPair, Mode, Protocol, Spec};
-pub use track_url::TrackUrl;
 
 #[cfg(test)]
 mod tests;

@@ -1,12 +1,14 @@
 //! Reading a Transport header's value (RFC 2326, 12.39).
 ghost use Rattle.std.specs.Prelude.{◌≡◌, IfOk, map};
 ghost use Rattle.std.specs.Option.{option_copied};
-ghost use Rattle.transport_header.specs.Text.{semicolon, trimmed, rest_parts};
+ghost use Rattle.base_syntax.specs.Blanks.{trimmed};
+ghost use Rattle.base_syntax.specs.Quotes.{rest_parts};
+ghost use Rattle.transport_header.specs.Separators.{semicolon};
 ghost use Rattle.transport_header.specs.Transport.{mode_in, channels_in, spec_of, specs_of};
 
 use crate::parameter::{parameter, read_channels, read_mode, read_protocol};
 use crate::spec::{ChannelPair, Mode, Spec};
-use crate::text::{cut, trim};
+use base_syntax::{cut_unquoted, trim};
 use std::alloc::{AllocError, Global};
 
 // The mode that a spec's parameters ask for.
@@ -34,7 +36,7 @@ fn channels_among(parameters: Option<&[u8]>) -> Option<ChannelPair>
 fn read_spec(alloc: Global, text: &[u8]) -> Result<Spec, AllocError>
     ensures { IfOk result (λ spec. spec ≡ spec_of text.now) }
 {
-    let (transport, parameters) = cut(text, b';');
+    let (transport, parameters) = cut_unquoted(text, b';');
     let mode = mode_among(alloc, parameters)?;
     Ok(Spec {
         protocol: read_protocol(trim(transport)),
@@ -56,7 +58,7 @@ pub fn read_transport(alloc: Global, text: &[u8]) -> Result<Vec<Spec>, AllocErro
     let mut specs = Vec::new(alloc);
     let mut rest = Some(text);
     while let Some(value) = rest {
-        let (part, others) = cut(value, b',');
+        let (part, others) = cut_unquoted(value, b',');
         specs.push(read_spec(alloc, part)?)?;
         rest = others;
     }

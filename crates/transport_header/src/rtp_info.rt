@@ -2,7 +2,7 @@
 ghost use Rattle.std.specs.Prelude.{◌≡◌, ◌≤◌, ◌+◌, ◌<◌, ◌++◌, OnOk, OnErr, length, take, vec_len, vec_capacity};
 ghost use Rattle.transport_header.specs.RtpInfo.{entry_text, separator_text, item_text, rtp_info_text};
 
-use crate::track_url::TrackUrl;
+use base_syntax::Bytes;
 use itoa::Buffer;
 use std::alloc::AllocError;
 
@@ -10,7 +10,7 @@ use std::alloc::AllocError;
 #[derive(Drop)]
 pub struct InfoEntry {
     /// The URL of the track's stream.
-    pub url: TrackUrl,
+    pub url: Bytes,
     /// The sequence number of the track's point, its last RTP packet published; the header names the one
     /// after it.
     pub sequence: u16,

@@ -3,7 +3,7 @@ ghost use Rattle.std.specs.Prelude.{◌≡◌, ◌+◌, ◌<◌, ◌++◌, OnOk,
 ghost use Rattle.transport_header.specs.Session.{eight_digits, identifier_text, identifier_in};
 ghost use Rattle.std.specs.Fmt.{digit_glyph};
 
-use crate::text::{find_byte, trim};
+use base_syntax::{cut, trim};
 use std::alloc::AllocError;
 
 // The hexadecimal digit of a number below 16, in lower case.
@@ -57,5 +57,5 @@ pub fn put_session(out: &mut Vec<u8>, number: u32, word: u32) -> Result<(), Allo
 pub fn read_session(text: &[u8]) -> &[u8]
     ensures { result.now ≡ identifier_in text.now }
 {
-    trim(&text[..find_byte(text, b';')])
+    trim(cut(text, b';').0)
 }

@@ -1,7 +1,8 @@
 use crate::{
-    ChannelPair, Channels, Chosen, InfoEntry, Mode, Protocol, Spec, TrackUrl, choose, put_rtp_info,
+    ChannelPair, Channels, Chosen, InfoEntry, Mode, Protocol, Spec, choose, laws, put_rtp_info,
     put_session, put_transport, read_session, read_transport,
 };
+use base_syntax::Bytes;
 use std::alloc::Global;
 use std::process::Abort;
 use std::test::Fail;
@@ -58,44 +59,37 @@ fn assert_reads(rt: &impl Abort, alloc: Global, text: &[u8], wanted: Spec) -> Re
 
 #[test]
 fn reads_what_clients_send(rt: HostRuntime) -> Result<(), Fail> {
-    let table: [(&[u8], Spec); 11] = [
-        // What publishers send.
-        (
-            b"RTP/AVP/TCP;unicast;interleaved=0-1;mode=record",
-            tcp(pair(0, 1), Mode::Record),
-        ),
-        (
-            b"RTP/AVP/TCP;unicast;interleaved=2-3;mode=RECORD",
-            tcp(pair(2, 3), Mode::Record),
-        ),
+    let table: [(&[u8], Spec); 8] = [
+        // ffmpeg 5.1, which publishes over UDP first, and then over TCP.
         (
             b"RTP/AVP/UDP;unicast;client_port=13314-13315;mode=record",
             other(false, Mode::Record),
         ),
-        // What players send.
         (
-            b"RTP/AVP/TCP;unicast;interleaved=0-1",
-            tcp(pair(0, 1), Mode::Play),
+            b"RTP/AVP/TCP;unicast;interleaved=0-1;mode=record",
+            tcp(pair(0, 1), Mode::Record),
         ),
+        // GStreamer 1.22, which publishes over TCP.
+        (
+            b"RTP/AVP/TCP;unicast;interleaved=2-3;mode=RECORD",
+            tcp(pair(2, 3), Mode::Record),
+        ),
+        // ffmpeg 5.1, which plays over UDP, by multicast, and over TCP.
         (
             b"RTP/AVP/UDP;unicast;client_port=9516-9517",
             other(false, Mode::Play),
         ),
+        (b"RTP/AVP/UDP;multicast", other(true, Mode::Play)),
+        (
+            b"RTP/AVP/TCP;unicast;interleaved=0-1",
+            tcp(pair(0, 1), Mode::Play),
+        ),
+        // GStreamer 1.22, which plays over UDP, by multicast, and over TCP as ffmpeg does.
         (
             b"RTP/AVP;unicast;client_port=35776-35777",
             other(false, Mode::Play),
         ),
         (b"RTP/AVP;multicast", other(true, Mode::Play)),
-        (b"RTP/AVP/UDP;multicast", other(true, Mode::Play)),
-        (b"RTP/AVP;multicast;port=5000-5001", other(true, Mode::Play)),
-        (
-            b"RAW/RAW/UDP;unicast;client_port=5000-5001",
-            other(false, Mode::Play),
-        ),
-        (
-            b"RTP/AVP/TCP;unicast;interleaved=0-1;mode=receive",
-            tcp(pair(0, 1), Mode::Record),
-        ),
     ];
     for (text, wanted) in table {
         assert_reads(&rt, rt.alloc(), text, wanted)?;
@@ -105,7 +99,13 @@ fn reads_what_clients_send(rt: HostRuntime) -> Result<(), Fail> {
 
 #[test]
 fn reads_the_transport(rt: HostRuntime) -> Result<(), Fail> {
-    let table: [(&[u8], Spec); 5] = [
+    let table: [(&[u8], Spec); 7] = [
+        // Other transports.
+        (b"RTP/AVP;multicast;port=5000-5001", other(true, Mode::Play)),
+        (
+            b"RAW/RAW/UDP;unicast;client_port=5000-5001",
+            other(false, Mode::Play),
+        ),
         // The transport, in other cases, with blanks, and quoted.
         (b"rtp/avp/tcp", tcp(None, Mode::Play)),
         (
@@ -223,6 +223,33 @@ fn cuts_a_value_into_specs(rt: HostRuntime) -> Result<(), Fail> {
     );
     assert_eq!(rt; read_transport(rt.alloc(), b",")?.len(), 2);
     Ok(())
+}
+
+#[test]
+fn reads_a_hundred_specs(rt: HostRuntime) -> Result<(), Fail> {
+    let mut text = b"RTP/AVP;unicast;client_port=5000-5001".to_vec(rt.alloc())?;
+    for _ in 0..98 {
+        text.extend_from_slice(b",RTP/AVP;unicast;client_port=5000-5001;mode=\"PLAY\"")?;
+    }
+    text.extend_from_slice(b",RTP/AVP/TCP;unicast;interleaved=6-7;mode=record")?;
+    let specs = read_transport(rt.alloc(), text.as_slice())?;
+    assert_eq!(rt; specs.len(), 100);
+    assert_eq!(rt;
+        choose(specs.as_slice(), &Channels::new()),
+        chosen(6, 7, true)
+    );
+    Ok(())
+}
+
+#[test]
+fn the_laws_are_called() {
+    laws::parameters();
+    laws::modes();
+    laws::specs();
+    laws::interleaving();
+    laws::identifiers();
+    laws::choice();
+    laws::answering();
 }
 
 #[test]
@@ -363,7 +390,7 @@ fn writes_and_reads_sessions(rt: HostRuntime) -> Result<(), Fail> {
 
 fn entry(alloc: Global, url: &[u8], sequence: u16, timestamp: u32) -> Result<InfoEntry, Fail> {
     Ok(InfoEntry {
-        url: TrackUrl::new(Vec::from_slice(alloc, url)?),
+        url: Bytes::from_slice(alloc, url)?,
         sequence,
         timestamp,
     })
@@ -388,9 +415,5 @@ fn writes_rtp_info(rt: HostRuntime) -> Result<(), Fail> {
         &out,
         b"> url=U/trackID=0;seq=65535;rtptime=0,url=U/trackID=1;seq=8;rtptime=4294967295",
     );
-    let url = TrackUrl::new(Vec::from_slice(rt.alloc(), b"U")?);
-    assert_eq!(rt; url.as_slice(), b"U".as_slice());
-    let bytes = url.into_vec();
-    assert_eq!(rt; bytes.as_slice(), b"U".as_slice());
     Ok(())
 }

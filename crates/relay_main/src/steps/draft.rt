@@ -7,10 +7,10 @@ ghost use Rattle.relay_main.specs.declared.steps.draft.Draft.TheVariants.{Listin
 ghost use Rattle.relay_main.specs.declared.steps.line.Line.TheVariants.{Call};
 
 use super::call_line::CallLine;
-use super::call_lines::CallLines;
 use super::line::Line;
 use super::plan::Plan;
 use super::read_line::read_line;
+use base_syntax::Items;
 use ring_steps::Config;
 use std::alloc::{AllocError, Global};
 
@@ -21,7 +21,10 @@ pub(crate) enum Draft {
     /// `keep` was read.
     Kept(u64),
     /// `keep` and `seats` were read, and these calls.
-    Listing { config: Config, calls: CallLines },
+    Listing {
+        config: Config,
+        calls: Items<CallLine>,
+    },
     /// All was read.
     Whole(Plan),
 }
@@ -58,7 +61,7 @@ impl Draft {
             Draft::Kept(keep) => match line {
                 Line::Seats(seats) => Ok(Some(Draft::Listing {
                     config: Config { keep, seats },
-                    calls: CallLines::new(alloc),
+                    calls: Items::empty(alloc),
                 })),
                 _ => Ok(None),
             },
@@ -90,7 +93,7 @@ fn is_below(seats: u64, call: &CallLine) -> bool
 /// The draft with one more call.
 fn list_call(
     config: Config,
-    mut calls: CallLines,
+    mut calls: Items<CallLine>,
     call: CallLine,
 ) -> Result<Option<Draft>, AllocError>
     requires { AllByRecursion (IsBelow config.seats) calls }

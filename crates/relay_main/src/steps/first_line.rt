@@ -2,7 +2,7 @@
 ghost use Rattle.std.specs.Prelude.{◌<◌, ◌+◌, ◌≤◌, length};
 ghost use Rattle.relay_main.specs.Lines.{IsFirstLine};
 
-use super::parts::cut;
+use base_syntax::cut;
 
 /// The first line of a text, and the text behind it.
 pub(crate) fn first_line(text: &[u8]) -> (&[u8], &[u8])

@@ -1,10 +1,10 @@
 //! The items of a `go` line.
-ghost use Rattle.std.specs.Prelude.{◌≡◌, ◌≤◌, replicate, Some, None, IfOk, IfSome, IfNone};
+ghost use Rattle.std.specs.Prelude.{◌≡◌, ◌≤◌, ◌++◌, replicate, Some, None, IfOk, IfSome, IfNone, OnOk};
 ghost use Rattle.relay_main.specs.LineForms.{item_of, schedule_of, actor_of, times_of};
 ghost use Rattle.std.specs.Option.{option_copied};
 
-use super::parts::{cut, number};
-use super::schedule::Schedule;
+use super::parts::number;
+use base_syntax::{Items, cut};
 use ring_steps::Actor;
 use std::alloc::{AllocError, Global};
 
@@ -52,11 +52,21 @@ fn item(word: &[u8]) -> Option<(Actor, usize)>
     Some((actor, times as usize))
 }
 
+/// Adds so many steps of an actor.
+fn add_steps(schedule: &mut Items<Actor>, actor: Actor, times: usize) -> Result<(), AllocError>
+    ensures { OnOk result (schedule.new ≡ schedule.old ++ replicate times actor) }
+{
+    for _ in 0..times {
+        schedule.push(actor)?;
+    }
+    Ok(())
+}
+
 /// The schedule of one item or more, with one space between two.
-pub(crate) fn schedule(alloc: Global, text: &[u8]) -> Result<Option<Schedule>, AllocError>
+pub(crate) fn schedule(alloc: Global, text: &[u8]) -> Result<Option<Items<Actor>>, AllocError>
     ensures { IfOk result (λ r. r ≡ schedule_of text.now) }
 {
-    let mut schedule = Schedule::new(alloc);
+    let mut schedule = Items::empty(alloc);
     let mut rest = Some(text);
     while let Some(text) = rest {
         let (word, after) = cut(text, b' ');
@@ -66,7 +76,7 @@ pub(crate) fn schedule(alloc: Global, text: &[u8]) -> Result<Option<Schedule>, A
         if schedule.len() + times > MOST_STEPS {
             return Ok(None);
         }
-        schedule.extend(actor, times)?;
+        add_steps(&mut schedule, actor, times)?;
         rest = after;
     }
     Ok(Some(schedule))

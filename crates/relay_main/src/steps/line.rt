@@ -1,5 +1,6 @@
 use super::call_line::CallLine;
-use super::schedule::Schedule;
+use base_syntax::Items;
+use ring_steps::Actor;
 
 /// What one line of an input says.
 #[derive(Debug, Drop)]
@@ -7,5 +8,5 @@ pub enum Line {
     Keep(u64),
     Seats(u64),
     Call(CallLine),
-    Go(Schedule),
+    Go(Items<Actor>),
 }

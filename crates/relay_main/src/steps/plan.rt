@@ -1,17 +1,18 @@
 ghost use Rattle.std.specs.Prelude.{◌≡◌};
 ghost use Rattle.relay_main.specs.declared.steps.plan.PlanFault.TheVariants.{OutOfMemory};
 
-use super::call_lines::CallLines;
-use super::schedule::Schedule;
-use ring_steps::Config;
+use super::call_line::CallLine;
+use base_syntax::Items;
+use ring_steps::{Actor, Config};
 use std::alloc::{AllocError, AllocFailed};
 
 /// What an input asks for.
 #[derive(Debug, Drop)]
 pub struct Plan {
     pub config: Config,
-    pub calls: CallLines,
-    pub schedule: Schedule,
+    pub calls: Items<CallLine>,
+    /// The actors of the steps, in order.
+    pub schedule: Items<Actor>,
 }
 
 /// Why a text is no input.

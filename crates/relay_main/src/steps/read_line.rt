@@ -1,12 +1,14 @@
 //! What a line of an input says.
 ghost use Rattle.std.specs.Prelude.{◌≡◌, IfOk};
-ghost use Rattle.relay_main.specs.LineForms.{line_of, publisher_call_of, seat_call_named, seat_line_of, parts_at, is_space};
+ghost use Rattle.base_syntax.specs.Cuts.{behind_first};
+ghost use Rattle.relay_main.specs.LineForms.{line_of, publisher_call_of, seat_call_named, seat_line_of, is_space};
 ghost use Rattle.std.specs.List.{before_first};
 
 use super::call_line::CallLine;
 use super::item::schedule;
 use super::line::Line;
-use super::parts::{behind, cut, number};
+use super::parts::{behind, number};
+use base_syntax::cut;
 use hex::FromHexError;
 use ring_steps::{Bytes, PublisherCall, SeatCall};
 use std::alloc::{AllocError, Global};
@@ -51,7 +53,7 @@ fn seat_call(name: &[u8]) -> Option<SeatCall>
 
 /// The call line of a seat: its number, one space and the call's name.
 fn seat_line(line: &[u8]) -> Option<Line>
-    ensures { result ≡ seat_line_of (before_first is_space line.now) (parts_at is_space line.now) }
+    ensures { result ≡ seat_line_of (before_first is_space line.now) (behind_first 32 line.now) }
 {
     let (seat, name) = cut(line, b' ');
     let name = name?;

@@ -38,8 +38,8 @@ fn run_plan(alloc: Global, plan: Plan) -> Result<Trace, StepFault>
 
 /// Reads an input, runs it, and makes the text of its trace.
 fn traced_text<R: Source>(alloc: Global, reader: &mut R) -> Result<Vec<u8>, StepsEnd>
-    ensures ok { IfOk result (λ text. IsTextOf R.incoming reader.old text.items) }
-    ensures early { IfErr result (EndsEarly R.incoming R.failed reader.old) }
+    ensures ok { IfOk result (λ text. IsTextOf R.incoming reader.old reader.new text.items) }
+    ensures early { IfErr result (EndsEarly R.incoming R.failed reader.old reader.new) }
 {
     let input = match read_all(alloc, reader) {
         Ok(input) => input,
@@ -67,15 +67,11 @@ fn traced_text<R: Source>(alloc: Global, reader: &mut R) -> Result<Vec<u8>, Step
 /// the trace.
 ///
 /// No byte is written before the whole text is made. So after `WriteFailed` a beginning of the text
-/// stands in the writer, and with another fault nothing does.
-pub fn run_steps<R: Source + Drop, W: Sink>(
-    alloc: Global,
-    mut reader: R,
-    writer: &mut W,
-) -> StepsEnd
-    ensures { StepsSo R.incoming R.failed W.written W.failed reader writer.old writer.new result }
+/// stands in the writer, and with another fault nothing does. The reader is left as far as it was read.
+pub fn run_steps<R: Source, W: Sink>(alloc: Global, reader: &mut R, writer: &mut W) -> StepsEnd
+    ensures { StepsSo R.incoming R.failed W.written W.failed reader.old reader.new writer.old writer.new result }
 {
-    match traced_text(alloc, &mut reader) {
+    match traced_text(alloc, reader) {
         Ok(text) => match write_all(writer, text.as_slice()) {
             Ok(()) => StepsEnd::Done,
             Err(_) => StepsEnd::WriteFailed,

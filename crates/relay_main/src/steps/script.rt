@@ -1,27 +1,27 @@
 //! The script that call lines make.
-ghost use Rattle.std.specs.Prelude.{◌≡◌, IfOk};
+ghost use Rattle.std.specs.Prelude.{◌≡◌, ◌≤◌, IfOk};
 ghost use Rattle.ring_steps.specs.Scripts.{calls_of};
 ghost use Rattle.relay_main.specs.Scripts.{publisher_calls, all_seats};
 
 use super::call_line::CallLine;
-use super::call_lines::CallLines;
-use super::seat_list::SeatTable;
+use super::seat_table::{put_call, table_of};
+use base_syntax::Items;
 use ring_steps::Script;
 use std::alloc::{AllocError, Global};
 
-/// The script of so many seats: each actor's calls in the order of its lines. The only error is want of
-/// memory.
-pub fn script_of(alloc: Global, seats: usize, lines: CallLines) -> Result<Script, AllocError>
+/// The script of so many seats, at most as many as a ring may have: each actor's calls in the order of its lines. The
+/// only error is want of memory.
+pub fn script_of(alloc: Global, seats: usize, lines: Items<CallLine>) -> Result<Script, AllocError>
+    requires { seats ≤ 1024 }
     ensures { IfOk result (λ script. calls_of script ≡ record { publisher = publisher_calls lines; seats = all_seats seats lines }) }
 {
     let mut publisher = Vec::new(alloc);
-    let mut table = SeatTable::new(alloc, seats)?;
+    let mut seats = table_of(alloc, seats)?;
     for line in lines.into_vec() {
         match line {
             CallLine::ByPublisher(call) => publisher.push(call)?,
-            CallLine::BySeat(seat, call) => table.push(seat, call)?,
+            CallLine::BySeat(seat, call) => put_call(&mut seats, seat, call)?,
         }
     }
-    let seats = table.into_calls(alloc)?;
     Ok(Script { publisher, seats })
 }

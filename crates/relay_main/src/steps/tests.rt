@@ -21,9 +21,9 @@ fn steps(
     fail_at: Option<usize>,
     room: usize,
 ) -> Result<(Vec<u8>, StepsEnd), Fail> {
-    let source = ListSource::new(Vec::from_slice(alloc, input)?, piece.max(1), fail_at);
+    let mut source = ListSource::new(Vec::from_slice(alloc, input)?, piece.max(1), fail_at);
     let mut sink = ListSink::new(alloc, room)?;
-    let end = run_steps(alloc, source, &mut sink);
+    let end = run_steps(alloc, &mut source, &mut sink);
     Ok((sink.into_vec(), end))
 }
 
@@ -326,4 +326,11 @@ fn a_million_steps(rt: HostRuntime) -> Result<(), Fail> {
     let last = b"@999999 p appended 99999\n".as_slice();
     assert!(rt; out.as_slice().ends_with(last));
     Ok(())
+}
+
+#[test]
+fn the_laws_are_called() {
+    super::laws::one_form();
+    super::laws::one_reading();
+    super::laws::one_trace();
 }

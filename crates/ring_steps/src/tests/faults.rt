@@ -73,6 +73,19 @@ fn bad_configs(rt: HostRuntime) {
     );
 }
 
+/// As many seats as the script has, but one more than a ring may have.
+#[test]
+fn too_many_seats(rt: HostRuntime) {
+    check_fault(
+        &rt,
+        rt.alloc(),
+        (1, 1025),
+        (b"A", &[""; 1025]),
+        "p",
+        (1, "bad config"),
+    );
+}
+
 #[test]
 fn bad_scripts(rt: HostRuntime) {
     check_fault(

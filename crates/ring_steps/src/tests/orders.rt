@@ -1,24 +1,22 @@
 //! Every interleaving of small scripts: the plain log answers the same in the order of acting steps.
 use super::super::*;
 use super::scripts::{answer_told, script};
-use cursor::{Answer, Call, Packet, Payload, PlainLog};
+use cursor::{Answer, Call, Packet, PlainLog};
 use std::alloc::Global;
 use std::process::Abort;
 
-/// The call that an event answers. A publish is the one with this number.
-fn call_of(rt: &impl Abort, alloc: Global, event: &TraceEvent, published: &[u8]) -> Call {
+/// The call that an event answers. A publish is of this byte.
+fn call_of(rt: &impl Abort, alloc: Global, event: &TraceEvent, byte: u8) -> Call {
     let seat = match event.actor {
         Actor::Seat(seat) => seat,
         Actor::P => 0,
     };
     match &event.answer {
-        Answer::Appended(number) => {
-            let place = *number as usize;
-            assert!(rt; place < published.len(), "a publish too many");
-            let bytes = Vec::from_slice(alloc, &[published[place]]).expect(rt, "memory");
+        Answer::Appended(_) => {
+            let bytes = Vec::from_slice(alloc, &[byte]).expect(rt, "memory");
             Call::Publish(Packet {
                 tag: 0,
-                bytes: Payload::new(bytes),
+                bytes: Bytes::new(bytes),
             })
         }
         Answer::Refused | Answer::Closed => Call::Close,
@@ -33,10 +31,16 @@ fn call_of(rt: &impl Abort, alloc: Global, event: &TraceEvent, published: &[u8])
 fn compare(rt: &impl Abort, alloc: Global, config: &Config, published: &[u8], trace: &Trace) {
     let mut calls = Vec::new(alloc);
     let mut wanted = Vec::new(alloc);
+    let mut publishes = published.iter();
     for event in &trace.events {
+        let byte = match event.actor {
+            Actor::P => publishes.next(),
+            Actor::Seat(_) => None,
+        };
         if !matches!(event.answer, Answer::Refused) {
+            let byte = byte.copied().unwrap_or(0);
             calls
-                .push(call_of(rt, alloc, event, published))
+                .push(call_of(rt, alloc, event, byte))
                 .expect(rt, "memory");
             wanted
                 .push(answer_told(alloc, &event.answer).expect(rt, "memory"))
@@ -58,7 +62,77 @@ fn compare(rt: &impl Abort, alloc: Global, config: &Config, published: &[u8], tr
     }
 }
 
-/// Tries each schedule of so many steps more, and answers how many runs there were.
+/// Whether an actor has a call that this run didn't answer.
+fn has_call(script: &Script, trace: &Trace, actor: Actor) -> bool {
+    let calls = match actor {
+        Actor::P => script.publisher.len(),
+        Actor::Seat(seat) => match script.seats.get(usize::from(seat)) {
+            Some(calls) => calls.as_slice().len(),
+            None => 0,
+        },
+    };
+    let mut answered = 0_u64;
+    for event in &trace.events {
+        if event.actor == actor {
+            answered = answered.saturating_add(1);
+        }
+    }
+    answered < calls as u64
+}
+
+/// How many of the runs that were tried answer every call; and how many of those have a refused publish,
+/// and a pin that failed.
+#[derive(Clone, Copy, Debug, PartialEq, Eq)]
+struct Tried {
+    whole: u64,
+    refused: u64,
+    failed: u64,
+}
+
+impl Tried {
+    fn with(self, more: Tried) -> Tried {
+        Tried {
+            whole: self.whole.saturating_add(more.whole),
+            refused: self.refused.saturating_add(more.refused),
+            failed: self.failed.saturating_add(more.failed),
+        }
+    }
+}
+
+/// Whether one of the events is a refused publish.
+fn refuses(trace: &Trace) -> bool {
+    for event in &trace.events {
+        if matches!(event.answer, Answer::Refused) {
+            return true;
+        }
+    }
+    false
+}
+
+/// Whether a seat took back its pin without a read.
+fn fails_a_pin(trace: &Trace) -> bool {
+    let mut pinned = false;
+    for step in &trace.steps {
+        if step.actor != Actor::P {
+            if pinned && matches!(step.saw, Observed::Unpin(_)) {
+                return true;
+            }
+            pinned = matches!(step.saw, Observed::Pin(_));
+        }
+    }
+    false
+}
+
+/// One run, which may be whole.
+fn one_run(trace: &Trace, whole: bool) -> Tried {
+    Tried {
+        whole: u64::from(whole),
+        refused: u64::from(whole && refuses(trace)),
+        failed: u64::from(whole && fails_a_pin(trace)),
+    }
+}
+
+/// Tries each order in which the actors may make so many steps more. None of these runs is refused.
 fn explore(
     rt: &impl Abort,
     alloc: Global,
@@ -66,27 +140,35 @@ fn explore(
     published: &[u8],
     so_far: &[Actor],
     left: u8,
-) -> u64 {
+) -> Tried {
     let config = Config {
         keep: 1,
         seats: script.seats.len() as u64,
     };
     let trace = match run(alloc, &config, script, so_far) {
         Ok(trace) => trace,
-        Err(_) => return 0,
+        Err(fault) => panic!(rt; "{fault}"),
     };
     compare(rt, alloc, &config, published, &trace);
+    let p = has_call(script, &trace, Actor::P);
+    let first = has_call(script, &trace, Actor::Seat(0));
+    let second = has_call(script, &trace, Actor::Seat(1));
+    let mut all = one_run(&trace, !p && !first && !second);
     if left == 0 {
-        return 1;
+        return all;
     }
-    let mut count = 1_u64;
-    for actor in [Actor::P, Actor::Seat(0), Actor::Seat(1)] {
-        let mut longer = Vec::from_slice(alloc, so_far).expect(rt, "memory");
-        longer.push(actor).expect(rt, "memory");
-        let more = explore(rt, alloc, script, published, longer.as_slice(), left - 1);
-        count = count.saturating_add(more);
+    for (actor, may) in [
+        (Actor::P, p),
+        (Actor::Seat(0), first),
+        (Actor::Seat(1), second),
+    ] {
+        if may {
+            let mut longer = Vec::from_slice(alloc, so_far).expect(rt, "memory");
+            longer.push(actor).expect(rt, "memory");
+            all = all.with(explore(rt, alloc, script, published, longer.as_slice(), left - 1));
+        }
     }
-    count
+    all
 }
 
 /// One seat that is passed by the publisher.
@@ -94,8 +176,18 @@ fn explore(
 fn publishes_and_a_take(rt: HostRuntime) {
     let alloc = rt.alloc();
     let calls = script(&rt, alloc, b"AB", &["at"]);
-    let runs = explore(&rt, alloc, &calls, b"AB", &[], 16);
-    assert!(&rt; runs > 3000, "{runs}");
+    let all = explore(&rt, alloc, &calls, b"AB", &[], 16);
+    assert_eq!(&rt; (all.whole, all.refused, all.failed), (1296, 0, 0));
+}
+
+/// A seat that the publisher overtakes and meets: a pin of its makes a publish fail, and a slot that is
+/// being written makes its pin fail.
+#[test]
+fn contention(rt: HostRuntime) {
+    let alloc = rt.alloc();
+    let calls = script(&rt, alloc, b"ABC", &["at"]);
+    let all = explore(&rt, alloc, &calls, b"ABC", &[], 21);
+    assert_eq!(&rt; (all.whole, all.refused, all.failed), (4471, 1000, 875));
 }
 
 /// An end, and a seat that comes back.
@@ -103,8 +195,8 @@ fn publishes_and_a_take(rt: HostRuntime) {
 fn close_and_return(rt: HostRuntime) {
     let alloc = rt.alloc();
     let calls = script(&rt, alloc, b"A.", &["atdat"]);
-    let runs = explore(&rt, alloc, &calls, b"A", &[], 20);
-    assert!(&rt; runs > 3000, "{runs}");
+    let all = explore(&rt, alloc, &calls, b"A", &[], 20);
+    assert_eq!(&rt; (all.whole, all.refused, all.failed), (762, 0, 0));
 }
 
 /// Two seats, one of which stays out.
@@ -112,6 +204,6 @@ fn close_and_return(rt: HostRuntime) {
 fn two_seats(rt: HostRuntime) {
     let alloc = rt.alloc();
     let calls = script(&rt, alloc, b"A", &["at", "ad"]);
-    let runs = explore(&rt, alloc, &calls, b"A", &[], 14);
-    assert!(&rt; runs > 3000, "{runs}");
+    let all = explore(&rt, alloc, &calls, b"A", &[], 14);
+    assert_eq!(&rt; (all.whole, all.refused, all.failed), (966, 0, 0));
 }

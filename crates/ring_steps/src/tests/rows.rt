@@ -1,7 +1,8 @@
 //! Schedules with the events that they must come to, and the steps at which these act.
 use super::super::*;
-use super::scripts::{check_events, schedule, script};
+use super::scripts::{check_events, event_told, publish, schedule, script};
 use super::told;
+use cursor::{Answer, Delivery};
 
 const KEEP_1: Config = Config { keep: 1, seats: 1 };
 
@@ -193,6 +194,75 @@ fn pinned_by_three(rt: HostRuntime) {
     );
 }
 
+/// Packets of 3, 0 and 1 bytes, the last in the slot of the first: each is taken with its own bytes.
+#[test]
+fn longer_and_shorter_packets(rt: HostRuntime) {
+    let alloc = rt.alloc();
+    let packets = [[1, 2, 3].as_slice(), [].as_slice(), [9].as_slice()];
+    let mut calls = script(&rt, alloc, b"", &["attt"]);
+    for bytes in packets {
+        calls
+            .publisher
+            .push(publish(&rt, alloc, bytes))
+            .expect(&rt, "memory");
+    }
+    let actors = schedule(&rt, alloc, "0ppppppp0000000pppp0000ppppp00000");
+    let trace = match run(alloc, &KEEP_1, &calls, actors.as_slice()) {
+        Ok(trace) => trace,
+        Err(fault) => panic!(&rt; "{fault}"),
+    };
+    let mut taken = 0;
+    for event in &trace.events {
+        if let Answer::Taken(answer) = &event.answer {
+            assert!(&rt; taken < packets.len(), "a take too many");
+            match answer {
+                Delivery::Got { number, packet } => {
+                    assert_eq!(&rt; *number, taken as u64);
+                    assert_eq!(&rt; packet.bytes.as_slice(), packets[taken]);
+                }
+                _ => assert!(&rt; false, "no packet"),
+            }
+            taken += 1;
+        }
+    }
+    assert_eq!(&rt; taken, packets.len());
+}
+
+/// The largest ring filled and wrapped by five packets: so many are lost, and the oldest that is kept is
+/// taken.
+#[test]
+fn largest_keep_wrapped(rt: HostRuntime) {
+    let alloc = rt.alloc();
+    let mut calls = script(&rt, alloc, b"", &["att"]);
+    let mut actors = schedule(&rt, alloc, "0");
+    for n in 0..4100_u64 {
+        let byte = (n % 251) as u8;
+        calls
+            .publisher
+            .push(publish(&rt, alloc, &[byte]))
+            .expect(&rt, "memory");
+        for _ in 0..5 {
+            actors.push(Actor::P).expect(&rt, "memory");
+        }
+    }
+    for _ in 0..6 {
+        actors.push(Actor::Seat(0)).expect(&rt, "memory");
+    }
+    let config = Config {
+        keep: 4095,
+        seats: 1,
+    };
+    let trace = match run(alloc, &config, &calls, actors.as_slice()) {
+        Ok(trace) => trace,
+        Err(fault) => panic!(&rt; "{fault}"),
+    };
+    assert_eq!(&rt; trace.events.len(), 4103);
+    let lost = event_told(alloc, &trace, &trace.events[4101]).expect(&rt, "memory");
+    assert_eq!(&rt; lost.as_str(), "@20501 0 lost 5");
+    let took = event_told(alloc, &trace, &trace.events[4102]).expect(&rt, "memory");
+    assert_eq!(&rt; took.as_str(), "@20502 0 took 5 5");
+}
+
 #[test]
 fn largest_keep(rt: HostRuntime) {
     let calls = script(&rt, rt.alloc(), b"A", &["at"]);
@@ -236,4 +306,49 @@ fn steps_of_a_run(rt: HostRuntime) {
         let line = format!(in alloc; "{} {saw}", step.actor).expect(&rt, "memory");
         assert_eq!(&rt; line.as_str(), wanted, "step {place}");
     }
+}
+
+#[test]
+fn the_laws_are_called() {
+    laws::empty_ring_is_sound();
+    laws::one_seat_more_is_sound();
+    laws::loads_keep_the_invariant();
+    laws::pin_keeps_the_invariant();
+    laws::unpin_keeps_the_invariant();
+    laws::reads_keep_the_invariant();
+    laws::begin_keeps_the_invariant();
+    laws::writes_keep_the_invariant();
+    laws::finish_keeps_the_invariant();
+    laws::append_keeps_the_invariant();
+    laws::close_keeps_the_invariant();
+    laws::steps_keep_the_invariant();
+    laws::nothing_falls();
+    laws::steps_change_their_own_view();
+    laws::seen_only_grows();
+    laws::held_slots_stay();
+    laws::refused_means_pins();
+    laws::holder_finds_its_packet();
+    laws::reads_in_place_change_nothing();
+    laws::reads_change_their_progress_alone();
+    laws::all_is_written_in_one_move();
+    laws::all_is_read_in_one_move();
+    laws::answers_are_log_events();
+    laws::runs_keep_the_invariant();
+    laws::steps_have_no_choice();
+    run_laws::acting_order_is_legal();
+    run_laws::acting_order_is_plain();
+    run_laws::players_receive_the_log();
+    run_laws::runs_have_no_choice();
+    run_laws::detachments_tell_their_account();
+    run_laws::calls_act_within_themselves();
+    run_laws::answered_calls_have_one_event();
+    run_laws::calls_make_few_atomic_steps();
+    run_laws::refused_publishes_met_pins();
+    bit_laws::pins_count_by_one();
+    bit_laws::begin_is_one_exchange();
+    bit_laws::finish_is_one_addition();
+    bit_laws::stores_of_the_head();
+    bit_laws::bits_tell_words_apart();
+    bit_laws::bits_are_read_in_one_way();
+    bit_laws::words_fit();
 }

@@ -6,7 +6,7 @@ use std::process::Abort;
 
 /// A publish of these bytes.
 pub(super) fn publish(rt: &impl Abort, alloc: Global, bytes: &[u8]) -> PublisherCall {
-    PublisherCall::Publish(Bytes::copied(alloc, bytes).expect(rt, "memory"))
+    PublisherCall::Publish(Bytes::from_slice(alloc, bytes).expect(rt, "memory"))
 }
 
 /// A script: each letter of `published` is a publish of this byte, and `.` is a close; each text of
@@ -84,7 +84,11 @@ pub(super) fn answer_told(alloc: Global, answer: &Answer) -> Result<String, Allo
 }
 
 /// An event as the command writes it. A refusal tells the pins that its step saw.
-fn event_told(alloc: Global, trace: &Trace, event: &TraceEvent) -> Result<String, AllocError> {
+pub(super) fn event_told(
+    alloc: Global,
+    trace: &Trace,
+    event: &TraceEvent,
+) -> Result<String, AllocError> {
     let told = answer_told(alloc, &event.answer)?;
     let told = told.as_str();
     let pins = match trace.steps.get(event.step) {

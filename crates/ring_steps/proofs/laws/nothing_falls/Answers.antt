@@ -1,8 +1,5 @@
-use Rattle.ring_steps.proofs.Growing.{seat_step_grows, publisher_step_grows}
+use Rattle.ring_steps.proofs.Stepping.{ring_step_grows}
 use Rattle.ring_steps.proofs.laws.nothing_falls.Goals as goal
 
-pub returns-clause-seat : goal.returns-clause-seat
-returns-clause-seat c = seat_step_grows
-
-pub returns-clause-publisher : goal.returns-clause-publisher
-returns-clause-publisher c = publisher_step_grows
+pub returns : goal.returns
+returns c = λ s by o is. ring_step_grows s by o is.step is.sound

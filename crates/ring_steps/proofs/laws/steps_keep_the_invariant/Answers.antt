@@ -1,8 +1,5 @@
-use Rattle.ring_steps.proofs.Keeping.{seat_step_keeps, publisher_step_keeps}
+use Rattle.ring_steps.proofs.Stepping.{ring_step_keeps}
 use Rattle.ring_steps.proofs.laws.steps_keep_the_invariant.Goals as goal
 
-pub returns-clause-seat : goal.returns-clause-seat
-returns-clause-seat c = seat_step_keeps
-
-pub returns-clause-publisher : goal.returns-clause-publisher
-returns-clause-publisher c = publisher_step_keeps
+pub returns : goal.returns
+returns c = λ s by o is. ring_step_keeps s by o is.step is.sound

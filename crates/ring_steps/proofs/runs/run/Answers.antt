@@ -9,7 +9,7 @@ use Rattle.ring_steps.proofs.EachOnce.{each_once}
 use Rattle.ring_steps.proofs.Located.{acts_within}
 use Rattle.ring_steps.proofs.Potential.{steps_few}
 use Rattle.ring_steps.proofs.Meeting.{turn_meets}
-use Rattle.ring_steps.proofs.History.{history_accounts, history_legal, plain_at}
+use Rattle.ring_steps.proofs.History.{history_accounts, history_legal, history_players, plain_at}
 use Rattle.ring_steps.proofs.Opening.{empty_keeps}
 use Rattle.ring_steps.proofs.Running.{ran_keeps}
 use Rattle.ring_steps.proofs.Turning.{ran_by}
@@ -41,11 +41,16 @@ returns-clause-accounts c = λ told.
     (let good = c.is_good_config.ensures.0 c.if-not-is_good_config.false in
     history_accounts (calls_of c.args.script.now) c.args.config.now.keep c.args.config.now.seats told.turns told.end good.low told.ran)
 
+pub returns-clause-players : goal.returns-clause-players
+returns-clause-players c = λ told.
+    (let good = c.is_good_config.ensures.0 c.if-not-is_good_config.false in
+    history_players (calls_of c.args.script.now) c.args.config.now.keep c.args.config.now.seats told.turns told.end good.low told.ran)
+
 pub returns-clause-events_once : goal.returns-clause-events_once
 returns-clause-events_once c = λ told. each_once (calls_of c.args.script.now) c.args.config.now.keep c.args.config.now.seats told.turns told.end told.ran
 
 pub returns-clause-events_within : goal.returns-clause-events_within
-returns-clause-events_within c = λ told. acts_within told.turns
+returns-clause-events_within c = λ told. acts_within (calls_of c.args.script.now) c.args.config.now.keep c.args.config.now.seats told.turns told.end told.ran
 
 pub returns-clause-few_steps : goal.returns-clause-few_steps
 returns-clause-few_steps c = λ told. steps_few (calls_of c.args.script.now) (start c.args.config.now.keep c.args.config.now.seats) told.turns told.end told.ran

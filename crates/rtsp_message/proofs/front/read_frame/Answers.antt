@@ -14,5 +14,5 @@ split_at-requires c = frame_has_head c.args.bytes.now c.in-Whole.len c.in-Whole.
 pub returns : goal.returns
 returns c =
     let begins = c.in-Whole.ensures.stands in
-    let payload = c.new-payload.ensures ∙ c.in_ok-from_slice.ensures.items ∙ c.split_at.ensures.back in
-    (begins.0, frame_parts c.args.bytes.now c.in-Whole.len c.new-payload.result begins payload)
+    let payload = c.in_ok-payload.ensures ∙ c.split_at.ensures.back in
+    (begins.0, frame_parts c.args.bytes.now c.in-Whole.len c.in_ok-payload.payload begins payload)

@@ -1,7 +1,7 @@
 use Rattle.std.proofs.Common.{◌≡◌}
 use Rattle.std.specs.List.{list_any}
 use Rattle.std.specs.Option.{option_copied}
-use Rattle.transport_header.specs.Text.{parts, rest_parts, rest_size}
+use Rattle.base_syntax.specs.Quotes.{parts, rest_parts, rest_size}
 use Rattle.transport_header.specs.Transport.{asks_record}
 use Rattle.transport_header.proofs.parameter.has_record.Given as goal
 

@@ -1,6 +1,7 @@
 use Rattle.std.proofs.Common.{◌≡◌, map}
 use Rattle.std.specs.Option.{option_copied}
-use Rattle.transport_header.specs.Text.{trimmed, rest_parts, rest_size}
+use Rattle.base_syntax.specs.Blanks.{trimmed}
+use Rattle.base_syntax.specs.Quotes.{rest_parts, rest_size}
 use Rattle.transport_header.specs.Transport.{value_named}
 use Rattle.transport_header.proofs.parameter.parameter.Given as goal
 

@@ -1,6 +1,6 @@
 use Rattle.std.proofs.Common.{◌≡◌, ◌++◌, map}
 use Rattle.std.specs.Option.{option_copied}
-use Rattle.transport_header.specs.Text.{rest_parts, rest_size}
+use Rattle.base_syntax.specs.Quotes.{rest_parts, rest_size}
 use Rattle.transport_header.specs.Transport.{spec_of, specs_of}
 use Rattle.transport_header.proofs.read.read_transport.Given as goal
 

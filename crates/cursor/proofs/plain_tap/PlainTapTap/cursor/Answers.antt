@@ -1,6 +1,6 @@
 use Rattle.std.proofs.Common.{◌∙◌, sym, ap}
 use Rattle.cursor.specs.Account.{cursor_of}
-use Rattle.cursor.specs.Counting.{tapped_account_is}
+use Rattle.cursor.proofs.Counting.{tapped_account_is}
 use Rattle.cursor.specs.Plain.{Tapped}
 use Rattle.cursor.proofs.plain_tap.PlainTapTap.cursor.Goals as goal
 

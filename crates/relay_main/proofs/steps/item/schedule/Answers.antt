@@ -6,7 +6,7 @@ use Rattle.relay_main.proofs.steps.item.schedule.Goals as goal
 
 pub returns-in_default-item : goal.returns-in_default-item
 returns-in_default-item c =
-    bad_item c.in-Some.text.now c.cut.result.0.now (option_copied c.cut.result.1) c.loop-rest.invariant (ap (λ o. option_copied o) c.in-Some.is) c.cut.ensures.before c.cut.ensures.after c.in_default-item.ensures.bad
+    bad_item c.in-Some.text.now c.cut.result.0.now (option_copied c.cut.result.1) c.loop-rest.invariant (ap (λ o. option_copied o) c.in-Some.is) c.cut.ensures.before c.cut.ensures.behind c.in_default-item.ensures.bad
 
 pub returns-then-len-times-gt-MOST_STEPS : goal.returns-then-len-times-gt-MOST_STEPS
 returns-then-len-times-gt-MOST_STEPS c =
@@ -14,16 +14,16 @@ returns-then-len-times-gt-MOST_STEPS c =
     let actor = c.in-Some-item.actor in
     let times = c.in-Some-item.times in
     let long : 1000000 < length (steps ++ replicate times actor) = omega (arith, length-append steps (replicate times actor), length-replicate times actor, c.len.ensures, c.if-len-times-gt-MOST_STEPS.true) in
-    too_many c.in-Some.text.now c.cut.result.0.now (option_copied c.cut.result.1) actor times c.loop-rest.invariant (ap (λ o. option_copied o) c.in-Some.is) c.cut.ensures.before c.cut.ensures.after c.in-Some-item.ensures.read long
+    too_many c.in-Some.text.now c.cut.result.0.now (option_copied c.cut.result.1) actor times c.loop-rest.invariant (ap (λ o. option_copied o) c.in-Some.is) c.cut.ensures.before c.cut.ensures.behind c.in-Some-item.ensures.read long
 
 pub loop-rest-preserved : goal.loop-rest-preserved
 loop-rest-preserved c =
     let steps = c.loop-rest.schedule in
     let actor = c.in-Some-item.actor in
     let times = c.in-Some-item.times in
-    let pushed : c.extend.new.self ≡ steps ++ replicate times actor = c.in_ok-extend.ensures in
-    let few : length c.extend.new.self ≤ 1000000 = omega (arith, ap length pushed, length-append steps (replicate times actor), length-replicate times actor, c.len.ensures, c.if-len-times-gt-MOST_STEPS.false) in
-    one_item c.in-Some.text.now c.cut.result.0.now (option_copied c.cut.result.1) actor times c.loop-rest.invariant (ap (λ o. option_copied o) c.in-Some.is) c.cut.ensures.before c.cut.ensures.after c.in-Some-item.ensures.read pushed few
+    let pushed : c.add_steps.new.schedule ≡ steps ++ replicate times actor = c.in_ok-add_steps.ensures in
+    let few : length c.add_steps.new.schedule ≤ 1000000 = omega (arith, ap length pushed, length-append steps (replicate times actor), length-replicate times actor, c.len.ensures, c.if-len-times-gt-MOST_STEPS.false) in
+    one_item c.in-Some.text.now c.cut.result.0.now (option_copied c.cut.result.1) actor times c.loop-rest.invariant (ap (λ o. option_copied o) c.in-Some.is) c.cut.ensures.before c.cut.ensures.behind c.in-Some-item.ensures.read pushed few
 
 pub returns : goal.returns
 returns c = all_read c.loop-rest.invariant (ap (λ o. option_copied o) c.in_default.is)

@@ -8,7 +8,6 @@ returns-in-Ok-put_trace-clause-ok g c =
     let plan = c.in-Ok-read_plan.plan in
     let trace = c.in-Ok-run_plan.trace in
     record {
-      last = c.read_all.new.reader;
       input = c.in-Ok.input.items;
       trace = trace;
       whole = c.in-Ok.ensures.ok;

@@ -5,7 +5,7 @@ use Rattle.relay_main.proofs.Sorting.{one_out, publisher_calls-push, publisher_c
 use Rattle.relay_main.proofs.steps.script.script_of.Goals as goal
 
 pub loop-line-init : goal.loop-line-init
-loop-line-init c = record { going = search rules; publisher = search rules; table = c.in_ok-table.ensures ∙ all_seats-none c.args.seats }
+loop-line-init c = record { going = search rules; publisher = search rules; table = c.in_ok-seats.ensures ∙ all_seats-none c.args.seats }
 
 pub loop-line-preserved-in-Continue-branch-2 : goal.loop-line-preserved-in-Continue-branch-2
 loop-line-preserved-in-Continue-branch-2 c =
@@ -25,5 +25,5 @@ loop-line-preserved c =
     record {
       going = one_out c.in-Some.line (into_iter_items c.next.new.self) (into_iter_len c.next.new.self) old.going c.in-Some.ensures.steps.0 c.in-Some.ensures.steps.1;
       publisher = rw c.in-BySeat.is (old.publisher ∙ sym (publisher_calls-seat c.loop-line.yielded seat call));
-      table = rw c.in-BySeat.is (c.in_ok-push-in-BySeat.ensures ∙ ap (λ t. put_call t seat call) old.table ∙ sym (all_seats-seat c.args.seats c.loop-line.yielded seat call));
+      table = rw c.in-BySeat.is (c.in_ok-put_call-in-BySeat.ensures ∙ ap (λ t. put_call t seat call) old.table ∙ sym (all_seats-seat c.args.seats c.loop-line.yielded seat call));
     }

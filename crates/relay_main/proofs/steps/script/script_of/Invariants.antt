@@ -9,5 +9,5 @@ abbrev pub invariant-loop-line : goal.invariant-loop-line
 invariant-loop-line l = record {
   going : Going l.fn.lines l.yielded (into_iter_items l.line-iterator) (into_iter_len l.line-iterator);
   publisher : l.publisher.items ≡ publisher_calls l.yielded;
-  table : l.table ≡ all_seats l.fn.seats l.yielded;
+  table : l.seats.items ≡ all_seats l.fn.seats l.yielded;
 }

@@ -1,0 +1,143 @@
+//! Each answer is written before more is read. No contract says this of the two devices of a talk, so it is tried.
+use crate::talk::{TalkEnd, run_talk};
+use crate::words::FixedWord;
+use interleaved::{ListSink, ListSource, Reading, Source, Writing};
+use rtsp_message::Fault;
+use std::cell::Cell;
+use std::io;
+use std::io::{Read, Write};
+use std::test::Fail;
+
+const OPTIONS: &[u8] = b"OPTIONS * RTSP/1.0\r\nCSeq: 1\r\n\r\n";
+
+/// What comes in, one piece a read, and how often it was read and written.
+#[derive(Drop)]
+struct Wire<'a> {
+    pieces: &'a [&'a [u8]],
+    reads: Cell<usize>,
+    writes: Cell<usize>,
+    /// A read came while an answer to a piece was due.
+    late: Cell<bool>,
+}
+
+#[derive(Drop)]
+struct Asking<'a> {
+    wire: &'a Wire<'a>,
+}
+
+impl Read for Asking<'_> {
+    fn read(&mut self, buf: &mut [u8]) -> io::Result<usize> {
+        let reads = self.wire.reads.get();
+        self.wire.reads.set(reads.saturating_add(1));
+        if self.wire.writes.get() < reads.min(self.wire.pieces.len()) {
+            self.wire.late.set(true);
+        }
+        match self.wire.pieces.get(reads) {
+            Some(piece) if piece.len() <= buf.len() => {
+                buf[..piece.len()].copy_from_slice(piece);
+                Ok(piece.len())
+            }
+            _ => Ok(0),
+        }
+    }
+}
+
+/// Takes each answer whole, so that a write is an answer.
+#[derive(Drop)]
+struct Answered<'a> {
+    wire: &'a Wire<'a>,
+}
+
+impl Write for Answered<'_> {
+    fn write(&mut self, buf: &[u8]) -> io::Result<usize> {
+        let writes = self.wire.writes.get();
+        self.wire.writes.set(writes.saturating_add(1));
+        Ok(buf.len())
+    }
+
+    fn flush(&mut self) -> io::Result<()> {
+        Ok(())
+    }
+}
+
+#[test]
+fn an_answer_is_written_before_more_is_read(rt: HostRuntime) -> Result<(), Fail> {
+    let rows = [
+        ([OPTIONS, OPTIONS, OPTIONS], TalkEnd::Done, 4),
+        (
+            // Behind a fault nothing is read.
+            [OPTIONS, OPTIONS, b"HELLO\r\n"],
+            TalkEnd::StreamFault(Fault::BadLine),
+            3,
+        ),
+    ];
+    for (pieces, want, reads) in rows {
+        let wire = Wire {
+            pieces: pieces.as_slice(),
+            reads: Cell::new(0),
+            writes: Cell::new(0),
+            late: Cell::new(false),
+        };
+        let reader = Reading::new(Asking { wire: &wire });
+        let mut writer = Writing::new(Answered { wire: &wire });
+        let (end, _reader) = run_talk(rt.alloc(), reader, &mut writer, &mut FixedWord(0));
+        assert!(rt; end == want);
+        assert_eq!(rt; (wire.reads.get(), wire.writes.get()), (reads, 3));
+        assert!(rt; !wire.late.get());
+    }
+    Ok(())
+}
+
+#[test]
+fn nothing_is_read_behind_a_failed_write(rt: HostRuntime) -> Result<(), Fail> {
+    let alloc = rt.alloc();
+    let mut input = Vec::from_slice(alloc, OPTIONS)?;
+    input.extend_from_slice(OPTIONS)?;
+    let source = ListSource::new(input, OPTIONS.len(), None);
+    let mut sink = ListSink::new(alloc, 0)?;
+    let (end, last) = run_talk(alloc, source, &mut sink, &mut FixedWord(0));
+    assert!(rt; end == TalkEnd::WriteFailed);
+    assert_eq!(rt; last.left(), OPTIONS.len() as u64);
+    Ok(())
+}
+
+#[test]
+fn a_request_of_many_fields_with_a_body(rt: HostRuntime) -> Result<(), Fail> {
+    let alloc = rt.alloc();
+    let mut input = Vec::from_slice(
+        alloc,
+        b"OPTIONS * RTSP/1.0\r\nCSeq: 1\r\nUser-Agent: x\r\nRequire: a\r\nRequire: b\r\nDate: c\r\nContent-Length: 1000\r\n\r\n",
+    )?;
+    input.extend_from_slice(Vec::from_elem(alloc, b'b', 1000)?.as_slice())?;
+    let source = ListSource::new(input, 100, None);
+    let mut sink = ListSink::new(alloc, 1000)?;
+    let (end, _last) = run_talk(alloc, source, &mut sink, &mut FixedWord(0));
+    assert!(rt; end == TalkEnd::Done);
+    assert!(rt;
+        sink.bytes()
+            .starts_with(b"RTSP/1.0 200 OK\r\nCSeq: 1\r\nPublic: ")
+    );
+    Ok(())
+}
+
+#[test]
+fn options_cut_in_two_at_each_place(rt: HostRuntime) -> Result<(), Fail> {
+    for place in 0..OPTIONS.len() {
+        let whole = OPTIONS[..place].chain(&OPTIONS[place..]);
+        let mut out = Vec::new(rt.alloc());
+        let mut writer = Writing::new(&mut out);
+        let (end, _reader) = run_talk(
+            rt.alloc(),
+            Reading::new(whole),
+            &mut writer,
+            &mut FixedWord(0),
+        );
+        assert!(rt; end == TalkEnd::Done);
+        assert!(rt;
+            out.as_slice()
+                .starts_with(b"RTSP/1.0 200 OK\r\nCSeq: 1\r\nPublic: "),
+            "{place}"
+        );
+    }
+    Ok(())
+}

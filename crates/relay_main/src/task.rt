@@ -1,0 +1,69 @@
+//! What a command line asks for, and doing it over any source and sink.
+ghost use Rattle.std.specs.Prelude.{◌≡◌, IfOk, OnErr, string_bytes};
+ghost use Rattle.std.specs.Process.{exit_status};
+ghost use Rattle.relay_main.specs.Tasks.{Does, IsDone, task_of};
+
+use crate::steps::{run_steps, steps_end};
+use crate::talk::{run_talk, talk_end};
+use crate::words::Words;
+use interleaved::{Sink, Source};
+use std::alloc::{AllocError, Global};
+use std::process::ExitCode;
+
+/// What an accepted command line asks for.
+#[derive(Clone, Copy, Debug, PartialEq, Eq)]
+pub enum Task {
+    /// `relay talk`: one connection is answered.
+    Talk,
+    /// `relay steps`: a ring's schedule is run.
+    Steps,
+}
+
+/// The task that a command's name means. `None` where the program has no such command.
+pub fn task_named(name: &str) -> Option<Task>
+    ensures { result ≡ task_of name.now }
+{
+    match name {
+        "talk" => Some(Task::Talk),
+        "steps" => Some(Task::Steps),
+        _ => None,
+    }
+}
+
+/// How a task ended: the exit status, and the line for standard error, which is empty at status 0.
+#[derive(Debug, Drop)]
+pub struct Ended {
+    pub status: u8,
+    pub line: String,
+}
+
+/// Does a task over this source and this sink. The only error is want of memory for the line, with the task done.
+pub fn run_task<R: Source + Drop, W: Sink, V: Words>(
+    alloc: Global,
+    task: Task,
+    mut reader: R,
+    writer: &mut W,
+    words: &mut V,
+) -> Result<Ended, AllocError>
+    ensures ok { IfOk result (λ ended. Does R.incoming R.failed W.written W.failed task reader writer.old writer.new ended.status (string_bytes ended.line)) }
+    ensures err { OnErr result (IsDone R.incoming R.failed W.written W.failed task reader writer.old writer.new) }
+{
+    let (status, line) = match task {
+        Task::Talk => {
+            let (end, _last) = run_talk(alloc, reader, writer, words);
+            talk_end(alloc, &end)?
+        }
+        Task::Steps => {
+            let end = run_steps(alloc, &mut reader, writer);
+            steps_end(alloc, &end)?
+        }
+    };
+    Ok(Ended { status, line })
+}
+
+/// The exit code that tells a status.
+pub fn exit_code(status: u8) -> ExitCode
+    ensures { exit_status result ≡ status }
+{
+    ExitCode::from(status)
+}

@@ -1,5 +1,0 @@
-use Rattle.ring_steps.proofs.Located.{acts_within}
-use Rattle.ring_steps.proofs.run_laws.calls_act_at_their_own_steps.Goals as goal
-
-pub returns : goal.returns
-returns c = acts_within

@@ -1,6 +1,0 @@
-use Rattle.transport_header.proofs.Parts.{PartsAt}
-use Rattle.transport_header.proofs.text.part_len.Given as goal
-
--- the first part begins with the bytes so far
-abbrev pub invariant-loop-i : goal.invariant-loop-i
-invariant-loop-i l = PartsAt l.separator l.text l.i l.quoted
