@@ -252,27 +252,58 @@ fn two_seats_at_different_places(rt: HostRuntime) -> Result<(), Fail> {
     )
 }
 
+/// A tap of the one seat of a log, attached before each of these bytes was published as a packet, so many times.
+fn tap_behind(alloc: Global, keep: u64, packets: &[&[u8]], times: usize) -> Result<PlainTap, Fail> {
+    let mut log = PlainLog::new(alloc, keep, 1, 65_535)?;
+    log.attach(0);
+    for _ in 0..times {
+        for bytes in packets {
+            publish(&mut log, bytes)?;
+        }
+    }
+    if log.is_attached(0) {
+        Ok(PlainTap::new(log, 0))
+    } else {
+        Err("a seat that is attached".into())
+    }
+}
+
+/// Publishes a packet with tag 1.
+fn publish(log: &mut PlainLog, bytes: &[u8]) -> Result<(), Fail> {
+    if log.is_closed() {
+        return Err("an open log".into());
+    }
+    let _ = log.publish(1, bytes)?;
+    Ok(())
+}
+
+/// Pumps at most so many packets.
+fn pumped<T: Tap>(
+    alloc: Global,
+    tap: &mut T,
+    count: u64,
+    out: &mut Vec<Packet>,
+) -> Result<Account, Fail> {
+    match pump(alloc, tap, count, out) {
+        Ok(account) => Ok(account),
+        Err(_) => Err("room for a packet".into()),
+    }
+}
+
 #[test]
 fn nothing_is_lost_of_what_is_kept(rt: HostRuntime) -> Result<(), Fail> {
     let alloc = rt.alloc();
+    let mut buf = Vec::from_elem(alloc, 0, 65_535)?;
     for (keep, lost) in [(1, 4095), (4095, 1)] {
-        let mut log = PlainLog::new(alloc, keep, 1, 0)?;
-        log.attach(0);
-        for _ in 0..4096 {
-            assert!(rt; !log.is_closed());
-            let _ = log.publish(1, &[])?;
-        }
-        assert!(rt; log.is_attached(0) && log.packet_bytes() == 0);
-        let mut tap = PlainTap::new(log, 0);
-        assert_eq!(rt; tap.take(&mut []), Taken::Lost(lost));
-        assert_eq!(rt;
-            tap.take(&mut []),
-            Taken::Packet {
-                number: lost,
-                tag: 1,
-                len: 0
-            }
-        );
+        let mut tap = tap_behind(alloc, keep, &[b""], 4096)?;
+        assert_eq!(rt; tap.packet_bytes(), buf.len());
+        assert_eq!(rt; tap.take(&mut buf), Taken::Lost(lost));
+        let next = Taken::Packet {
+            number: lost,
+            tag: 1,
+            len: 0,
+        };
+        assert_eq!(rt; tap.take(&mut buf), next);
     }
     Ok(())
 }
@@ -293,69 +324,70 @@ fn a_feed_takes_packets_up_to_its_bound(rt: HostRuntime) -> Result<(), Fail> {
     let (short, long) = publish_two(&mut feed, &[1, 2, 3], &[1, 2, 3, 4]);
     assert_eq!(rt; short?, 0);
     assert_eq!(rt; long.map_or_else(Refused::number, |_| 0), 2);
-    let mut log = feed.into_log();
-    assert!(rt; log.is_free(0));
-    log.attach(0);
-    log.close();
-    assert!(rt; log.is_attached(0));
-    let left = log.detach(0);
-    assert_eq!(rt; (left.taken, left.lost, left.left), (0, 0, 0));
+    let log = feed.into_log();
+    assert!(rt; log.is_free(0) && !log.is_closed());
+    Ok(())
+}
+
+#[test]
+fn a_feed_is_closed(rt: HostRuntime) -> Result<(), Fail> {
     PlainFeed::new(PlainLog::new(rt.alloc(), 2, 0, 3)?).close();
     Ok(())
 }
 
 #[test]
 fn a_pumped_packet_keeps_no_more_room_than_its_bytes(rt: HostRuntime) -> Result<(), Fail> {
-    let alloc = rt.alloc();
-    let mut log = PlainLog::new(alloc, 2, 1, 65_535)?;
-    log.attach(0);
-    assert!(rt; !log.is_closed());
-    let _ = log.publish(0, b"abc")?;
-    assert!(rt; log.is_attached(0));
-    let mut tap = PlainTap::new(log, 0);
-    let mut out = Vec::new(alloc);
-    let _ = pump(alloc, &mut tap, 1, &mut out).map_err(|stopped| stopped.takes)?;
-    let packet = out.pop().ok_or("no packet")?;
-    let bytes = packet.bytes.into_vec();
+    let mut tap = tap_behind(rt.alloc(), 2, &[b"abc"], 1)?;
+    let mut out = Vec::new(rt.alloc());
+    let _ = pumped(rt.alloc(), &mut tap, 1, &mut out)?;
+    let bytes = out.pop().ok_or("a packet")?.bytes.into_vec();
     assert_eq!(rt; bytes.as_slice(), b"abc".as_slice());
     assert!(rt; bytes.capacity() <= 3);
     Ok(())
 }
 
+/// The bytes of these packets, one after another.
+fn joined(alloc: Global, packets: &[Packet]) -> Result<Vec<u8>, Fail> {
+    let mut bytes = Vec::new(alloc);
+    for packet in packets {
+        bytes.extend_from_slice(packet.bytes.as_slice())?;
+    }
+    Ok(bytes)
+}
+
 #[test]
 fn a_pump_takes_up_to_the_end(rt: HostRuntime) -> Result<(), Fail> {
-    let alloc = rt.alloc();
-    let mut log = PlainLog::new(alloc, 2, 1, 1)?;
-    log.attach(0);
-    for byte in [65, 66, 67] {
-        assert!(rt; !log.is_closed());
-        let _ = log.publish(0, &[byte])?;
-    }
-    assert!(rt; log.is_attached(0));
-    let mut tap = PlainTap::new(log, 0);
-    let mut out = Vec::new(alloc);
-    let account = pump(alloc, &mut tap, 9, &mut out).map_err(|stopped| stopped.takes)?;
+    let mut tap = tap_behind(rt.alloc(), 2, &[b"A", b"B", b"C"], 1)?;
+    let mut out = Vec::new(rt.alloc());
+    let account = pumped(rt.alloc(), &mut tap, 9, &mut out)?;
+    assert_eq!(rt; (account.start, account.taken, account.lost), (0, 2, 1));
+    assert_eq!(rt; (tap.cursor(), tap.account()), (3, account));
     assert_eq!(rt;
-        account,
-        Account {
-            start: 0,
-            taken: 2,
-            lost: 1
-        }
+        joined(rt.alloc(), out.as_slice())?.as_slice(),
+        b"BC".as_slice()
     );
-    assert_eq!(rt; out.len(), 2);
-    assert_eq!(rt; out[0].bytes.as_slice(), [66].as_slice());
-    assert_eq!(rt; out[1].bytes.as_slice(), [67].as_slice());
-    assert_eq!(rt; tap.cursor(), 3);
-    let log = tap.into_log();
-    assert!(rt; log.is_attached(0));
-    assert_eq!(rt; log.account(0), account);
     Ok(())
 }
 
 #[test]
-fn a_list_is_taken_and_then_ended(rt: HostRuntime) -> Result<(), Fail> {
-    let alloc = rt.alloc();
+fn an_account_is_told(rt: HostRuntime) -> Result<(), Fail> {
+    let log = tap_behind(rt.alloc(), 2, &[b"A"], 3)?.into_log();
+    assert!(rt; log.is_attached(0));
+    assert_eq!(rt; log.account(0).cursor(), 0);
+    Ok(())
+}
+
+#[test]
+fn a_pump_of_many_packets(rt: HostRuntime) -> Result<(), Fail> {
+    let mut tap = tap_behind(rt.alloc(), 4096, &[b"ab"], 1000)?;
+    let mut out = Vec::new(rt.alloc());
+    let account = pumped(rt.alloc(), &mut tap, 2000, &mut out)?;
+    assert_eq!(rt; (account.taken, account.lost, out.len()), (1000, 0, 1000));
+    Ok(())
+}
+
+/// A tap over packet 3, a loss of four, packet 8, and nothing more to take.
+fn listed(alloc: Global) -> Result<ListTap, Fail> {
     let mut list = Vec::with_capacity(alloc, 4)?;
     list.push(Delivery::Got {
         number: 3,
@@ -367,27 +399,19 @@ fn a_list_is_taken_and_then_ended(rt: HostRuntime) -> Result<(), Fail> {
         packet: packet(alloc, &[1])?,
     })?;
     list.push(Delivery::Empty)?;
-    let mut tap = ListTap::new(list, 3, 2);
-    assert_eq!(rt; tap.packet_bytes(), 2);
-    let mut out = Vec::new(alloc);
-    let mut accounts = Vec::with_capacity(alloc, 2)?;
-    // three takes, then up to the `Empty`
-    accounts.push(pump(alloc, &mut tap, 3, &mut out).map_err(|stopped| stopped.takes)?)?;
-    accounts.push(pump(alloc, &mut tap, 9, &mut out).map_err(|stopped| stopped.takes)?)?;
-    for account in accounts {
-        assert_eq!(rt;
-            account,
-            Account {
-                start: 3,
-                taken: 2,
-                lost: 4
-            }
-        );
-    }
-    assert_eq!(rt; out.len(), 2);
-    let mut buf = [0; 2];
-    assert_eq!(rt; tap.take(&mut buf), Taken::Ended);
-    assert_eq!(rt; tap.cursor(), 9);
+    Ok(ListTap::new(list, 3, 2))
+}
+
+#[test]
+fn a_list_is_taken_and_then_ended(rt: HostRuntime) -> Result<(), Fail> {
+    let mut tap = listed(rt.alloc())?;
+    let mut out = Vec::new(rt.alloc());
+    // Three takes, and then up to the `Empty`.
+    let first = pumped(rt.alloc(), &mut tap, 3, &mut out)?;
+    let second = pumped(rt.alloc(), &mut tap, 9, &mut out)?;
+    assert_eq!(rt; (first.taken, first.lost, second), (2, 4, first));
+    assert_eq!(rt; (tap.packet_bytes(), tap.cursor()), (2, 9));
+    assert_eq!(rt; tap.take(&mut [0; 2]), Taken::Ended);
     Ok(())
 }
 
@@ -405,24 +429,6 @@ fn a_refusal_has_its_number_and_words(rt: HostRuntime) -> Result<(), Fail> {
         assert_eq!(rt; written.as_str(), text);
         assert_eq!(rt; refused.number(), number);
     }
-    Ok(())
-}
-
-#[test]
-fn a_pump_of_many_packets(rt: HostRuntime) -> Result<(), Fail> {
-    let alloc = rt.alloc();
-    let mut log = PlainLog::new(alloc, 4096, 1, 2)?;
-    log.attach(0);
-    for _ in 0..1000 {
-        assert!(rt; !log.is_closed());
-        let _ = log.publish(0, b"ab")?;
-    }
-    assert!(rt; log.is_attached(0));
-    let mut tap = PlainTap::new(log, 0);
-    let mut out = Vec::new(alloc);
-    let account = pump(alloc, &mut tap, 2000, &mut out).map_err(|stopped| stopped.takes)?;
-    assert_eq!(rt; (account.taken, account.lost), (1000, 0));
-    assert_eq!(rt; out.len(), 1000);
     Ok(())
 }
 

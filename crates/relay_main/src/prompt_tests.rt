@@ -3,6 +3,7 @@ use crate::talk::{TalkEnd, run_talk};
 use crate::words::FixedWord;
 use interleaved::{ListSink, ListSource, Reading, Source, Writing};
 use rtsp_message::Fault;
+use std::alloc::Global;
 use std::cell::Cell;
 use std::io;
 use std::io::{Read, Write};
@@ -101,43 +102,40 @@ fn nothing_is_read_behind_a_failed_write(rt: HostRuntime) -> Result<(), Fail> {
     Ok(())
 }
 
-#[test]
-fn a_request_of_many_fields_with_a_body(rt: HostRuntime) -> Result<(), Fail> {
-    let alloc = rt.alloc();
+/// A request of many fields, with a body of 1,000 bytes.
+fn long_request(alloc: Global) -> Result<Vec<u8>, Fail> {
     let mut input = Vec::from_slice(
         alloc,
         b"OPTIONS * RTSP/1.0\r\nCSeq: 1\r\nUser-Agent: x\r\nRequire: a\r\nRequire: b\r\nDate: c\r\nContent-Length: 1000\r\n\r\n",
     )?;
-    input.extend_from_slice(Vec::from_elem(alloc, b'b', 1000)?.as_slice())?;
-    let source = ListSource::new(input, 100, None);
-    let mut sink = ListSink::new(alloc, 1000)?;
-    let (end, _last) = run_talk(alloc, source, &mut sink, &mut FixedWord(0));
-    assert!(rt; end == TalkEnd::Done);
-    assert!(rt;
-        sink.bytes()
+    for _ in 0..1000 {
+        input.push(b'b')?;
+    }
+    Ok(input)
+}
+
+/// Whether a talk ends well, and with an answer to OPTIONS.
+fn is_answered<R: Read + Drop>(alloc: Global, reader: R) -> bool {
+    let mut out = Vec::new(alloc);
+    let mut writer = Writing::new(&mut out);
+    let (end, _reader) = run_talk(alloc, Reading::new(reader), &mut writer, &mut FixedWord(0));
+    end == TalkEnd::Done
+        && out
+            .as_slice()
             .starts_with(b"RTSP/1.0 200 OK\r\nCSeq: 1\r\nPublic: ")
-    );
+}
+
+#[test]
+fn a_request_of_many_fields_with_a_body(rt: HostRuntime) -> Result<(), Fail> {
+    let input = long_request(rt.alloc())?;
+    assert!(rt; is_answered(rt.alloc(), input.as_slice()));
     Ok(())
 }
 
 #[test]
-fn options_cut_in_two_at_each_place(rt: HostRuntime) -> Result<(), Fail> {
+fn options_cut_in_two_at_each_place(rt: HostRuntime) {
     for place in 0..OPTIONS.len() {
         let whole = OPTIONS[..place].chain(&OPTIONS[place..]);
-        let mut out = Vec::new(rt.alloc());
-        let mut writer = Writing::new(&mut out);
-        let (end, _reader) = run_talk(
-            rt.alloc(),
-            Reading::new(whole),
-            &mut writer,
-            &mut FixedWord(0),
-        );
-        assert!(rt; end == TalkEnd::Done);
-        assert!(rt;
-            out.as_slice()
-                .starts_with(b"RTSP/1.0 200 OK\r\nCSeq: 1\r\nPublic: "),
-            "{place}"
-        );
+        assert!(rt; is_answered(rt.alloc(), whole), "{place}");
     }
-    Ok(())
 }

@@ -14,18 +14,28 @@ const OPTIONS: &[u8] = b"OPTIONS * RTSP/1.0\r\nCSeq: 1\r\n\r\n";
 const OPTIONS_REPLY: &[u8] =
     b"RTSP/1.0 200 OK\r\nCSeq: 1\r\nPublic: OPTIONS, DESCRIBE, ANNOUNCE, SETUP, PLAY, PAUSE, RECORD, TEARDOWN, GET_PARAMETER\r\n\r\n";
 
-/// What is written for this input, read at most so many bytes at a time, and how the talk ends.
-fn talk(
-    alloc: Global,
-    input: &[u8],
+/// How the bytes of a talk come and go: at most so many a read, up to a place at which the source fails, into a sink
+/// with this room.
+#[derive(Clone, Copy)]
+struct Wire {
     piece: usize,
     fail_at: Option<usize>,
     room: usize,
-) -> Result<(Vec<u8>, TalkEnd), Fail> {
-    let source = ListSource::new(Vec::from_slice(alloc, input)?, piece.max(1), fail_at);
-    let mut sink = ListSink::new(alloc, room)?;
+}
+
+/// Whether a talk of this input writes this text, and ends so.
+fn talks(
+    alloc: Global,
+    input: &[u8],
+    wire: Wire,
+    want: &[u8],
+    want_end: &TalkEnd,
+) -> Result<bool, Fail> {
+    let bytes = Vec::from_slice(alloc, input)?;
+    let source = ListSource::new(bytes, wire.piece.max(1), wire.fail_at);
+    let mut sink = ListSink::new(alloc, wire.room)?;
     let (end, _last) = run_talk(alloc, source, &mut sink, &mut FixedWord(7));
-    Ok((sink.into_vec(), end))
+    Ok(sink.bytes() == want && end == *want_end)
 }
 
 /// The answer to an input, whatever the pieces are that it comes in.
@@ -34,12 +44,18 @@ fn expect_answer(
     alloc: Global,
     input: &[u8],
     want: &[u8],
-    want_end: TalkEnd,
+    want_end: &TalkEnd,
 ) -> Result<(), Fail> {
     for piece in [1, 2, 7, 100_000] {
-        let (out, end) = talk(alloc, input, piece, None, 1000)?;
-        assert_eq!(rt; out.as_slice(), want, "{piece}");
-        assert!(rt; end == want_end, "{piece}");
+        let wire = Wire {
+            piece,
+            fail_at: None,
+            room: 1000,
+        };
+        assert!(rt;
+            talks(alloc, input, wire, want, want_end)?,
+            "{piece} {input:?}"
+        );
     }
     Ok(())
 }
@@ -47,142 +63,142 @@ fn expect_answer(
 #[test]
 fn options_in_any_pieces(rt: HostRuntime) -> Result<(), Fail> {
     for piece in 1..40 {
-        let (out, end) = talk(rt.alloc(), OPTIONS, piece, None, 1000)?;
-        assert_eq!(rt; out.as_slice(), OPTIONS_REPLY, "{piece}");
-        assert!(rt; end == TalkEnd::Done);
+        let wire = Wire {
+            piece,
+            fail_at: None,
+            room: 1000,
+        };
+        assert!(rt;
+            talks(rt.alloc(), OPTIONS, wire, OPTIONS_REPLY, &TalkEnd::Done)?,
+            "{piece}"
+        );
     }
-    expect_answer(&rt, rt.alloc(), b"", b"", TalkEnd::Done)?;
-    expect_answer(&rt, rt.alloc(), &OPTIONS[..30], b"", TalkEnd::Done)
+    Ok(())
 }
 
-#[test]
-fn bare_lf_and_unknown_method(rt: HostRuntime) -> Result<(), Fail> {
-    let bare = b"OPTIONS * RTSP/1.0\ncseq:7\n\n";
-    let reply =
-        b"RTSP/1.0 200 OK\r\nCSeq: 7\r\nPublic: OPTIONS, DESCRIBE, ANNOUNCE, SETUP, PLAY, PAUSE, RECORD, TEARDOWN, GET_PARAMETER\r\n\r\n";
-    expect_answer(&rt, rt.alloc(), bare, reply, TalkEnd::Done)?;
-    let unknown = b"options * RTSP/1.0\ncseq:7\n\n";
-    expect_answer(
-        &rt,
-        rt.alloc(),
-        unknown,
+/// Streams, and what is written for them.
+const ANSWERS: [(&[u8], &[u8]); 9] = [
+    (b"", b""),
+    (b"OPTIONS * RTSP/1.0\r\nCSeq: 1\r\n\r", b""),
+    (
+        b"OPTIONS * RTSP/1.0\ncseq:7\n\n",
+        b"RTSP/1.0 200 OK\r\nCSeq: 7\r\nPublic: OPTIONS, DESCRIBE, ANNOUNCE, SETUP, PLAY, PAUSE, RECORD, TEARDOWN, GET_PARAMETER\r\n\r\n",
+    ),
+    (
+        b"options * RTSP/1.0\ncseq:7\n\n",
         b"RTSP/1.0 501 Not Implemented\r\nCSeq: 7\r\n\r\n",
-        TalkEnd::Done,
-    )?;
-    let zeros = b"x * RTSP/1.0\r\nCSeq: 00003\r\n\r\n";
-    expect_answer(
-        &rt,
-        rt.alloc(),
-        zeros,
+    ),
+    (
+        b"x * RTSP/1.0\r\nCSeq: 00003\r\n\r\n",
         b"RTSP/1.0 501 Not Implemented\r\nCSeq: 3\r\n\r\n",
-        TalkEnd::Done,
-    )
-}
-
-#[test]
-fn bad_requests(rt: HostRuntime) -> Result<(), Fail> {
-    let plain = b"RTSP/1.0 400 Bad Request\r\n\r\n".as_slice();
-    expect_answer(
-        &rt,
-        rt.alloc(),
+    ),
+    (
         b"OPTIONS * RTSP/1.0\r\n\r\n",
-        plain,
-        TalkEnd::Done,
-    )?;
-    expect_answer(
-        &rt,
-        rt.alloc(),
+        b"RTSP/1.0 400 Bad Request\r\n\r\n",
+    ),
+    (
         b"OPTIONS * RTSP/1.0\r\nCSeq: 4294967296\r\n\r\n",
-        plain,
-        TalkEnd::Done,
-    )?;
-    expect_answer(
-        &rt,
-        rt.alloc(),
+        b"RTSP/1.0 400 Bad Request\r\n\r\n",
+    ),
+    (
         b"OPTIONS * RTSP/2.0\r\nCSeq: 9\r\n\r\n",
         b"RTSP/1.0 505 RTSP Version Not Supported\r\nCSeq: 9\r\n\r\n",
-        TalkEnd::Done,
-    )?;
-    expect_answer(
-        &rt,
-        rt.alloc(),
-        b"HELLO\r\n",
-        plain,
-        TalkEnd::StreamFault(Fault::BadLine),
-    )
+    ),
+    // The data of a frame is no message, whatever it looks like; and the beginning of one more.
+    (
+        b"$\x00\x00\x00\r\nx * RTSP/1.0\nCSeq: 1\n\n$\x01\x00\x16x * RTSP/1.0\nCSeq: 2\n\nx * RTSP/1.0\nContent-Length: 2\nCSeq: 3\n\n$\n$\x00\x00\x01",
+        b"RTSP/1.0 501 Not Implemented\r\nCSeq: 1\r\n\r\nRTSP/1.0 501 Not Implemented\r\nCSeq: 3\r\n\r\n",
+    ),
+];
+
+#[test]
+fn answers_byte_for_byte(rt: HostRuntime) -> Result<(), Fail> {
+    for (input, want) in ANSWERS {
+        expect_answer(&rt, rt.alloc(), input, want, &TalkEnd::Done)?;
+    }
+    Ok(())
+}
+
+/// Bad beginnings of a message, each with what is written and the fault.
+const FAULTS: [(&[u8], &[u8], Fault); 5] = [
+    (b"HELLO\r\n", BAD_REQUEST, Fault::BadLine),
+    (b" OPTIONS * RTSP/1.0\r\n", BAD_REQUEST, Fault::BadLine),
+    (
+        b"OPTIONS * RTSP/1.0\r\nCSeq : 1\r\n",
+        BAD_REQUEST,
+        Fault::BadHeader,
+    ),
+    (
+        b"OPTIONS * RTSP/1.0\r\ncontent-LENGTH: x\r\n",
+        BAD_REQUEST,
+        Fault::BadLength,
+    ),
+    (
+        b"OPTIONS * RTSP/1.0\r\nContent-Length: 65537\r\n",
+        TOO_LARGE,
+        Fault::BodyTooLong,
+    ),
+];
+
+const BAD_REQUEST: &[u8] = b"RTSP/1.0 400 Bad Request\r\n\r\n";
+
+const TOO_LARGE: &[u8] = b"RTSP/1.0 413 Request Entity Too Large\r\n\r\n";
+
+/// One text behind another.
+fn joined(alloc: Global, first: &[u8], second: &[u8]) -> Result<Vec<u8>, Fail> {
+    let mut bytes = Vec::from_slice(alloc, first)?;
+    bytes.extend_from_slice(second)?;
+    Ok(bytes)
+}
+
+/// The fault ends the talk, behind the answer to what came before it.
+fn expect_fault(
+    rt: &impl Abort,
+    alloc: Global,
+    bad: &[u8],
+    reply: &[u8],
+    fault: Fault,
+) -> Result<(), Fail> {
+    let input = joined(alloc, OPTIONS, bad)?;
+    let want = joined(alloc, OPTIONS_REPLY, reply)?;
+    let end = TalkEnd::StreamFault(fault);
+    expect_answer(rt, alloc, bad, reply, &end)?;
+    expect_answer(rt, alloc, input.as_slice(), want.as_slice(), &end)
 }
 
 #[test]
-fn each_fault_behind_a_reply(rt: HostRuntime) -> Result<(), Fail> {
-    let alloc = rt.alloc();
-    let bad = b"RTSP/1.0 400 Bad Request\r\n\r\n".as_slice();
-    let long = b"RTSP/1.0 413 Request Entity Too Large\r\n\r\n".as_slice();
-    let many = Vec::from_elem(alloc, b'A', 8192)?;
-    let rows = [
-        (
-            b" OPTIONS * RTSP/1.0\r\n".as_slice(),
-            bad,
-            TalkEnd::StreamFault(Fault::BadLine),
-        ),
-        (
-            b"OPTIONS * RTSP/1.0\r\nCSeq : 1\r\n".as_slice(),
-            bad,
-            TalkEnd::StreamFault(Fault::BadHeader),
-        ),
-        (
-            b"OPTIONS * RTSP/1.0\r\ncontent-LENGTH: x\r\n".as_slice(),
-            bad,
-            TalkEnd::StreamFault(Fault::BadLength),
-        ),
-        (
-            many.as_slice(),
-            long,
-            TalkEnd::StreamFault(Fault::HeadTooLong),
-        ),
-        (
-            b"OPTIONS * RTSP/1.0\r\nContent-Length: 65537\r\n",
-            long,
-            TalkEnd::StreamFault(Fault::BodyTooLong),
-        ),
-    ];
-    for (input, reply, end) in rows {
-        let mut whole = Vec::from_slice(alloc, OPTIONS)?;
-        whole.extend_from_slice(input)?;
-        let mut want = Vec::from_slice(alloc, OPTIONS_REPLY)?;
-        want.extend_from_slice(reply)?;
-        expect_answer(&rt, rt.alloc(), whole.as_slice(), want.as_slice(), end)?;
+fn each_fault_alone_and_behind_a_reply(rt: HostRuntime) -> Result<(), Fail> {
+    for (bad, reply, fault) in FAULTS {
+        expect_fault(&rt, rt.alloc(), bad, reply, fault)?;
     }
     Ok(())
 }
 
 #[test]
-fn frames_are_dropped(rt: HostRuntime) -> Result<(), Fail> {
-    let alloc = rt.alloc();
-    let mut input = Vec::from_slice(alloc, b"$\x00\x00\x00\r\n")?;
-    input.extend_from_slice(OPTIONS)?;
-    // The data of a frame is no message, whatever it looks like.
-    input.extend_from_slice(b"$\x01\x00\x1f")?;
-    input.extend_from_slice(OPTIONS)?;
-    input.extend_from_slice(b"OPTIONS * RTSP/1.0\r\nContent-Length: 2\r\nCSeq: 1\r\n\r\n$\n")?;
-    let mut want = Vec::from_slice(alloc, OPTIONS_REPLY)?;
-    want.extend_from_slice(OPTIONS_REPLY)?;
-    expect_answer(&rt, alloc, input.as_slice(), want.as_slice(), TalkEnd::Done)?;
-    // The beginning of one more.
-    input.extend_from_slice(b"$\x00\x00\x01")?;
-    expect_answer(&rt, alloc, input.as_slice(), want.as_slice(), TalkEnd::Done)
+fn a_head_too_long(rt: HostRuntime) -> Result<(), Fail> {
+    let many = Vec::from_elem(rt.alloc(), b'A', 8192)?;
+    expect_fault(
+        &rt,
+        rt.alloc(),
+        many.as_slice(),
+        TOO_LARGE,
+        Fault::HeadTooLong,
+    )
 }
 
 #[test]
 fn source_fails_at_each_place(rt: HostRuntime) -> Result<(), Fail> {
     for place in 0..32 {
-        let (out, end) = talk(rt.alloc(), OPTIONS, 5, Some(place), 1000)?;
-        let want = if place < 31 {
-            b"".as_slice()
-        } else {
-            OPTIONS_REPLY
+        let want = if place < 31 { &[] } else { OPTIONS_REPLY };
+        let wire = Wire {
+            piece: 5,
+            fail_at: Some(place),
+            room: 1000,
         };
-        assert_eq!(rt; out.as_slice(), want, "{place}");
-        assert!(rt; end == TalkEnd::ReadFailed, "{place}");
+        assert!(rt;
+            talks(rt.alloc(), OPTIONS, wire, want, &TalkEnd::ReadFailed)?,
+            "{place}"
+        );
     }
     Ok(())
 }
@@ -190,46 +206,66 @@ fn source_fails_at_each_place(rt: HostRuntime) -> Result<(), Fail> {
 #[test]
 fn sink_of_each_room(rt: HostRuntime) -> Result<(), Fail> {
     for room in 0..OPTIONS_REPLY.len() {
-        let (out, end) = talk(rt.alloc(), OPTIONS, 100, None, room)?;
-        assert_eq!(rt; out.as_slice(), &OPTIONS_REPLY[..room], "{room}");
-        assert!(rt; end == TalkEnd::WriteFailed, "{room}");
+        let wire = Wire {
+            piece: 100,
+            fail_at: None,
+            room,
+        };
+        let want = &OPTIONS_REPLY[..room];
+        assert!(rt;
+            talks(rt.alloc(), OPTIONS, wire, want, &TalkEnd::WriteFailed)?,
+            "{room}"
+        );
     }
-    let (out, end) = talk(rt.alloc(), OPTIONS, 100, None, OPTIONS_REPLY.len())?;
-    assert_eq!(rt; out.as_slice(), OPTIONS_REPLY);
-    assert!(rt; end == TalkEnd::Done);
     Ok(())
 }
 
 #[test]
-fn ends_are_reported(rt: HostRuntime) -> Result<(), Fail> {
-    let rows = [
-        (TalkEnd::Done, 0, ""),
-        (
-            TalkEnd::StreamFault(Fault::BadLine),
-            1,
-            "relay: stream fault 1",
-        ),
-        (
-            TalkEnd::StreamFault(Fault::HeadTooLong),
-            1,
-            "relay: stream fault 4",
-        ),
-        (
-            TalkEnd::StreamFault(Fault::BodyTooLong),
-            1,
-            "relay: stream fault 5",
-        ),
-        (TalkEnd::ReadFailed, 1, "relay: read failed"),
-        (TalkEnd::WriteFailed, 1, "relay: write failed"),
-        (TalkEnd::OutOfMemory, 1, "relay: out of memory"),
-    ];
-    for (end, want, text) in rows {
-        let (status, line) = talk_end(rt.alloc(), &end)?;
-        assert_eq!(rt; status, want);
-        assert_eq!(rt; line.as_str(), text);
-    }
-    assert_eq!(rt; FixedWord(7).word(), 7);
+fn a_sink_with_just_enough_room(rt: HostRuntime) -> Result<(), Fail> {
+    let wire = Wire {
+        piece: 100,
+        fail_at: None,
+        room: OPTIONS_REPLY.len(),
+    };
+    assert!(rt; talks(rt.alloc(), OPTIONS, wire, OPTIONS_REPLY, &TalkEnd::Done)?);
     Ok(())
+}
+
+/// Ends of a talk, with the exit status and the line on standard error.
+const ENDS: [(TalkEnd, u8, &str); 7] = [
+    (TalkEnd::Done, 0, ""),
+    (
+        TalkEnd::StreamFault(Fault::BadLine),
+        1,
+        "relay: stream fault 1",
+    ),
+    (
+        TalkEnd::StreamFault(Fault::HeadTooLong),
+        1,
+        "relay: stream fault 4",
+    ),
+    (
+        TalkEnd::StreamFault(Fault::BodyTooLong),
+        1,
+        "relay: stream fault 5",
+    ),
+    (TalkEnd::ReadFailed, 1, "relay: read failed"),
+    (TalkEnd::WriteFailed, 1, "relay: write failed"),
+    (TalkEnd::OutOfMemory, 1, "relay: out of memory"),
+];
+
+#[test]
+fn ends_are_reported(rt: HostRuntime) -> Result<(), Fail> {
+    for (end, want, text) in ENDS {
+        let (status, line) = talk_end(rt.alloc(), &end)?;
+        assert_eq!(rt; (status, line.as_str()), (want, text));
+    }
+    Ok(())
+}
+
+#[test]
+fn a_fixed_word(rt: HostRuntime) {
+    assert_eq!(rt; FixedWord(7).word(), 7);
 }
 
 /// The status, the line for standard error and the output of a task, from a source that fails at a place into a sink
@@ -240,67 +276,60 @@ fn done(
     input: &[u8],
     fail_at: Option<usize>,
     room: usize,
-) -> Result<(u8, String, Vec<u8>), Fail> {
+) -> Result<String, Fail> {
     let source = ListSource::new(Vec::from_slice(alloc, input)?, 100, fail_at);
     let mut sink = ListSink::new(alloc, room)?;
     let ended = run_task(alloc, task, source, &mut sink, &mut FixedWord(7))?;
-    Ok((ended.status, ended.line, sink.into_vec()))
+    let output = String::from_utf8_lossy(alloc, sink.bytes())?;
+    Ok(format!(in alloc; "{} {}|{output}", ended.status, ended.line)?)
 }
+
+const STEPS: &[u8] = b"keep 1\nseats 0\np close\ngo p\n";
+
+/// Tasks with their input, the place at which the source fails, the sink's room, and what is told.
+const TASKS: [(Task, &[u8], Option<usize>, usize, &str); 9] = [
+    (
+        Task::Talk,
+        b"x * x\nCSeq: 3\n\n",
+        None,
+        100,
+        "0 |RTSP/1.0 505 RTSP Version Not Supported\r\nCSeq: 3\r\n\r\n",
+    ),
+    (
+        Task::Talk,
+        b"HELLO\r\n",
+        None,
+        100,
+        "1 relay: stream fault 1|RTSP/1.0 400 Bad Request\r\n\r\n",
+    ),
+    (Task::Talk, OPTIONS, Some(3), 100, "1 relay: read failed|"),
+    (Task::Talk, OPTIONS, None, 3, "1 relay: write failed|RTS"),
+    (Task::Steps, STEPS, None, 100, "0 |0 p close\n@0 p close\n"),
+    (
+        Task::Steps,
+        b"keep 0\nseats 0\np close\ngo p\n",
+        None,
+        100,
+        "1 relay: bad config|",
+    ),
+    (
+        Task::Steps,
+        b"keep 1\nseats x\n",
+        None,
+        100,
+        "1 relay: bad line 2|",
+    ),
+    (Task::Steps, STEPS, Some(3), 100, "1 relay: read failed|"),
+    (Task::Steps, STEPS, None, 3, "1 relay: write failed|0 p"),
+];
 
 #[test]
 fn a_task_ends_with_its_status_and_line(rt: HostRuntime) -> Result<(), Fail> {
-    let rows = [
-        (Task::Talk, OPTIONS, 0, "", OPTIONS_REPLY),
-        (
-            Task::Talk,
-            b"HELLO\r\n",
-            1,
-            "relay: stream fault 1",
-            b"RTSP/1.0 400 Bad Request\r\n\r\n",
-        ),
-        (
-            Task::Steps,
-            b"keep 1\nseats 0\np close\ngo p\n",
-            0,
-            "",
-            b"0 p close\n@0 p close\n",
-        ),
-        (
-            Task::Steps,
-            b"keep 0\nseats 0\np close\ngo p\n",
-            1,
-            "relay: bad config",
-            b"",
-        ),
-        (
-            Task::Steps,
-            b"keep 1\nseats x\n",
-            1,
-            "relay: bad line 2",
-            b"",
-        ),
-    ];
-    for (which, input, status, line, output) in rows {
-        let told = done(rt.alloc(), which, input, None, 1000)?;
-        assert_eq!(rt; told.0, status);
-        assert_eq!(rt; told.1.as_str(), line);
-        assert_eq!(rt; told.2.as_slice(), output);
-    }
-    Ok(())
-}
-
-#[test]
-fn a_failed_device_is_told(rt: HostRuntime) -> Result<(), Fail> {
-    let steps = b"keep 1\nseats 0\np close\ngo p\n".as_slice();
-    for (which, input) in [(Task::Talk, OPTIONS), (Task::Steps, steps)] {
-        let unread = done(rt.alloc(), which, input, Some(3), 1000)?;
-        assert_eq!(rt; (unread.0, unread.1.as_str()), (1, "relay: read failed"));
-        let unwritten = done(rt.alloc(), which, input, None, 3)?;
+    for (task, input, fail_at, room, want) in TASKS {
         assert_eq!(rt;
-            (unwritten.0, unwritten.1.as_str()),
-            (1, "relay: write failed")
+            done(rt.alloc(), task, input, fail_at, room)?.as_str(),
+            want
         );
-        assert_eq!(rt; unwritten.2.len(), 3);
     }
     Ok(())
 }

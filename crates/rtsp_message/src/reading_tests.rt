@@ -1,6 +1,6 @@
 //! What an intake reads, and when: a source that counts its reads.
 use crate::laws::{any_pieces, one_reading, readings_compose};
-use crate::{Fault, Fed, Intake, Next, Reader, Unit};
+use crate::{Intake, Next, Reader, Unit};
 use interleaved::{Failed, ListSource, Source};
 use std::alloc::Global;
 use std::cell::Cell;
@@ -65,43 +65,53 @@ fn watching<'a>(
 const UNITS: &[u8] =
     b"OPTIONS * RTSP/1.0\r\nCSeq: 1\r\n\r\n$\x02\x00\x03abcPLAY * RTSP/1.0\r\nCSeq: 2\r\n\r\n\r\n";
 
-/// Where each of these units ends, and the stream.
-const UNIT_ENDS: [usize; 3] = [31, 38, 66];
-
-const LEN: usize = 68;
-
 /// So many pieces of this size have so many bytes.
 fn pieces_of(size: usize, bytes: usize) -> usize {
     bytes.div_ceil(size.max(1))
 }
 
+/// How often the source was read when each of so many calls had been answered. It gives at most `first` bytes in the
+/// first read, and `piece` in each later one.
+fn reads_by_call(
+    alloc: Global,
+    bytes: &[u8],
+    (first, piece): (usize, usize),
+    calls: usize,
+) -> Result<Vec<usize>, Fail> {
+    let reads = Cell::new(0);
+    let mut intake = watching(alloc, bytes, first, piece, &reads)?;
+    let mut counts = Vec::new(alloc);
+    for _ in 0..calls {
+        let _ = intake.next();
+        counts.push(reads.get())?;
+    }
+    Ok(counts)
+}
+
 #[test]
-fn no_read_while_something_is_at_hand(rt: HostRuntime) -> Result<(), Fail> {
+fn no_read_while_a_unit_is_at_hand(rt: HostRuntime) -> Result<(), Fail> {
     for piece in 1..70 {
-        let reads = Cell::new(0);
-        let mut intake = watching(rt.alloc(), UNITS, piece, piece, &reads)?;
-        for end in UNIT_ENDS {
-            assert!(rt; matches!(&intake.next(), Next::Unit(_)), "{piece} {end}");
-            assert_eq!(rt; reads.get(), pieces_of(piece, end), "{piece} {end}");
-        }
-        // The last read gives no bytes: it finds the end.
-        for _ in 0..3 {
-            assert!(rt; matches!(&intake.next(), Next::End), "{piece}");
-            assert_eq!(rt;
-                reads.get(),
-                pieces_of(piece, LEN).saturating_add(1),
-                "{piece}"
-            );
-        }
-        let reads = Cell::new(0);
-        let mut intake = watching(rt.alloc(), b"A B C\nX : 1\n and more", piece, piece, &reads)?;
-        for _ in 0..3 {
-            assert!(rt;
-                matches!(&intake.next(), Next::Fault(Fault::BadHeader)),
-                "{piece}"
-            );
-            assert_eq!(rt; reads.get(), pieces_of(piece, 12), "{piece}");
-        }
+        let all = pieces_of(piece, 68).saturating_add(1);
+        // The units end at 31, 38 and 66, and the stream at 68. The last read finds the end.
+        let want = [
+            pieces_of(piece, 31),
+            pieces_of(piece, 38),
+            pieces_of(piece, 66),
+            all,
+            all,
+        ];
+        let counts = reads_by_call(rt.alloc(), UNITS, (piece, piece), 5)?;
+        assert_eq!(rt; counts.as_slice(), want.as_slice());
+    }
+    Ok(())
+}
+
+#[test]
+fn no_read_behind_a_fault(rt: HostRuntime) -> Result<(), Fail> {
+    for piece in 1..24 {
+        let want = [pieces_of(piece, 12), pieces_of(piece, 12)];
+        let counts = reads_by_call(rt.alloc(), b"A B C\nX : 1\n and more", (piece, piece), 2)?;
+        assert_eq!(rt; counts.as_slice(), want.as_slice());
     }
     Ok(())
 }
@@ -109,111 +119,105 @@ fn no_read_while_something_is_at_hand(rt: HostRuntime) -> Result<(), Fail> {
 /// OPTIONS as a client sends it first.
 const OPTIONS: &[u8] = b"OPTIONS * RTSP/1.0\r\nCSeq: 1\r\n\r\n";
 
-fn is_options(unit: &Unit) -> bool {
-    match unit {
-        Unit::Message(request) => {
-            request.method.as_slice() == b"OPTIONS".as_slice()
-                && request.uri.as_slice() == b"*".as_slice()
-                && request.version.as_slice() == b"RTSP/1.0".as_slice()
-                && request.cseq == Some(1)
-                && request.headers.len() == 1
-                && request.body.is_empty()
-        }
-        Unit::Frame(_) => false,
-    }
-}
-
 #[test]
-fn options_cut_in_two_at_each_place(rt: HostRuntime) -> Result<(), Fail> {
-    let alloc = rt.alloc();
-    for place in 0..OPTIONS.len() {
-        let (front, back) = OPTIONS.split_at(place);
-        let mut reader = Reader::new(alloc);
-        let Fed { units, fault } = reader.feed(front)?;
-        assert_eq!(rt; (units.len(), fault), (0, None), "{place}");
-        assert_eq!(rt; reader.room(), place, "{place}");
-        let Fed { units, fault } = reader.feed(back)?;
-        assert_eq!(rt; (units.len(), fault), (1, None), "{place}");
-        assert!(rt; is_options(&units[0]), "{place}");
-        assert_eq!(rt; reader.room(), 0, "{place}");
-
-        let reads = Cell::new(0);
-        let mut intake = watching(alloc, OPTIONS, place, 1000, &reads)?;
-        match &intake.next() {
-            Next::Unit(unit) => assert!(rt; is_options(unit), "{place}"),
-            _ => panic!(rt; "no unit at {place}"),
-        }
-        assert_eq!(rt; reads.get(), if place == 0 { 1 } else { 2 }, "{place}");
-        assert!(rt; matches!(&intake.next(), Next::End), "{place}");
+fn a_request_in_two_reads(rt: HostRuntime) -> Result<(), Fail> {
+    for place in 1..OPTIONS.len() {
+        let counts = reads_by_call(rt.alloc(), OPTIONS, (place, 1000), 1)?;
+        assert_eq!(rt; counts.as_slice(), [2].as_slice());
     }
     Ok(())
 }
 
-/// The reader's room after a long piece that goes on with this.
-fn room_after(alloc: Global, end: &[u8]) -> Result<(usize, Option<Fault>), Fail> {
-    let mut piece = Vec::from_elem(alloc, b'\n', 4_000_000)?;
+/// What an intake answers to so many calls.
+fn answers(alloc: Global, source: ListSource, calls: usize) -> Result<String, Fail> {
+    let mut intake = Intake::new(alloc, source);
+    let mut out = String::new(alloc);
+    for _ in 0..calls {
+        match intake.next() {
+            Next::Unit(_) => out.push_str("unit;")?,
+            Next::End => out.push_str("end;")?,
+            Next::Fault(_) => out.push_str("fault;")?,
+            Next::ReadFailed => out.push_str("read failed;")?,
+            Next::OutOfMemory => out.push_str("out of memory;")?,
+        }
+    }
+    Ok(out)
+}
+
+/// A stream, the place at which its source fails, and what an intake answers to five calls.
+const ANSWERS: [(&[u8], Option<usize>, &str); 3] = [
+    (UNITS, None, "unit;unit;unit;end;end;"),
+    (
+        UNITS,
+        Some(40),
+        "unit;unit;read failed;read failed;read failed;",
+    ),
+    (b"\nA\nB", None, "fault;fault;fault;fault;fault;"),
+];
+
+#[test]
+fn an_intake_answers_for_good(rt: HostRuntime) -> Result<(), Fail> {
+    for (stream, fail_at, want) in ANSWERS {
+        let source = ListSource::new(Vec::from_slice(rt.alloc(), stream)?, 3, fail_at);
+        assert_eq!(rt; answers(rt.alloc(), source, 5)?.as_str(), want);
+    }
+    Ok(())
+}
+
+#[test]
+fn a_field_is_looked_up_by_its_name(rt: HostRuntime) -> Result<(), Fail> {
+    let mut reader = Reader::new(rt.alloc());
+    let mut units = reader.feed(b"A B C\nX-y: a\nx-Y: b\n\n")?.units;
+    let Some(Unit::Message(request)) = units.pop() else {
+        return Err("a message".into());
+    };
+    let value = request.header(b"x-y").ok_or("a field")?;
+    assert_eq!(rt; value.as_slice(), b"a".as_slice());
+    Ok(())
+}
+
+/// The reader's room after a piece of so many pads and these bytes.
+fn room_after(alloc: Global, pads: usize, end: &[u8]) -> Result<usize, Fail> {
+    let mut piece = Vec::from_elem(alloc, b'\n', pads)?;
     piece.extend_from_slice(end)?;
     let mut reader = Reader::new(alloc);
-    let fed = reader.feed(piece.as_slice())?;
-    Ok((reader.room(), fed.fault))
+    let _ = reader.feed(piece.as_slice())?;
+    Ok(reader.room())
 }
 
 #[test]
 fn a_reader_holds_no_more_than_waits(rt: HostRuntime) -> Result<(), Fail> {
-    assert_eq!(rt; room_after(rt.alloc(), b"OPT")?, (3, None));
-    assert_eq!(rt; room_after(rt.alloc(), b"$\x00\x00\x00")?, (0, None));
-    assert_eq!(rt;
-        room_after(rt.alloc(), b"OPT\nIONS")?,
-        (0, Some(Fault::BadLine))
-    );
+    let rows = [
+        (4_000_000, b"OPT".as_slice(), 3),
+        (4_000_000, b"$\x00\x00\x00", 0),
+        (4_000_000, b"OPT\nIONS", 0),
+        (0, OPTIONS, 0),
+        (0, b"OPTIONS * RTSP/1.0\r\nCS", 22),
+    ];
+    for (pads, end, want) in rows {
+        assert_eq!(rt; room_after(rt.alloc(), pads, end)?, want);
+    }
     Ok(())
+}
+
+/// The room of a unit's body or data.
+fn unit_room(unit: Unit) -> usize {
+    match unit {
+        Unit::Message(request) => request.body.into_vec().capacity(),
+        Unit::Frame(frame) => frame.payload.into_vec().capacity(),
+    }
 }
 
 #[test]
 fn a_unit_keeps_no_room_of_its_piece(rt: HostRuntime) -> Result<(), Fail> {
-    let alloc = rt.alloc();
-    let mut piece = Vec::from_elem(alloc, b'\n', 100_000)?;
+    let mut piece = Vec::from_elem(rt.alloc(), b'\n', 100_000)?;
     piece.extend_from_slice(b"$\x00\x00\x03abcOPTIONS * RTSP/1.0\r\nContent-Length: 2\r\n\r\nab")?;
-    let mut reader = Reader::new(alloc);
-    let mut units = reader.feed(piece.as_slice())?.units;
-    let Some(Unit::Message(request)) = units.pop() else {
-        return Err("a message".into());
-    };
-    assert!(rt; request.body.into_vec().capacity() <= 2);
-    let Some(Unit::Frame(frame)) = units.pop() else {
-        return Err("a frame".into());
-    };
-    assert!(rt; frame.payload.into_vec().capacity() <= 3);
-    Ok(())
-}
-
-/// How many header fields the message in these bytes has.
-fn field_count(alloc: Global, bytes: &[u8]) -> Result<Option<usize>, Fail> {
-    let mut reader = Reader::new(alloc);
-    let fed = reader.feed(bytes)?;
-    let units = fed.units;
-    match units.as_slice() {
-        [Unit::Message(request)] => Ok(Some(request.headers.len())),
-        _ => Ok(None),
+    let mut reader = Reader::new(rt.alloc());
+    let units = reader.feed(piece.as_slice())?.units;
+    assert_eq!(rt; units.len(), 2);
+    for unit in units {
+        assert!(rt; unit_room(unit) <= 3);
     }
-}
-
-#[test]
-fn heads_of_many_lines_and_long_ones(rt: HostRuntime) -> Result<(), Fail> {
-    let alloc = rt.alloc();
-    let mut many = Vec::from_slice(alloc, b"A B C\n")?;
-    for _ in 0..2700 {
-        many.extend_from_slice(b"a:\n")?;
-    }
-    many.push(b'\n')?;
-    assert_eq!(rt; field_count(alloc, many.as_slice())?, Some(2700));
-
-    let mut long = Vec::from_slice(alloc, b"A B C\na:")?;
-    for _ in 0..7998 {
-        long.push(b'v')?;
-    }
-    long.extend_from_slice(b"\n\n")?;
-    assert_eq!(rt; field_count(alloc, long.as_slice())?, Some(1));
     Ok(())
 }
 

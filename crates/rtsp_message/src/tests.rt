@@ -1,151 +1,11 @@
-//! Streams in pieces, replies by their bytes.
-use crate::{
-    ByteClass, Fault, Fed, Fields, Intake, Next, Reader, Reply, Request, Status, Unit, put_plain,
-    put_reply,
-};
+//! Replies by their bytes, and what is said of faults.
+use crate::{ByteClass, Fault, Fields, Reply, Status, put_plain, put_reply};
 use base_syntax::Bytes;
-use interleaved::ListSource;
 use std::alloc::Global;
 use std::test::Fail;
 
-/// Two requests with pads between them.
-const STREAM: &[u8] =
-    b"\r\n\nOPTIONS * RTSP/1.0\r\nCSeq: 1\r\n\r\n\nPLAY rtsp://h/a  RTSP/1.0 \t\nX:\t a b \ncseq: 2\nCSeq: 3\n\n\r";
-
 fn text(alloc: Global, bytes: &[u8]) -> Result<Bytes, Fail> {
     Ok(Bytes::from_slice(alloc, bytes)?)
-}
-
-/// Feeds these pieces one after another.
-fn feed_all(alloc: Global, pieces: &[&[u8]]) -> Result<(Vec<Request>, Option<Fault>), Fail> {
-    let mut reader = Reader::new(alloc);
-    let mut requests = Vec::new(alloc);
-    let mut last = None;
-    for piece in pieces {
-        let Fed { units, fault } = reader.feed(piece)?;
-        for unit in units {
-            match unit {
-                Unit::Message(request) => requests.push(request)?,
-                Unit::Frame(_) => {}
-            }
-        }
-        last = fault;
-    }
-    Ok((requests, last))
-}
-
-#[test]
-fn stream_cut_at_each_place(rt: HostRuntime) -> Result<(), Fail> {
-    for place in 0..STREAM.len() {
-        let (front, back) = STREAM.split_at(place);
-        let (requests, fault) = feed_all(rt.alloc(), &[front, back])?;
-        assert_eq!(rt; requests.len(), 2, "{place}");
-        assert_eq!(rt; fault, None, "{place}");
-        assert_eq!(rt; requests[0].method.as_slice(), b"OPTIONS".as_slice());
-        assert_eq!(rt; requests[0].uri.as_slice(), b"*".as_slice());
-        assert_eq!(rt; requests[0].cseq, Some(1));
-        assert_eq!(rt; requests[1].method.as_slice(), b"PLAY".as_slice());
-        assert_eq!(rt; requests[1].uri.as_slice(), b"rtsp://h/a".as_slice());
-        assert_eq!(rt; requests[1].version.as_slice(), b"RTSP/1.0".as_slice());
-        assert_eq!(rt; requests[1].cseq, Some(2));
-        let value = requests[1].header(b"x").ok_or("a field x")?;
-        assert_eq!(rt; value.as_slice(), b"a b".as_slice());
-        assert!(rt; requests[1].header(b"y").is_none());
-    }
-    Ok(())
-}
-
-#[test]
-fn each_fault_stays(rt: HostRuntime) -> Result<(), Fail> {
-    let rows = [
-        (b"HELLO\n".as_slice(), Fault::BadLine),
-        (b"OPTIONS * RTSP/1.0 x\n", Fault::BadLine),
-        (b"A B C\nX : 1\n", Fault::BadHeader),
-        (b"A B C\n X: 1\n", Fault::BadHeader),
-        (b"A B C\nX: \x01\n", Fault::BadHeader),
-        (b"A B C\nX: 1\r\r\n", Fault::BadHeader),
-        (b"A B C\nCONTENT-length:5x\n", Fault::BadLength),
-    ];
-    for (bytes, want) in rows {
-        let mut reader = Reader::new(rt.alloc());
-        let fed = reader.feed(bytes)?;
-        assert_eq!(rt; fed.units.len(), 0);
-        assert_eq!(rt; fed.fault, Some(want));
-        let again = reader.feed(STREAM)?;
-        assert_eq!(rt; again.units.len(), 0);
-        assert_eq!(rt; again.fault, Some(want));
-        assert_eq!(rt; reader.fault(), Some(want));
-    }
-    Ok(())
-}
-
-#[test]
-fn heads_near_the_limit(rt: HostRuntime) -> Result<(), Fail> {
-    let alloc = rt.alloc();
-    // A request line of so many bytes, and an empty line.
-    for (len, want) in [(8191, None), (8192, None), (8193, Some(Fault::HeadTooLong))] {
-        let mut head = Vec::from_slice(alloc, b"OPTIONS ")?;
-        for _ in 0..len - 20 {
-            head.push(b'u')?;
-        }
-        head.extend_from_slice(b" RTSP/1.0\r\n\n")?;
-        let (requests, fault) = feed_all(alloc, &[head.as_slice()])?;
-        assert_eq!(rt; fault, want, "{len}");
-        assert_eq!(rt; requests.len(), if want.is_none() { 1 } else { 0 }, "{len}");
-    }
-    let many = Vec::from_elem(alloc, b'A', 8191)?;
-    let (_, fault) = feed_all(alloc, &[many.as_slice()])?;
-    assert_eq!(rt; fault, None);
-    let (_, fault) = feed_all(alloc, &[many.as_slice(), b"A"])?;
-    assert_eq!(rt; fault, Some(Fault::HeadTooLong));
-    Ok(())
-}
-
-/// What an intake answered, without the unit.
-#[derive(Clone, Copy, Debug, PartialEq, Eq)]
-enum Kind {
-    Unit,
-    End,
-    Fault(Fault),
-    ReadFailed,
-    OutOfMemory,
-}
-
-fn kind_of(next: Next) -> Kind {
-    match next {
-        Next::Unit(_) => Kind::Unit,
-        Next::End => Kind::End,
-        Next::Fault(fault) => Kind::Fault(fault),
-        Next::ReadFailed => Kind::ReadFailed,
-        Next::OutOfMemory => Kind::OutOfMemory,
-    }
-}
-
-/// What an intake answers to so many calls.
-fn kinds(alloc: Global, source: ListSource, count: usize) -> Result<Vec<Kind>, Fail> {
-    let mut intake = Intake::new(alloc, source);
-    let mut kinds = Vec::new(alloc);
-    for _ in 0..count {
-        kinds.push(kind_of(intake.next()))?;
-    }
-    Ok(kinds)
-}
-
-#[test]
-fn intake_answers_for_good(rt: HostRuntime) -> Result<(), Fail> {
-    let alloc = rt.alloc();
-    for piece in [1, 3, 1000] {
-        let source = ListSource::new(Vec::from_slice(alloc, STREAM)?, piece, None);
-        let want = [Kind::Unit, Kind::Unit, Kind::End, Kind::End];
-        assert_eq!(rt; kinds(alloc, source, 4)?.as_slice(), want.as_slice());
-        let source = ListSource::new(Vec::from_slice(alloc, STREAM)?, piece, Some(40));
-        let want = [Kind::Unit, Kind::ReadFailed, Kind::ReadFailed];
-        assert_eq!(rt; kinds(alloc, source, 3)?.as_slice(), want.as_slice());
-        let source = ListSource::new(Vec::from_slice(alloc, b"\nA\nB")?, piece, None);
-        let want = [Kind::Fault(Fault::BadLine), Kind::Fault(Fault::BadLine)];
-        assert_eq!(rt; kinds(alloc, source, 2)?.as_slice(), want.as_slice());
-    }
-    Ok(())
 }
 
 /// Each code with its reason (RFC 2326, 7.1.1).
@@ -203,58 +63,91 @@ const STATUSES: [(Status, &str); 18] = [
     ),
 ];
 
+/// The short form of a reply.
+fn plain(alloc: Global, status: Status, cseq: Option<u32>) -> Result<String, Fail> {
+    let mut out = [0; 128];
+    let len = put_plain(&mut out, status, cseq);
+    let text = out.get(..len).ok_or("a text in 128 bytes")?;
+    Ok(format!(in alloc; "{}", String::from_utf8_lossy(alloc, text)?)?)
+}
+
 #[test]
 fn each_status_line(rt: HostRuntime) -> Result<(), Fail> {
     let alloc = rt.alloc();
     for (status, line) in STATUSES {
-        let mut out = [0; 128];
-        let len = put_plain(&mut out, status, Some(u32::MAX));
         let want = format!(in alloc; "{line}\r\nCSeq: 4294967295\r\n\r\n")?;
-        assert!(rt; len <= out.len());
-        assert_eq!(rt; &out[..len], want.as_bytes());
-        let len = put_plain(&mut out, status, None);
-        assert!(rt; len <= out.len());
-        let bare = format!(in alloc; "{line}\r\n\r\n")?;
-        assert_eq!(rt; &out[..len], bare.as_bytes());
+        assert_eq!(rt;
+            plain(alloc, status, Some(u32::MAX))?.as_str(),
+            want.as_str()
+        );
     }
     Ok(())
 }
 
 #[test]
-fn reply_has_its_fields_in_order(rt: HostRuntime) -> Result<(), Fail> {
+fn a_status_line_alone(rt: HostRuntime) -> Result<(), Fail> {
     let alloc = rt.alloc();
-    let fields = Fields {
-        session: Some(text(alloc, b"0")?),
-        public: Some(text(alloc, b"P")?),
-        allow: Some(text(alloc, b"A")?),
-        unsupported: Some(text(alloc, b"")?),
-        transport: Some(text(alloc, b"T")?),
-        rtp_info: Some(text(alloc, b"R")?),
-        content_base: Some(text(alloc, b"B/")?),
-        content_type: Some(text(alloc, b"C")?),
-    };
+    for (status, line) in STATUSES {
+        let want = format!(in alloc; "{line}\r\n\r\n")?;
+        assert_eq!(rt; plain(alloc, status, None)?.as_str(), want.as_str());
+    }
+    Ok(())
+}
+
+fn given(alloc: Global, value: &[u8]) -> Option<Bytes> {
+    Vec::from_slice(alloc, value).ok().map(Bytes::new)
+}
+
+/// Each field that a reply may have, with a value.
+fn all_fields(alloc: Global) -> Fields {
+    Fields {
+        session: given(alloc, b"0"),
+        public: given(alloc, b"P"),
+        allow: given(alloc, b"A"),
+        unsupported: given(alloc, b""),
+        transport: given(alloc, b"T"),
+        rtp_info: given(alloc, b"R"),
+        content_base: given(alloc, b"B/"),
+        content_type: given(alloc, b"C"),
+    }
+}
+
+/// What a reply with these adds to a text.
+fn replied(
+    alloc: Global,
+    status: Status,
+    cseq: Option<u32>,
+    fields: Fields,
+    body: &[u8],
+) -> Result<Vec<u8>, Fail> {
+    let body = text(alloc, body)?;
     let reply = Reply {
-        status: Status::Ok,
-        cseq: Some(12),
+        status,
+        cseq,
         fields,
-        body: text(alloc, b"body")?,
+        body,
     };
     let mut out = Vec::from_slice(alloc, b"-")?;
     put_reply(&mut out, &reply)?;
+    Ok(out)
+}
+
+#[test]
+fn a_reply_has_its_fields_in_order(rt: HostRuntime) -> Result<(), Fail> {
+    let fields = all_fields(rt.alloc());
+    let out = replied(rt.alloc(), Status::Ok, Some(12), fields, b"body")?;
     let want =
         b"-RTSP/1.0 200 OK\r\nCSeq: 12\r\nSession: 0\r\nPublic: P\r\nAllow: A\r\nUnsupported: \r\nTransport: T\r\nRTP-Info: R\r\nContent-Base: B/\r\nContent-Type: C\r\nContent-Length: 4\r\n\r\nbody";
     assert_eq!(rt; out.as_slice(), want.as_slice());
-    let bare = Reply {
-        status: Status::NotFound,
-        cseq: None,
-        fields: Fields::none(),
-        body: text(alloc, b"")?,
-    };
-    let mut out = Vec::new(alloc);
-    put_reply(&mut out, &bare)?;
+    Ok(())
+}
+
+#[test]
+fn a_bare_reply(rt: HostRuntime) -> Result<(), Fail> {
+    let out = replied(rt.alloc(), Status::NotFound, None, Fields::none(), b"")?;
     assert_eq!(rt;
         out.as_slice(),
-        b"RTSP/1.0 404 Not Found\r\n\r\n".as_slice()
+        b"-RTSP/1.0 404 Not Found\r\n\r\n".as_slice()
     );
     Ok(())
 }

@@ -338,67 +338,101 @@ fn refuses_by_the_first_bad_line(rt: HostRuntime) -> Result<(), Fail> {
     Ok(())
 }
 
-#[test]
-fn takes_sixteen_tracks(rt: HostRuntime) -> Result<(), Fail> {
-    let mut text = b"v=0\n".to_vec(rt.alloc())?;
-    for _ in 0..16 {
+/// `v=0` and so many tracks, with these bytes behind them.
+fn tracks(alloc: Global, count: usize, end: &[u8]) -> Result<Vec<u8>, Fail> {
+    let mut text = b"v=0\n".to_vec(alloc)?;
+    for _ in 0..count {
         text.extend_from_slice(b"m=audio 0 RTP/AVP 0\n")?;
     }
+    text.extend_from_slice(end)?;
+    Ok(text)
+}
+
+#[test]
+fn refuses_a_seventeenth_track(rt: HostRuntime) -> Result<(), Fail> {
+    let table: [(&[u8], SdpFault); 3] = [
+        (b"m=audio 0 RTP/AVP 0", SdpFault::TooManyTracks),
+        (b"m=audio 0 RTP", SdpFault::BadMedia),
+        (b"m=audio 0 RTP/AVP 0\x00", SdpFault::BadLine),
+    ];
+    for (line, fault) in table {
+        let text = tracks(rt.alloc(), 16, line)?;
+        assert_refused(&rt, rt.alloc(), text.as_slice(), fault)?;
+    }
+    Ok(())
+}
+
+#[test]
+fn takes_sixteen_tracks(rt: HostRuntime) -> Result<(), Fail> {
+    let text = tracks(rt.alloc(), 16, b"")?;
     let description = read(rt.alloc(), text.as_slice())?;
-    assert_eq!(rt; description.tracks().len(), 16);
     let written = write(rt.alloc(), &description)?;
+    assert_eq!(rt; description.tracks().len(), 16);
     assert!(rt; written.ends_with(b"m=audio 0 RTP/AVP 0\r\na=control:trackID=15\r\n"));
-    for (line, fault) in [
-        (b"m=audio 0 RTP/AVP 0".as_slice(), SdpFault::TooManyTracks),
-        (b"m=audio 0 RTP".as_slice(), SdpFault::BadMedia),
-        (b"m=audio 0 RTP/AVP 0\x00".as_slice(), SdpFault::BadLine),
-    ] {
-        let mut longer = text.clone()?;
-        longer.extend_from_slice(line)?;
-        assert_refused(&rt, rt.alloc(), longer.as_slice(), fault)?;
+    Ok(())
+}
+
+#[test]
+fn numbers_its_faults(rt: HostRuntime) -> Result<(), Fail> {
+    for (fault, number, _) in FAULTS {
+        assert_eq!(rt; fault.number(), number);
     }
     Ok(())
 }
 
 #[test]
 fn tells_its_faults(rt: HostRuntime) -> Result<(), Fail> {
-    let table = [
-        (SdpFault::NoVersion, 1, "no version line"),
-        (SdpFault::BadLine, 2, "bad line"),
-        (SdpFault::UnknownLetter, 3, "unknown letter"),
-        (SdpFault::BadMedia, 4, "bad media line"),
-        (SdpFault::NoMedia, 5, "no media line"),
-        (SdpFault::TooManyTracks, 6, "too many tracks"),
-        (SdpFault::OutOfMemory, 7, "out of memory"),
-    ];
-    for (fault, number, text) in table {
-        assert_eq!(rt; fault.number(), number);
+    for (fault, _, text) in FAULTS {
         let printed = format!(in rt.alloc(); "{fault}")?;
         assert_eq!(rt; printed.as_str(), text);
     }
     Ok(())
 }
 
-#[test]
-fn takes_long_lines_and_many(rt: HostRuntime) -> Result<(), Fail> {
-    let mut text = b"v=0\na=".to_vec(rt.alloc())?;
-    text.resize(text.len() + 59_998, b'x')?;
-    for _ in 0..999 {
+/// Each fault with its number and its words.
+const FAULTS: [(SdpFault, u8, &str); 7] = [
+    (SdpFault::NoVersion, 1, "no version line"),
+    (SdpFault::BadLine, 2, "bad line"),
+    (SdpFault::UnknownLetter, 3, "unknown letter"),
+    (SdpFault::BadMedia, 4, "bad media line"),
+    (SdpFault::NoMedia, 5, "no media line"),
+    (SdpFault::TooManyTracks, 6, "too many tracks"),
+    (SdpFault::OutOfMemory, 7, "out of memory"),
+];
+
+/// Appends a line of 60,000 bytes and so many short ones.
+fn push_lines(text: &mut Vec<u8>, count: usize) -> Result<(), Fail> {
+    text.extend_from_slice(b"\na=")?;
+    for _ in 0..59_998 {
+        text.push(b'x')?;
+    }
+    for _ in 0..count {
         text.extend_from_slice(b"\na=x")?;
     }
-    text.extend_from_slice(b"\nm=audio 0 RTP/AVP 0\na=")?;
-    text.resize(text.len() + 59_998, b'y')?;
-    for _ in 0..998 {
-        text.extend_from_slice(b"\na=y")?;
-    }
-    let description = read(rt.alloc(), text.as_slice())?;
-    assert_eq!(rt; description.session().len(), 1001);
-    assert_eq!(rt; description.session()[1].len(), 60_000);
-    assert_eq!(rt; description.tracks()[0].lines.len(), 1000);
-    assert_eq!(rt; description.tracks()[0].lines.as_slice()[1].len(), 60_000);
-    let written = write(rt.alloc(), &description)?;
-    assert_eq!(rt; read(rt.alloc(), written.as_slice())?.session().len(), 1002);
     Ok(())
+}
+
+#[test]
+fn takes_long_lines_and_many(rt: HostRuntime) -> Result<(), Fail> {
+    let mut text = b"v=0".to_vec(rt.alloc())?;
+    push_lines(&mut text, 999)?;
+    text.extend_from_slice(b"\nm=audio 0 RTP/AVP 0")?;
+    push_lines(&mut text, 998)?;
+    let description = read(rt.alloc(), text.as_slice())?;
+    assert_eq!(rt; line_counts(&description), (1001, 1000));
+    let written = write(rt.alloc(), &description)?;
+    let again = read(rt.alloc(), written.as_slice())?;
+    assert_eq!(rt; line_counts(&again), (1002, 1001));
+    Ok(())
+}
+
+/// How many lines the session and the first track have.
+fn line_counts(description: &Description) -> (usize, usize) {
+    let lines = match description.tracks() {
+        [first, ..] => first.lines.len(),
+        [] => 0,
+    };
+    (description.session().len(), lines)
 }
 
 #[test]

@@ -13,42 +13,33 @@ const LOST: &[u8] =
 const LOST_TRACE: &[u8] =
     b"0 0 load 0 0\n1 p begin 0 0 0\n2 p len 1\n3 p byte 41\n4 p finish 0 1 0\n5 p append 1\n6 p begin 0 0 0\n7 p len 1\n8 p byte 42\n9 p finish 0 1 0\n10 p append 2\n11 0 load 2 0\n12 p begin 0 0 0\n13 p len 1\n14 p byte 43\n15 p finish 0 1 0\n16 p append 3\n17 p begin 0 0 1\n18 0 pin 0 1 1\n19 0 unpin 1 1 1\n20 0 load 3 0\n21 0 load 3 0\n22 0 pin 0 0 2\n23 0 len 1\n24 0 byte 42\n25 0 unpin 1 0 2\n@0 0 attach 0\n@5 p appended 0\n@10 p appended 1\n@16 p appended 2\n@20 0 lost 1\n@21 0 took 1 42\n";
 
-/// What is written for this input, read at most so many bytes at a time, and how the run ends.
+/// What is written for this input, read at most so many bytes at a time, and how the run ends, in words.
 fn steps(
     alloc: Global,
     input: &[u8],
     piece: usize,
     fail_at: Option<usize>,
     room: usize,
-) -> Result<(Vec<u8>, StepsEnd), Fail> {
+) -> Result<String, Fail> {
     let mut source = ListSource::new(Vec::from_slice(alloc, input)?, piece.max(1), fail_at);
     let mut sink = ListSink::new(alloc, room)?;
     let end = run_steps(alloc, &mut source, &mut sink);
-    Ok((sink.into_vec(), end))
+    let (_, line) = steps_end(alloc, &end)?;
+    let text = String::from_utf8_lossy(alloc, sink.bytes())?;
+    Ok(format!(in alloc; "{text}{line}")?)
 }
 
-/// The text written for an input that is run.
-fn expect_text(rt: &impl Abort, alloc: Global, input: &[u8], want: &[u8]) -> Result<(), Fail> {
-    let (out, end) = steps(alloc, input, 100_000, None, 10_000)?;
-    assert!(rt; end == StepsEnd::Done);
-    assert_eq!(rt; out.as_slice(), want);
+/// What is written for an input, or the line that says why it is refused.
+fn expect(rt: &impl Abort, alloc: Global, input: &[u8], want: &str) -> Result<(), Fail> {
+    assert_eq!(rt; steps(alloc, input, 100_000, None, 10_000)?.as_str(), want);
     Ok(())
 }
 
 /// The end of what is written for an input that is run: its events.
-fn expect_events(rt: &impl Abort, alloc: Global, input: &[u8], want: &[u8]) -> Result<(), Fail> {
-    let (out, end) = steps(alloc, input, 100_000, None, 10_000)?;
-    assert!(rt; end == StepsEnd::Done);
-    let events = out.iter().position(|byte| *byte == b'@').unwrap_or(0);
-    assert_eq!(rt; &out[events..], want);
-    Ok(())
-}
-
-/// An input that is refused, without a byte of output.
-fn expect_end(rt: &impl Abort, alloc: Global, input: &[u8], want: StepsEnd) -> Result<(), Fail> {
-    let (out, end) = steps(alloc, input, 100_000, None, 10_000)?;
-    assert!(rt; end == want, "{end:?}");
-    assert!(rt; out.as_slice().is_empty());
+fn expect_events(rt: &impl Abort, alloc: Global, input: &[u8], want: &str) -> Result<(), Fail> {
+    let text = steps(alloc, input, 100_000, None, 10_000)?;
+    let events = text.as_str().find('@').unwrap_or(0);
+    assert_eq!(rt; text.as_str().get(events..), Some(want));
     Ok(())
 }
 
@@ -71,118 +62,143 @@ fn a_plan_is_read_run_and_told(rt: HostRuntime) -> Result<(), Fail> {
 #[test]
 fn a_slow_seat_loses_one(rt: HostRuntime) -> Result<(), Fail> {
     for piece in [1, 3, 10_000] {
-        let (out, end) = steps(rt.alloc(), LOST, piece, None, 1000)?;
-        assert!(rt; end == StepsEnd::Done);
-        assert_eq!(rt; out.as_slice(), LOST_TRACE, "{piece}");
+        let text = steps(rt.alloc(), LOST, piece, None, 1000)?;
+        assert_eq!(rt; text.as_bytes(), LOST_TRACE, "{piece}");
     }
     Ok(())
 }
 
-#[test]
-fn a_slower_seat_loses_four(rt: HostRuntime) -> Result<(), Fail> {
-    expect_events(
-        &rt,
-        rt.alloc(),
+/// Inputs with the events of their runs.
+const EVENTS: [(&[u8], &str); 3] = [
+    (
         b"keep 2\nseats 1\np 41\np 42\np 43\np 44\np 45\np 46\np 47\n0 attach\n0 take\n0 take\ngo 0 p*10 0 p*6 0 p*15 0*2\n",
-        b"@0 0 attach 0\n@5 p appended 0\n@10 p appended 1\n@16 p appended 2\n@22 p appended 3\n@27 p appended 4\n@32 p appended 5\n@33 p refused 1\n@35 0 lost 4\n",
-    )
-}
-
-#[test]
-fn a_pinned_slot_refuses(rt: HostRuntime) -> Result<(), Fail> {
-    expect_events(
-        &rt,
-        rt.alloc(),
+        "@0 0 attach 0\n@5 p appended 0\n@10 p appended 1\n@16 p appended 2\n@22 p appended 3\n@27 p appended 4\n@32 p appended 5\n@33 p refused 1\n@35 0 lost 4\n",
+    ),
+    (
         b"keep 2\nseats 1\np 41\np 42\np 43\np 44\np 44\n0 attach\n0 take\ngo 0 p*10 0*2 p*6 0*3 p*5\n",
-        b"@0 0 attach 0\n@5 p appended 0\n@10 p appended 1\n@11 0 took 0 41\n@17 p appended 2\n@18 p refused 1\n@26 p appended 3\n",
-    )
-}
-
-#[test]
-fn each_other_answer(rt: HostRuntime) -> Result<(), Fail> {
-    expect_text(
-        &rt,
-        rt.alloc(),
-        b"keep 1\nseats 2\n1 attach\n1 take\n1 take\n1 detach\np ABcd\np close\ngo 1*2 p*7 1 1 1 1 1 1\n",
-        b"0 1 load 0 0\n1 1 load 0 0\n2 p begin 0 0 0\n3 p len 2\n4 p byte ab\n5 p byte cd\n6 p finish 0 1 0\n7 p append 1\n8 p close\n9 1 load 1 1\n10 1 pin 0 0 1\n11 1 len 2\n12 1 byte ab\n13 1 byte cd\n14 1 unpin 1 0 1\n@0 1 attach 0\n@1 1 empty\n@7 p appended 0\n@8 p close\n@9 1 took 0 abcd\n",
-    )?;
-    expect_events(
-        &rt,
-        rt.alloc(),
+        "@0 0 attach 0\n@5 p appended 0\n@10 p appended 1\n@11 0 took 0 41\n@17 p appended 2\n@18 p refused 1\n@26 p appended 3\n",
+    ),
+    (
         b"keep 1\nseats 1\n0 attach\n0 take\n0 detach\np close\ngo 0 p 0 0\n",
-        b"@0 0 attach 0\n@1 p close\n@2 0 ended\n@3 0 detach 0 0 0\n",
-    )
-}
+        "@0 0 attach 0\n@1 p close\n@2 0 ended\n@3 0 detach 0 0 0\n",
+    ),
+];
 
 #[test]
-fn lines_and_their_ends(rt: HostRuntime) -> Result<(), Fail> {
-    let alloc = rt.alloc();
-    let want = b"0 p close\n@0 p close\n".as_slice();
-    expect_text(&rt, alloc, b"keep 1\nseats 0\np close\ngo p", want)?;
-    expect_text(
-        &rt,
-        alloc,
-        b"\n\nkeep 1\n\nseats 0\np close\n\ngo p\n\n\n",
-        want,
-    )?;
-    expect_text(
-        &rt,
-        alloc,
-        b"keep 000000001\nseats 000000000\np close\ngo p*000000001\n",
-        want,
-    )
+fn runs_with_their_events(rt: HostRuntime) -> Result<(), Fail> {
+    for (input, want) in EVENTS {
+        expect_events(&rt, rt.alloc(), input, want)?;
+    }
+    Ok(())
 }
+
+/// Inputs with what is written for them, or the line that says why they are refused.
+const RUNS: [(&[u8], &str); 13] = [
+    (
+        b"keep 1\nseats 2\n1 attach\n1 take\n1 take\n1 detach\np ABcd\np close\ngo 1*2 p*7 1 1 1 1 1 1\n",
+        "0 1 load 0 0\n1 1 load 0 0\n2 p begin 0 0 0\n3 p len 2\n4 p byte ab\n5 p byte cd\n6 p finish 0 1 0\n7 p append 1\n8 p close\n9 1 load 1 1\n10 1 pin 0 0 1\n11 1 len 2\n12 1 byte ab\n13 1 byte cd\n14 1 unpin 1 0 1\n@0 1 attach 0\n@1 1 empty\n@7 p appended 0\n@8 p close\n@9 1 took 0 abcd\n",
+    ),
+    // Lines and their ends.
+    (b"keep 1\nseats 0\np close\ngo p", "0 p close\n@0 p close\n"),
+    (
+        b"\n\nkeep 1\n\nseats 0\np close\n\ngo p\n\n\n",
+        "0 p close\n@0 p close\n",
+    ),
+    (
+        b"keep 000000001\nseats 000000000\np close\ngo p*000000001\n",
+        "0 p close\n@0 p close\n",
+    ),
+    // Refused runs.
+    (b"keep 0\nseats 1\ngo p\n", "relay: bad config"),
+    (b"keep 4096\nseats 1\ngo p\n", "relay: bad config"),
+    (
+        b"keep 1\nseats 1025\n1024 take\ngo p\n",
+        "relay: bad config",
+    ),
+    (
+        b"keep 1\nseats 999999999\n999999998 attach\ngo p\n",
+        "relay: bad config",
+    ),
+    (
+        b"keep 1\nseats 1\n0 take\ngo 0\n",
+        "relay: bad script 0 call 0",
+    ),
+    (b"keep 1\nseats 1\ngo p\n", "relay: bad schedule at 0"),
+    (
+        b"keep 1\nseats 1\n0 attach\ngo 65536\n",
+        "relay: bad schedule at 0",
+    ),
+    (
+        b"keep 1\nseats 1\n0 attach\ngo 1\n",
+        "relay: bad schedule at 0",
+    ),
+    (
+        b"keep 1\nseats 1\n0 attach\ngo 0 0\n",
+        "relay: bad schedule at 1",
+    ),
+];
+
+#[test]
+fn runs_byte_for_byte(rt: HostRuntime) -> Result<(), Fail> {
+    for (input, want) in RUNS {
+        expect(&rt, rt.alloc(), input, want)?;
+    }
+    Ok(())
+}
+
+/// Inputs with the number of the first line after which no input can stand.
+const BAD_LINES: [(&[u8], u64); 41] = [
+    (b"", 1),
+    (b"\n\n", 3),
+    (b" \n", 1),
+    (b"keep 1\r\nseats 1\r\n", 1),
+    (b"keep 1\n\nseats 1\n\n", 5),
+    (b"keep 1\nseats 1", 3),
+    (b"keep \nseats 1\ngo p\n", 1),
+    (b"keep 0000000001\n", 1),
+    (b"keep -1\n", 1),
+    (b"keep 1 \n", 1),
+    (b"Keep 1\n", 1),
+    (b"seats 1\nkeep 1\n", 1),
+    (b"keep 1\nkeep 1\n", 2),
+    (b"keep 1\ngo p\n", 2),
+    (b"keep 1\nseats x\n", 2),
+    (b"keep 1\nseats 1\nseats 1\n", 3),
+    (b"keep 1\nseats 1\n\np 4\n", 4),
+    (b"keep 1\nseats 1\np \n", 3),
+    (b"keep 1\nseats 1\np\n", 3),
+    (b"keep 1\nseats 1\np 4g\n", 3),
+    (b"keep 1\nseats 1\np 41 42\n", 3),
+    (b"keep 1\nseats 1\np  41\n", 3),
+    (b"keep 1\nseats 1\np Close\n", 3),
+    (b"keep 1\nseats 1\n1 take\n", 3),
+    (b"keep 1\nseats 1\n0 taken\n", 3),
+    (b"keep 1\nseats 1\n0  take\n", 3),
+    (b"keep 1\nseats 1\n0\n", 3),
+    (b"keep 1\nseats 1\n4294967296 take\n", 3),
+    (b"keep 1\nseats 1\ngo\n", 3),
+    (b"keep 1\nseats 1\ngo \n", 3),
+    (b"keep 1\nseats 1\ngo p  p\n", 3),
+    (b"keep 1\nseats 1\ngo p \n", 3),
+    (b"keep 1\nseats 1\ngo q\n", 3),
+    (b"keep 1\nseats 1\ngo p*\n", 3),
+    (b"keep 1\nseats 1\ngo p*0\n", 3),
+    (b"keep 1\nseats 1\ngo p*100001\n", 3),
+    (b"keep 1\nseats 1\ngo p*1*1\n", 3),
+    (b"keep 1\nseats 1\ngo *1\n", 3),
+    (
+        b"keep 1\nseats 1\ngo p*100000 p*100000 p*100000 p*100000 p*100000 p*100000 p*100000 p*100000 p*100000 p*100000 p\n",
+        3,
+    ),
+    (b"keep 1\nseats 1\ngo p\ngo p\n", 4),
+    (b"keep 1\nseats 1\ngo p\n\n0 take\n", 5),
+];
 
 #[test]
 fn first_bad_lines(rt: HostRuntime) -> Result<(), Fail> {
-    let rows = [
-        (b"".as_slice(), 1),
-        (b"\n\n", 3),
-        (b" \n", 1),
-        (b"keep 1\r\nseats 1\r\n", 1),
-        (b"keep 1\n\nseats 1\n\n", 5),
-        (b"keep 1\nseats 1", 3),
-        (b"keep \nseats 1\ngo p\n", 1),
-        (b"keep 0000000001\n", 1),
-        (b"keep -1\n", 1),
-        (b"keep 1 \n", 1),
-        (b"Keep 1\n", 1),
-        (b"seats 1\nkeep 1\n", 1),
-        (b"keep 1\nkeep 1\n", 2),
-        (b"keep 1\ngo p\n", 2),
-        (b"keep 1\nseats x\n", 2),
-        (b"keep 1\nseats 1\nseats 1\n", 3),
-        (b"keep 1\nseats 1\n\np 4\n", 4),
-        (b"keep 1\nseats 1\np \n", 3),
-        (b"keep 1\nseats 1\np\n", 3),
-        (b"keep 1\nseats 1\np 4g\n", 3),
-        (b"keep 1\nseats 1\np 41 42\n", 3),
-        (b"keep 1\nseats 1\np  41\n", 3),
-        (b"keep 1\nseats 1\np Close\n", 3),
-        (b"keep 1\nseats 1\n1 take\n", 3),
-        (b"keep 1\nseats 1\n0 taken\n", 3),
-        (b"keep 1\nseats 1\n0  take\n", 3),
-        (b"keep 1\nseats 1\n0\n", 3),
-        (b"keep 1\nseats 1\n4294967296 take\n", 3),
-        (b"keep 1\nseats 1\ngo\n", 3),
-        (b"keep 1\nseats 1\ngo \n", 3),
-        (b"keep 1\nseats 1\ngo p  p\n", 3),
-        (b"keep 1\nseats 1\ngo p \n", 3),
-        (b"keep 1\nseats 1\ngo q\n", 3),
-        (b"keep 1\nseats 1\ngo p*\n", 3),
-        (b"keep 1\nseats 1\ngo p*0\n", 3),
-        (b"keep 1\nseats 1\ngo p*100001\n", 3),
-        (b"keep 1\nseats 1\ngo p*1*1\n", 3),
-        (b"keep 1\nseats 1\ngo *1\n", 3),
-        (
-            b"keep 1\nseats 1\ngo p*100000 p*100000 p*100000 p*100000 p*100000 p*100000 p*100000 p*100000 p*100000 p*100000 p\n",
-            3,
-        ),
-        (b"keep 1\nseats 1\ngo p\ngo p\n", 4),
-        (b"keep 1\nseats 1\ngo p\n\n0 take\n", 5),
-    ];
-    for (input, number) in rows {
-        expect_end(&rt, rt.alloc(), input, StepsEnd::BadLine(number))?;
+    for (input, number) in BAD_LINES {
+        let want = format!(in rt.alloc(); "relay: bad line {number}")?;
+        expect(&rt, rt.alloc(), input, want.as_str())?;
     }
     Ok(())
 }
@@ -200,45 +216,15 @@ fn publish_of(alloc: Global, count: usize) -> Result<Vec<u8>, Fail> {
 #[test]
 fn longest_publish(rt: HostRuntime) -> Result<(), Fail> {
     let alloc = rt.alloc();
-    expect_text(
-        &rt,
-        alloc,
-        publish_of(alloc, 65535)?.as_slice(),
-        b"0 p begin 0 0 0\n",
-    )?;
-    expect_end(
-        &rt,
-        alloc,
-        publish_of(alloc, 65536)?.as_slice(),
-        StepsEnd::BadLine(3),
-    )
+    let longest = publish_of(alloc, 65535)?;
+    expect(&rt, alloc, longest.as_slice(), "0 p begin 0 0 0\n")
 }
 
 #[test]
-fn refused_runs(rt: HostRuntime) -> Result<(), Fail> {
+fn publish_too_long(rt: HostRuntime) -> Result<(), Fail> {
     let alloc = rt.alloc();
-    let config = StepsEnd::Refused(StepFault::BadConfig);
-    expect_end(&rt, alloc, b"keep 0\nseats 1\ngo p\n", config)?;
-    expect_end(&rt, alloc, b"keep 4096\nseats 1\ngo p\n", config)?;
-    expect_end(&rt, alloc, b"keep 1\nseats 1025\n1024 take\ngo p\n", config)?;
-    let many = b"keep 1\nseats 999999999\n999999998 attach\ngo p\n".as_slice();
-    expect_end(&rt, alloc, many, config)?;
-    let script = StepsEnd::Refused(StepFault::BadScript {
-        actor: Actor::Seat(0),
-        call: 0,
-    });
-    expect_end(&rt, alloc, b"keep 1\nseats 1\n0 take\ngo 0\n", script)?;
-    let schedule = StepsEnd::Refused(StepFault::BadSchedule(0));
-    expect_end(&rt, alloc, b"keep 1\nseats 1\ngo p\n", schedule)?;
-    expect_end(
-        &rt,
-        alloc,
-        b"keep 1\nseats 1\n0 attach\ngo 65536\n",
-        schedule,
-    )?;
-    expect_end(&rt, alloc, b"keep 1\nseats 1\n0 attach\ngo 1\n", schedule)?;
-    let second = StepsEnd::Refused(StepFault::BadSchedule(1));
-    expect_end(&rt, alloc, b"keep 1\nseats 1\n0 attach\ngo 0 0\n", second)
+    let longer = publish_of(alloc, 65536)?;
+    expect(&rt, alloc, longer.as_slice(), "relay: bad line 3")
 }
 
 #[test]
@@ -287,9 +273,8 @@ fn ends_and_their_lines(rt: HostRuntime) -> Result<(), Fail> {
 #[test]
 fn reader_that_fails(rt: HostRuntime) -> Result<(), Fail> {
     for place in 0..LOST.len() + 1 {
-        let (out, end) = steps(rt.alloc(), LOST, 7, Some(place), 1000)?;
-        assert!(rt; end == StepsEnd::ReadFailed, "{place}");
-        assert!(rt; out.as_slice().is_empty());
+        let text = steps(rt.alloc(), LOST, 7, Some(place), 1000)?;
+        assert_eq!(rt; text.as_str(), "relay: read failed", "{place}");
     }
     Ok(())
 }
@@ -297,9 +282,9 @@ fn reader_that_fails(rt: HostRuntime) -> Result<(), Fail> {
 #[test]
 fn writer_of_each_room(rt: HostRuntime) -> Result<(), Fail> {
     for room in 0..LOST_TRACE.len() {
-        let (out, end) = steps(rt.alloc(), LOST, 1000, None, room)?;
-        assert!(rt; end == StepsEnd::WriteFailed, "{room}");
-        assert_eq!(rt; out.as_slice(), &LOST_TRACE[..room]);
+        let text = steps(rt.alloc(), LOST, 1000, None, room)?;
+        let written = text.as_bytes().strip_suffix(b"relay: write failed");
+        assert_eq!(rt; written, Some(&LOST_TRACE[..room]));
     }
     Ok(())
 }
@@ -319,12 +304,10 @@ fn long_input(alloc: Global) -> Result<Vec<u8>, Fail> {
 
 #[test]
 fn a_million_steps(rt: HostRuntime) -> Result<(), Fail> {
-    let alloc = rt.alloc();
-    let input = long_input(alloc)?;
-    let (out, end) = steps(alloc, input.as_slice(), 100_000, None, 40_000_000)?;
-    assert!(rt; end == StepsEnd::Done);
-    let last = b"@999999 p appended 99999\n".as_slice();
-    assert!(rt; out.as_slice().ends_with(last));
+    let mut source = ListSource::new(long_input(rt.alloc())?, 100_000, None);
+    let mut sink = ListSink::new(rt.alloc(), 40_000_000)?;
+    let end = run_steps(rt.alloc(), &mut source, &mut sink);
+    assert!(rt; end == StepsEnd::Done && sink.bytes().ends_with(b"@999999 p appended 99999\n"));
     Ok(())
 }
 
