@@ -1,0 +1,158 @@
+-- A begin of the running ring keeps the block's rule: by the core's law.
+use Rattle.std.proofs.Common.{◌≡◌, ◌≢◌, ℕ, suc, ◌+◌, ◌-◌, ◌*◌, ◌%◌, ◌≤◌, ◌<◌, ◌^◌, Bool, false, true, List, [], ◌∷◌, map, length, get_or, set, sym, refl, ap, ◌∙◌, subst, arith, eqb, eq-eqb, ne_eqb, get_or-set_same, get_or-set_other, inl, inr, if◌then◌else◌}
+use mathlib.Core.Logic.{inl, inr}
+use mathlib.Core.List.{IsPrefix}
+use base.Growing.{prefix_refl}
+use prog.Atomic.{either}
+use Rattle.ring_steps.specs.declared.views.Publisher.{Publisher}
+use Rattle.ring_steps.specs.declared.views.PublisherPhase.TheVariants as publishing
+use Rattle.ring_steps.specs.declared.views.Seat.{Seat}
+use Rattle.ring_steps.specs.declared.views.SeatPhase.{SeatPhase}
+use Rattle.ring_steps.specs.declared.views.SeatPhase.TheVariants as seating
+use Rattle.ring_steps.specs.declared.words.Slot.{Slot}
+use Rattle.ring_steps.specs.declared.words.Word.{Word}
+use Rattle.ring_steps.specs.Bits.{head_bits, word_bits, known_word}
+use Rattle.ring_steps.specs.Ring as Ring
+use Rattle.ring_steps.specs.Ring.{cursor, place, slot, word, with_publisher, with_slot, fresh_slot}
+use Rattle.ring_steps.specs.Slots.{Invariant, pin_of, pins_of}
+use Rattle.ring_steps.specs.Step.{is_known, next_place, begun, refused}
+use Rattle.ring_steps.proofs.Places.{at_set, place_within}
+use Rattle.ring_steps.proofs.Begins.{begin_keeps, refused_step}
+use Rattle.ring_steps.proofs.Bits.{known_bits, begin_bits, pins_fit, words_apart}
+use Rattle.packet_ring.specs.Table.{State, Home, away, home, Right, no_right, Act, keeps, begins, homes_after, stepped, Goes, Allows}
+use Rattle.packet_ring.specs.Rule.{View, Knows, Holds, Fits, HomeFits, HasCells, hold_of, holders}
+use Rattle.packet_ring.specs.Steps.{Begins}
+use Rattle.packet_ring.proofs.Heads.{map_set, set_same, units_of, publisher_there}
+use Rattle.packet_ring.proofs.Pinned.{word_at, at_home, home_there, elem_within}
+
+-- a step by the publisher on the word of the slot at place j, which changes that slot and the publisher's view
+pub written_kept : (s : Ring.State) (t : State View (List ℕ)) → Fits s t → (j : ℕ) (p : Publisher) (b : Slot) (v : ℕ) (r : Right) (a : Act) → Invariant (with_publisher (with_slot s j b) p) → v ≡ word_bits b.word
+    → ((k : ℕ) → k ≤ s.keep → HomeFits (with_publisher (with_slot s j b) p) k (get_or (homes_after t.homes r a) (suc k) away)) → Holds (stepped t (suc j) v 0 r (inl (s.log, p)) a t.log)
+written_kept s t fits j p b v r a sound bits homes = (
+  with_publisher (with_slot s j b) p,
+  record {
+    sound = sound;
+    few = fits.few;
+    short = fits.short;
+    words = ap (λ (ws : List ℕ). set ws (suc j) v) fits.words ∙ ap (λ (ws : List ℕ). head_bits s.head ∷ ws) (ap (set (map (λ (x : Slot). word_bits x.word) s.slots) j) bits ∙ map_set (λ (x : Slot). word_bits x.word) s.slots j b);
+    views = ap (λ (vs : List View). set vs 0 (inl (s.log, p))) fits.views;
+    log = fits.log;
+    homes = homes;
+  },
+)
+
+-- who holds pins
+hold_pins : (φ : SeatPhase) (at j : ℕ) → hold_of φ at j ≤ pin_of φ at j
+hold_pins seating.Out at j = omega arith
+hold_pins seating.Between at j = omega arith
+hold_pins seating.Found at j = omega arith
+hold_pins seating.Holding at j = omega arith
+hold_pins seating.Reading at j = omega arith
+hold_pins seating.Failed at j = omega arith
+hold_pins seating.Missed at j = omega arith
+
+holders_pin : (keep : ℕ) (xs : List Seat) (j : ℕ) → holders keep xs j ≤ pins_of keep xs j
+holders_pin keep [] j = omega arith
+holders_pin keep (x ∷ xs) j = let h = holders_pin keep xs j in let o = hold_pins x.phase (cursor x % (keep + 1)) j in omega arith
+
+same_home : (s : Ring.State) (p : Publisher) (j : ℕ) (h : Home) → HomeFits s j h → HomeFits (with_publisher s p) j h
+same_home s p j away fit = fit
+same_home s p j (home m c) fit = fit
+
+pub other_home : (s : Ring.State) (j : ℕ) (b : Slot) (p : Publisher) (k : ℕ) (h : Home) → slot (with_publisher (with_slot s j b) p) k ≡ slot s k → HomeFits s k h → HomeFits (with_publisher (with_slot s j b) p) k h
+other_home s j b p k away e fit = ap (λ (u : Slot). u.word.writing) e ∙ fit
+other_home s j b p k (home m c) e fit = (ap (λ (u : Slot). u.word.writing) e ∙ fit.0, fit.1, subst (HasCells c) (sym e) fit.2)
+
+module _ (s : Ring.State) (t : State View (List ℕ)) (fits : Fits s t) (q : List ℕ) (seen : List (List ℕ)) (pre : IsPrefix seen t.log)
+    (within : s.publisher.phase ≡ publishing.Between) (open_ : s.publisher.closed ≡ false) where
+  abbrev j : ℕ
+  j = next_place s
+
+  abbrev w : Word
+  w = word s j
+
+  abbrev known : ℕ
+  known = word_bits (known_word s)
+
+  abbrev swap : ℕ → ℕ
+  swap m = either (eqb m known) (known + 2 ^ 16) m
+
+  abbrev me : Knows
+  me = record { view = inl (s.log, s.publisher); right = no_right; seen = seen }
+
+  near : j ≤ s.keep
+  near = place_within s.keep (length s.log)
+
+  found : get_or t.words (suc j) 0 ≡ word_bits w
+  found = ap (λ (ws : List ℕ). get_or ws (suc j) 0) fits.words ∙ word_at s.slots j
+
+  few_pins : w.pins < 65536
+  few_pins = let p = pins_fit s j fits.sound near in let f = fits.few in omega arith
+
+  sound_by : (c : Bool) → is_known s w ≡ c → Invariant (if c then begun s q else refused s).state
+  sound_by c is = subst (λ (d : Bool). Invariant (if d then begun s q else refused s).state) is (begin_keeps s q fits.sound within open_)
+
+  begin_goes : (c : Bool) → is_known s w ≡ c → Goes Holds t 0 me (suc j) swap (Begins (suc j) s.log s.publisher q known me)
+  begin_goes false is =
+      let p' : Publisher = record s.publisher { failed = s.publisher.failed + 1; pins = w.pins } in let both = known_bits s w few_pins in
+      let not : get_or t.words (suc j) 0 ≢ known = λ e. let t = both.1 (sym found ∙ e) in absurd (cc) in
+      let kept : swap (get_or t.words (suc j) 0) ≡ get_or t.words (suc j) 0 = ap (λ (b : Bool). either b (known + 2 ^ 16) (get_or t.words (suc j) 0)) (ne_eqb (get_or t.words (suc j) 0) known not) in
+      let saw = refused_step publishing.Between q s (refused s) within (open_, sym (ap (λ (d : Bool). if d then begun s q else refused s) is)) refl fits.sound in
+      let sound : Invariant (with_publisher s p') = sound_by false is in (
+        inl (s.log, p'),
+        keeps,
+        t.log,
+        t.log,
+        tt,
+        prefix_refl t.log,
+        prefix_refl t.log,
+        (
+          with_publisher s p',
+          record {
+            sound = sound;
+            few = fits.few;
+            short = fits.short;
+            words = ap (set t.words (suc j)) kept ∙ set_same t.words (suc j) ∙ fits.words;
+            views = ap (λ (vs : List View). set vs 0 (inl (s.log, p'))) fits.views;
+            log = fits.log;
+            homes = λ k low. same_home s p' k (get_or t.homes (suc k) away) (fits.homes k low);
+          },
+        ),
+        record { word = w; bits = found; begun = λ e. absurd (not e); refused = λ e. (refl, refl, saw.some, (let most = saw.within in let few = fits.few in omega arith)); grows = pre },
+      )
+  begin_goes true is =
+      let p' : Publisher = record s.publisher { phase = publishing.Begun; packet = q; written = 0 } in let b : Slot = record (slot s j) { word = record w { writing = true } } in let s' : Ring.State = with_publisher (with_slot s j b) p' in
+      let e : word_bits w ≡ known = (known_bits s w few_pins).0 is in let same : w ≡ known_word s = (words_apart w (known_word s) few_pins (omega arith)).0 e in let hit : get_or t.words (suc j) 0 ≡ known = found ∙ e in
+      let swapped : swap (get_or t.words (suc j) 0) ≡ known + 2 ^ 16 = ap (λ (d : Bool). either d (known + 2 ^ 16) (get_or t.words (suc j) 0)) (eq-eqb (get_or t.words (suc j) 0) known hit) in
+      let sound : Invariant s' = sound_by true is in let wide = fits.sound.phases.width in let low = near in let there : slot s' j ≡ b = get_or-set_same s.slots j b fresh_slot (omega arith) in
+      let bits : word_bits b.word ≡ known + 2 ^ 16 = ap (λ (u : Slot). word_bits u.word) (sym there) ∙ subst (λ (d : Bool). word_bits (word (if d then begun s q else refused s).state j) ≡ known + 2 ^ 16) is (begin_bits s q (record { sound = fits.sound; within = within }) is) in
+      let H = at_home s j (get_or t.homes (suc j) away) (fits.homes j near) (ap (λ (u : Word). u.writing) same) in let c : List ℕ = H.cells in
+      let none : H.parts ≡ 0 = let h = holders_pin s.keep s.seats j in let f : H.parts ≡ holders s.keep s.seats j = H.fits.1 in let g : w.pins ≡ pins_of s.keep s.seats j = fits.sound.slots.pins j near in let z : w.pins ≡ 0 = ap (λ (u : Word). u.pins) same in omega arith in
+      let elem = home_there t.homes (suc j) 0 c (H.is ∙ ap (λ (m : ℕ). home m c) none) in
+      let homes' : (k : ℕ) → k ≤ s.keep → HomeFits s' k (get_or (set t.homes (suc j) away) (suc k) away) = λ k small. elim (at_set t.homes (suc j) (suc k) away away (elem_within t.homes (suc j) (home 0 c) elem)) [
+        | inl f ↦ let at : k ≡ j = let g = f.0 in omega arith in subst (HomeFits s' k) (sym f.1) (subst (λ (l : ℕ). HomeFits s' l away) (sym at) (ap (λ (u : Slot). u.word.writing) there))
+        | inr f ↦ subst (HomeFits s' k) (sym f.1) (other_home s j b p' k (get_or t.homes (suc k) away) (get_or-set_other s.slots j k b fresh_slot (λ g. f.0 (ap suc g))) (fits.homes k small))
+      ] in (
+        inl (s.log, p'),
+        begins (suc j) c,
+        t.log,
+        t.log,
+        elem,
+        prefix_refl t.log,
+        prefix_refl t.log,
+        written_kept s t fits j p' b (swap (get_or t.words (suc j) 0)) no_right (begins (suc j) c) sound (swapped ∙ sym bits) homes',
+        record { word = w; bits = found; begun = λ f. (c, refl, refl); refused = λ f. absurd (f hit); grows = pre },
+      )
+
+pub begin_allows : (units keep : ℕ) → keep + 2 ≡ units → (log : List (List ℕ)) (p : Publisher) (q : List ℕ) (seen : List (List ℕ)) → p.phase ≡ publishing.Between → p.closed ≡ false
+    → let me : Knows = record { view = inl (log, p); right = no_right; seen = seen } in let unit = suc (length log % (keep + 1)) in let known = 131072 * (length log - keep) in
+    Allows Holds units 0 me unit (λ m. either (eqb m known) (known + 2 ^ 16) m) (Begins unit log p q known me)
+begin_allows units keep size log p q seen within open_ t held long rooms at pre small =
+    let s : Ring.State = held.0 in let fits : Fits s t = held.1 in let many = units_of s t fits units long in let same : s.keep ≡ keep = omega arith in
+    let e = publisher_there s t fits log p (record { view = inl (log, p); right = no_right; seen = seen }) refl at in
+    let Out : ℕ → ℕ → List (List ℕ) → Publisher → Type 0 = λ k known l r. let m : Knows = record { view = inl (l, r); right = no_right; seen = seen } in let unit = suc (length l % (k + 1)) in
+    Goes Holds t 0 m unit (λ n. either (eqb n known) (known + 2 ^ 16) n) (Begins unit l r q known m) in
+    let base = begin_goes s t fits q seen pre (ap (λ (r : Publisher). r.phase) e.1 ∙ within) (ap (λ (r : Publisher). r.closed) e.1 ∙ open_) (is_known s (word s (next_place s))) refl in
+    let number : word_bits (known_word s) ≡ 131072 * (length log - keep) = let n : length s.log ≡ length log = ap length e.0 in omega arith in
+    subst (λ (r : Publisher). Out keep (131072 * (length log - keep)) log r) e.1 (subst (λ (l : List (List ℕ)). Out keep (131072 * (length log - keep)) l s.publisher) e.0
+    (subst (λ (k : ℕ). Out k (131072 * (length log - keep)) s.log s.publisher) same (subst (λ (n : ℕ). Out s.keep n s.log s.publisher) number base)))

@@ -1,0 +1,164 @@
+-- A finish of the running ring keeps the block's rule: by the core's law.
+use Rattle.std.proofs.Common.{◌≡◌, ◌≢◌, ℕ, zero, suc, ◌+◌, ◌-◌, ◌*◌, ◌%◌, ◌==◌, ◌≤◌, ◌<◌, ◌^◌, Bool, false, true, List, [], ◌∷◌, ◌++◌, length, get_or, set, sym, refl, ap, ◌∙◌, subst, arith, Some, get_or-set_same, get_or-set_other, inl, inr, if◌then◌else◌}
+use Rattle.std.specs.Prelude.{slice_get}
+use mathlib.Core.Logic.{inl, inr}
+use mathlib.Core.Option as maybe
+use mathlib.Core.List.{IsPrefix}
+use base.Growing.{prefix_refl}
+use Rattle.std.proofs.Math.Nat.{mod-eq_of_lt}
+use Rattle.std.proofs.lemmas.Bool.Decides.{eqb_tells}
+use lib.ListN.{get_elem?, take, drop}
+use Rattle.ring_steps.specs.declared.views.Publisher.{Publisher}
+use Rattle.ring_steps.specs.declared.views.PublisherPhase.TheVariants as publishing
+use Rattle.ring_steps.specs.declared.views.Seat.{Seat}
+use Rattle.ring_steps.specs.declared.views.SeatPhase.{SeatPhase}
+use Rattle.ring_steps.specs.declared.views.SeatPhase.TheVariants as seating
+use Rattle.ring_steps.specs.declared.words.Slot.{Slot}
+use Rattle.ring_steps.specs.Bits.{word_bits}
+use Rattle.ring_steps.specs.Moves.{slot_of, write_all}
+use Rattle.ring_steps.specs.Ring as Ring
+use Rattle.ring_steps.specs.Ring.{cursor, place, slot, word, floor, with_publisher, with_slot, fresh_slot}
+use Rattle.ring_steps.specs.Slots.{Invariant, IsHolding, Writes}
+use Rattle.ring_steps.specs.Step.{next_place, finish}
+use Rattle.ring_steps.proofs.Places.{at_set, place_within}
+use Rattle.ring_steps.proofs.Moves.{write_all_keeps}
+use Rattle.ring_steps.proofs.Writing.{finish_keeps}
+use Rattle.ring_steps.proofs.Bits.{finish_bits, word_fits}
+use Rattle.packet_ring.specs.Table.{State, Home, away, home, may_end, finishes, Goes, Allows}
+use Rattle.packet_ring.specs.Rule.{View, Knows, Holds, Fits, HomeFits, HasCells, hold_of, holders}
+use Rattle.packet_ring.specs.Steps.{Finishes, HasPacket}
+use Rattle.packet_ring.proofs.Heads.{units_of, publisher_there}
+use Rattle.packet_ring.proofs.Pinned.{word_at, set_twice}
+use Rattle.packet_ring.proofs.Begun.{written_kept, other_home}
+
+take_front : (q r : List ℕ) → take (length q) (q ++ r) ≡ q
+take_front [] r = refl
+take_front (x ∷ q) r = ap (λ (ys : List ℕ). x ∷ ys) (take_front q r)
+
+-- a unit whose slot is written is away
+is_away : (s : Ring.State) (j : ℕ) (h : Home) → HomeFits s j h → (word s j).writing ≡ true → h ≡ away
+is_away s j away fit w = refl
+is_away s j (home m c) fit w = absurd (cc)
+
+away_there : (hs : List Home) (i : ℕ) → i < length hs → get_or hs i away ≡ away → get_elem? hs i ≡ maybe.some away
+away_there [] i l e = absurd (omega arith)
+away_there (h ∷ hs) zero l e = ap (λ (x : Home). maybe.some x) e
+away_there (h ∷ hs) (suc i) l e = away_there hs i (omega arith) e
+
+-- nobody holds a packet in a slot that is written
+abbrev tally : Bool → ℕ
+tally b = if b then 1 else 0
+
+no_hold : (b : Bool) → b ≡ false → 0 ≡ tally b
+no_hold true e = absurd (cc)
+no_hold false e = refl
+
+apart_hold : (at j : ℕ) → at ≢ j → 0 ≡ tally (at == j)
+apart_hold at j ne = elim (eqb_tells at j) [ inl e ↦ absurd (ne e.1) | inr e ↦ no_hold (at == j) e.0 ]
+
+hold_else : (φ : SeatPhase) (at j : ℕ) → (IsHolding φ → at ≢ j) → 0 ≡ hold_of φ at j
+hold_else seating.Out at j f = refl
+hold_else seating.Between at j f = refl
+hold_else seating.Found at j f = refl
+hold_else seating.Holding at j f = apart_hold at j (f tt)
+hold_else seating.Reading at j f = apart_hold at j (f tt)
+hold_else seating.Failed at j f = refl
+hold_else seating.Missed at j f = refl
+
+none_hold : (keep : ℕ) (xs : List Seat) (j : ℕ) → ((i : ℕ) (x : Seat) → slice_get xs i ≡ Some x → 0 ≡ hold_of x.phase (cursor x % (keep + 1)) j) → 0 ≡ holders keep xs j
+none_hold keep [] j f = refl
+none_hold keep (x ∷ xs) j f = let a = f 0 x refl in let b = none_hold keep xs j (λ i y e. f (suc i) y e) in omega arith
+
+module _ (s : Ring.State) (t : State View (List ℕ)) (fits : Fits s t) (rooms : length t.homes ≡ s.keep + 2) (c : List ℕ) (seen : List (List ℕ)) (pre : IsPrefix seen t.log)
+    (within : s.publisher.phase ≡ publishing.Begun) (has : HasPacket c s.publisher.packet) (k : ℕ) (adds : k ≡ 131072 * (length s.log + 1 - floor s (length s.log)) - 65536) where
+  abbrev j : ℕ
+  j = next_place s
+
+  abbrev q : List ℕ
+  q = s.publisher.packet
+
+  abbrev me : Knows
+  me = record { view = inl (s.log, s.publisher); right = may_end (suc j) c; seen = seen }
+
+  abbrev p' : Publisher
+  p' = record s.publisher { phase = publishing.Finished; written = length q }
+
+  abbrev full : Slot
+  full = slot_of q (slot s j)
+
+  abbrev done_ : Slot → Slot
+  done_ x = record x { word = record x.word { writing = false; number = length s.log + 1 } }
+
+  abbrev s₁ : Ring.State
+  s₁ = write_all s
+
+  abbrev s' : Ring.State
+  s' = with_publisher (with_slot s j (done_ full)) p'
+
+  near : j ≤ s.keep
+  near = place_within s.keep (length s.log)
+
+  within_slots : j < length s.slots
+  within_slots = let w = fits.sound.phases.width in let l = near in omega arith
+
+  filled : slot s₁ j ≡ full
+  filled = get_or-set_same s.slots j full fresh_slot within_slots
+
+  -- the core's state after all writes and the finish
+  arrives : (finish s₁).state ≡ s'
+  arrives = ap (λ (x : Slot). with_publisher (with_slot s₁ j (done_ x)) p') filled ∙ ap (λ (xs : List Slot). let u : Ring.State = record s { slots = xs; publisher = p' } in u) (set_twice s.slots j full (done_ full))
+
+  sound₁ : Invariant s₁
+  sound₁ = write_all_keeps s (record { sound = fits.sound; within = within })
+
+  sound : Invariant s'
+  sound = subst Invariant arrives (finish_keeps s₁ sound₁ refl (omega arith))
+
+  there : slot s' j ≡ done_ full
+  there = get_or-set_same s.slots j (done_ full) fresh_slot within_slots
+
+  bits : (get_or t.words (suc j) 0 + k) % 2 ^ 64 ≡ word_bits (done_ full).word
+  bits = let found : get_or t.words (suc j) 0 ≡ word_bits (word s j) = ap (λ (ws : List ℕ). get_or ws (suc j) 0) fits.words ∙ word_at s.slots j in
+      let e : word_bits (word (finish s₁).state j) ≡ word_bits (word s₁ j) + (131072 * (length s.log + 1 - floor s (length s.log)) - 65536) = finish_bits s₁ (record { sound = sound₁; within = refl }) in
+      let a : word_bits (word (finish s₁).state j) ≡ word_bits (done_ full).word = ap (λ (u : Ring.State). word_bits (word u j)) arrives ∙ ap (λ (x : Slot). word_bits x.word) there in
+      let b : word_bits (word s₁ j) ≡ word_bits (word s j) = ap (λ (x : Slot). word_bits x.word) filled in
+      let sum : get_or t.words (suc j) 0 + k ≡ word_bits (done_ full).word = omega arith in
+      let small : word_bits (done_ full).word < 2 ^ 64 = subst (λ (x : Slot). word_bits x.word < 2 ^ 64) there (word_fits s' j sound fits.few fits.short near) in
+      ap (λ (m : ℕ). m % 2 ^ 64) sum ∙ mod-eq_of_lt small
+
+  writes : (word s j).writing ≡ true
+  writes = (fits.sound.slots.writing j near).1 (subst Writes (sym within) tt, refl)
+
+  idle : 0 ≡ holders s.keep s.seats j
+  idle = none_hold s.keep s.seats j (λ i x at. hold_else x.phase (cursor x % (s.keep + 1)) j (λ h e. let n = fits.sound.slots.held i x at h in let f : (word s j).writing ≡ false = subst (λ (l : ℕ). (word s l).writing ≡ false) e n.1 in let w : (word s j).writing ≡ true = writes in absurd (cc)))
+
+  pub finish_goes : Goes Holds t 0 me (suc j) (λ m. (m + k) % 2 ^ 64) (Finishes s.log s.publisher me)
+  finish_goes =
+      let elem = away_there t.homes (suc j) (let n = near in omega arith) (is_away s j (get_or t.homes (suc j) away) (fits.homes j near) writes) in
+      let now : HomeFits s' j (home 0 c) = (ap (λ (x : Slot). x.word.writing) there, idle, subst (HasCells c) (sym there) (sym has.size, take_front q (drop (length q) (slot s j).bytes) ∙ sym has.bytes)) in
+      let homes' : (l : ℕ) → l ≤ s.keep → HomeFits s' l (get_or (set t.homes (suc j) (home 0 c)) (suc l) away) = λ l low. elim (at_set t.homes (suc j) (suc l) (home 0 c) away (let n = near in omega arith)) [
+        | inl f ↦ let at : l ≡ j = let g = f.0 in omega arith in subst (HomeFits s' l) (sym f.1) (subst (λ (m : ℕ). HomeFits s' m (home 0 c)) (sym at) now)
+        | inr f ↦ subst (HomeFits s' l) (sym f.1) (other_home s j (done_ full) p' l (get_or t.homes (suc l) away) (get_or-set_other s.slots j l (done_ full) fresh_slot (λ g. f.0 (ap suc g))) (fits.homes l low))
+      ] in (
+        inl (s.log, p'),
+        finishes,
+        t.log,
+        t.log,
+        elem,
+        prefix_refl t.log,
+        prefix_refl t.log,
+        written_kept s t fits j p' (done_ full) ((get_or t.words (suc j) 0 + k) % 2 ^ 64) (may_end (suc j) c) finishes sound bits homes',
+        record { view = refl; right = refl; grows = pre },
+      )
+
+pub finish_allows : (units keep : ℕ) → keep + 2 ≡ units → (log : List (List ℕ)) (p : Publisher) (c : List ℕ) (seen : List (List ℕ)) (k : ℕ) → p.phase ≡ publishing.Begun → HasPacket c p.packet
+    → k ≡ 131072 * (length log + 1 - (length log - keep)) - 65536
+    → let unit = suc (length log % (keep + 1)) in let me : Knows = record { view = inl (log, p); right = may_end unit c; seen = seen } in Allows Holds units 0 me unit (λ m. (m + k) % 2 ^ 64) (Finishes log p me)
+finish_allows units keep size log p c seen k within has adds t held long rooms at pre small =
+    let s : Ring.State = held.0 in let fits : Fits s t = held.1 in let many = units_of s t fits units long in let same : s.keep ≡ keep = omega arith in
+    let e = publisher_there s t fits log p (record { view = inl (log, p); right = may_end (suc (length log % (keep + 1))) c; seen = seen }) refl at in
+    let Out : ℕ → List (List ℕ) → Publisher → Type 0 = λ m l r. let unit = suc (length l % (m + 1)) in let me : Knows = record { view = inl (l, r); right = may_end unit c; seen = seen } in
+    Goes Holds t 0 me unit (λ n. (n + k) % 2 ^ 64) (Finishes l r me) in
+    let base = finish_goes s t fits (rooms ∙ sym many) c seen pre (ap (λ (r : Publisher). r.phase) e.1 ∙ within) (subst (λ (r : Publisher). HasPacket c r.packet) (sym e.1) has) k
+    (let n : length s.log ≡ length log = ap length e.0 in omega arith) in
+    subst (λ (r : Publisher). Out keep log r) e.1 (subst (λ (l : List (List ℕ)). Out keep l s.publisher) e.0 (subst (λ (m : ℕ). Out m s.log s.publisher) same base))

@@ -1,0 +1,15 @@
+pub mod Rights
+pub mod Fields
+pub mod Cells
+pub mod Units
+pub mod Moves
+pub mod Dealing
+pub mod Shown
+pub mod Sent
+pub mod Rule
+pub mod Reach
+pub mod Heads
+pub mod Pinned
+pub mod Begun
+pub mod Finished
+pub mod Settling

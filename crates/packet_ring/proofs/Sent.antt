@@ -1,0 +1,82 @@
+-- A block may be shared, and a token may go to another thread.
+use Rattle.std.proofs.Common.{ℕ, zero, suc, ◌+◌, List, [], ◌∷◌}
+use base.Fraction.{full_share}
+use base.Growing.{latest, at_least, prefixes}
+use base.Stored.{Gv, Coded}
+use base.Fml.{Lft, Share}
+use base.Shift.{Keyless}
+use denote.RawPtr.{Ptr}
+use denote.Builtin.{u64}
+use denote.Param.Send.{IsSend, IsSync, sendable, part_keyless, array_send, array_sync}
+use types.Keyed.{entry_keyless}
+use Rattle.atomic_table.specs.Seated.{halved}
+use Rattle.atomic_table.proofs.Sent.{roster_keyless}
+use Rattle.packet_ring.specs.Table.{Home, away, home, Right, no_right, may_read, may_end, may_write, State, Me}
+use Rattle.packet_ring.specs.Lent.{BlockId, Spot, spot, row, cells_row, held, shown, lasting, at_home, shelf, carried, owed, mine, waiting, inner, block_owns, block_shares}
+
+row_Keyless : (d b o : ℕ) (ns : List ℕ) → Keyless (row d b o ns)
+row_Keyless d b o [] = tt
+row_Keyless d b o (n ∷ ns) = (tt, row_Keyless d b (o + d) ns)
+
+module _ (t : Spot) where
+  sent : IsSend (cells_row t)
+  sent = array_send u64 t.width (search sendable depth 20)
+
+  seen : IsSync (cells_row t)
+  seen = array_sync u64 t.width (search sendable depth 20)
+
+  held_keyless : Keyless (held t)
+  held_keyless = λ x. (part_keyless (cells_row t) sent full_share x t.block t.offset, tt)
+
+  shown_keyless : (a : ℕ) (x : List ℕ) → Keyless (shown t a x)
+  shown_keyless a x = seen.shared x t.block t.offset (a ∷ t.life)
+
+  lasting_keyless : (a : ℕ) (x : List ℕ) → Keyless (lasting t a x)
+  lasting_keyless a x = (shown_keyless a x, (held_keyless, tt))
+
+  home_keyless : (h : Home) → Keyless (at_home t h)
+  home_keyless away = λ c. tt
+  home_keyless (home m x) = λ a. ((λ e c. (tt, tt)), lasting_keyless a x)
+
+module _ (z : BlockId) where
+  shelf_keyless : (k : ℕ) (hs : List Home) → Keyless (shelf z k hs)
+  shelf_keyless k [] = tt
+  shelf_keyless k (h ∷ hs) = (home_keyless (spot z k) h, shelf_keyless (suc k) hs)
+
+  owed_keyless : (k n : ℕ) → Keyless (owed z k n)
+  owed_keyless k zero = tt
+  owed_keyless k (suc n) = (held_keyless (spot z k), owed_keyless (suc k) n)
+
+  carried_keyless : (r : Right) → Keyless (carried z r)
+  carried_keyless no_right = tt
+  carried_keyless (may_read k x) = ((λ _. tt), λ a. ((λ e c. (tt, tt)), shown_keyless (spot z k) a x))
+  carried_keyless (may_end k x) = ((λ _. tt), λ a. (tt, lasting_keyless (spot z k) a x))
+  carried_keyless (may_write k x) = ((λ _. tt), (tt, held_keyless (spot z k)))
+
+  module _ {V E : Type 0} (c : V → Gv) (e : Coded E) where
+    latest_keyless : (q : Share) (l : List E) → Keyless (latest (prefixes e) q z.log_name l)
+    unfolding latest
+    latest_keyless q l = tt
+
+    past_keyless : (l : List E) → Keyless (at_least (prefixes e) z.log_name l)
+    unfolding at_least
+    past_keyless l = tt
+
+    pub mine_keyless : (id : ℕ) (me : Me V E) → Keyless (mine c e z id me)
+    mine_keyless id me = (entry_keyless halved z.views_name id _, (past_keyless me.seen, carried_keyless me.right))
+
+    pub waiting_keyless : (k : ℕ) (vs : List V) → Keyless (waiting c e z k vs)
+    waiting_keyless k [] = tt
+    waiting_keyless k (v ∷ vs) = (mine_keyless k (record { view = v; right = no_right; seen = [] }), waiting_keyless (suc k) vs)
+
+    module _ (holds : State V E → Type 0) (p : Ptr) where
+      inner_keyless : Keyless (inner c e holds p z)
+      inner_keyless = λ s. (row_Keyless _ _ _ s.words, ((shelf_keyless 0 s.homes, (roster_keyless c z.views_name 0 s.views, latest_keyless full_share s.log)), λ _. tt))
+
+      pub owns_keyless : Keyless (block_owns c e holds p z)
+      unfolding Rattle.packet_ring.specs.Lent.seal
+      owns_keyless = (tt, (((λ _. tt), inner_keyless), (inner_keyless, owed_keyless 0 z.units)))
+
+      pub shares_keyless : (ν : Lft) → Keyless (block_shares c e holds p z ν)
+      unfolding Rattle.packet_ring.specs.Lent.seal
+      shares_keyless ν = ((λ _. tt), ((λ _. tt), inner_keyless))

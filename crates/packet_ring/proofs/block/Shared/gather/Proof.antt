@@ -1,0 +1,32 @@
+-- The block's lifetime ends, and what it lent comes back.
+use Rattle.atomic_table.proofs.Names.{◌≡◌, ℕ, ◌+◌, ◌*◌, List, [], ◌∷◌, length, refl, Val, SProp, emp, Fml, ‵, raw, ◌⊛◌, some, given, later, ◌$◌, ◌∵◌, !, qed, by, move, keep, split, fsplit, fjoin, pick, learn, use0, use1, await, stop, fld, of_opd, no_more, and_then, returns, enter, alloc_all, pass_all, free_all, look_at, get, get_in, sets, agg, sub, whole, tables, yes, owns, types_at, plain, Ptr, nothing, alive, Stays, stay_dropped, walk_of, Goes-dropped, fact, fact_i, u64, InBlock}
+use Rattle.atomic_table.proofs.Walks.{proved, leaves}
+use Rattle.atomic_table.specs.Seated.{strip}
+use Rattle.packet_ring.specs.Lent.{BlockId, block_owns}
+use Rattle.packet_ring.specs.Rule.{view_coded, packet_coded, Holds}
+use Rattle.packet_ring.specs.contracts.block.Shared as block
+use Rattle.packet_ring.specs.contracts.strip.Strip as strips
+use Rattle.packet_ring.proofs.Fields.{strip_of, strip_good, Ptr-Good, StripData, strip_made, block_told}
+use Rattle.packet_ring.proofs.Dealing.{owns_lies, size, gathers}
+use Rattle.packet_ring.specs.contracts.block.Shared.gather as f
+use Rattle.packet_ring.proofs.block.Shared.gather.Statement.{statement}
+use Rattle.packet_ring.proofs.block.Shared.gather.Code as code
+
+pub gather_spec : {M : Type 1} → statement M
+gather_spec 𝓤 𝓛 𝓜 𝓡 wired =
+    let H = 𝓛.H in let 𝓣 = tables 𝓤 H 𝓜 𝓡 𝓡.env in let fn = code.function in let c = f.clauses 𝓛 𝓜.mem 𝓡.returns in let En = f.ended in let Row = block.the_row in let Ss = strips.the_row u64 in
+    let hs : Stays En.signature.params En.kept = (stay_dropped (plain (λ _. Row)) yes, tt) in
+    proved 𝓛 En hs c 𝓜 𝓡 (Goes-dropped 𝓛 0 (plain (λ _. Row)) yes (λ κs x f. refl), tt) f.Key.name fn (code.unfolded 𝓤 H 𝓜 𝓡 wired)
+    (λ κs. ((λ x. strip_of x.base ∷ []), tt)) (λ κs. ((λ x vs so. block_told x.base vs so.0), tt)) (λ κs qs bounds a gh are.
+    let p : Ptr = a.0.base in let z : BlockId = a.0.id in let Owns : Fml = block_owns view_coded.code packet_coded Holds p z in
+    let y : (walk_of 𝓛 En hs c).Ghost = ((κs, qs, bounds, a, (strip_of p ∷ [], tt)), gh) in let Post : Val → SProp 𝓤 = (walk_of 𝓛 En hs c).post y in
+    qed 𝓛 ((raw (alive 𝓛 En.signature κs qs) ⊛ ‵ (owns (types_at En.signature.params κs) a y.0.4)) ∷ raw ((c κs a).requires gh) ∷ []) ∵
+    split ! $ move ! (1 ∷ []) $ fsplit ! $ fsplit ! $ keep ! (1 ∷ 3 ∷ []) $
+    use1 𝓛 (given (InBlock p) (‵ Owns)) (owns_lies 𝓛 view_coded packet_coded Holds p z) $ learn ! (λ at.
+    enter ! 𝓣.C 𝓣.Λ fn (strip_of p ∷ []) Post $ alloc_all ! (λ l. pass_all ! refl (strip_good p at, tt) $
+    use1 𝓛 (later (some (λ (xs : List ℕ). given ((length xs ≡ size 𝓛 view_coded packet_coded Holds p z) × InBlock p) (‵ (strip u64 p xs))))) (gathers 𝓛 view_coded packet_coded Holds p z) $ await ! tt $ pick ! (λ xs. learn ! (λ so.
+    let r : Ss.Denot = record { ptr = p; items = xs } in let Told : Type 0 = (p ≡ p) × (length xs ≡ z.units * (z.width + 1)) in
+    use0 𝓛 (‵ ((StripData u64).own_val (p, tt) (strip_of p ∷ []))) (strip_made u64 𝓛 p) $ fjoin ! $
+    sets ! (of_opd ! (get_in ! (fld ! refl (stop !)) (sub ! 0 refl (whole !)))) refl (Ptr-Good p at) $ sets ! (agg ! (and_then ! (get ! refl) (no_more !))) refl (strip_good p at) $
+    use0 𝓛 (raw (fact 𝓤 Told)) (fact_i 𝓤 Told (emp 𝓤) (refl, so.0)) $ nothing ! $ nothing ! $ fjoin ! $
+    returns ! (look_at ! 0 refl) $ free_all ! refl $ keep ! (3 ∷ 0 ∷ 2 ∷ 1 ∷ []) $ by ! (leaves 𝓛 En hs c y (strip_of p) r (tt, tt) (tt, tt)))))))

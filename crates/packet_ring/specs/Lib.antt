@@ -1,0 +1,4 @@
+pub mod Table
+pub mod Lent
+pub mod Rule
+pub mod Steps

@@ -1,0 +1,207 @@
+//! The block of raw memory as threads share it, and the tokens that step on it.
+ghost use Rattle.core.specs.Prelude.{◌≡◌, ◌+◌, ◌-◌, ◌*◌, ◌%◌, ◌^◌, ◌==◌, ◌<◌, ◌≤◌, ℕ, List, [], ◌∷◌, length};
+ghost use base.Stored.{coded_list};
+ghost use prog.Atomic.{either};
+ghost use Rattle.packet_ring.specs.Table.{no_right, flat, Allows, renewed, settled};
+ghost use Rattle.packet_ring.specs.Lent.{BlockId, block_id_coded, block_owns, block_shares, mine, waiting};
+ghost use Rattle.packet_ring.specs.Rule.{Knows, View, knows_coded, view_coded, packet_coded, Holds, fresh_units, fresh_views};
+ghost use Rattle.packet_ring.specs.Steps.{Step, step};
+
+use crate::strip::Strip;
+use atomic_table::exchange;
+use std::marker::{Brand, Model, PhantomData};
+use std::sync::atomic::Ordering::SeqCst;
+use std::sync::atomic::raw;
+
+/// The block's units, side by side from `base` on: each a word and cells. Threads share it by a `&`.
+pub(crate) struct Shared {
+    pub(crate) base: *mut u64,
+    pub(crate) ghost id: { BlockId } by { block_id_coded },
+}
+
+impl Model for Shared {
+    ghost also_owns = { λ b. block_owns view_coded.code packet_coded Holds b.base b.id };
+
+    ghost also_shares = { λ b _ κ. block_shares view_coded.code packet_coded Holds b.base b.id κ };
+}
+
+/// The right to step as the publisher or as one seat. It has no bytes.
+pub(crate) struct Token {
+    pub(crate) marker: PhantomData<u64>,
+    pub(crate) ghost id: { BlockId } by { block_id_coded },
+    pub(crate) ghost number: { ℕ },
+    pub(crate) ghost me: { Knows } by { knows_coded },
+}
+
+impl Model for Token {
+    ghost also_owns = { λ t. mine view_coded.code packet_coded t.id t.number t.me };
+}
+
+/// What a step tells its caller.
+pub(crate) trait Play {
+    // Of the step, the token before, the number found (at a store, the number stored) and the token after.
+    ghost then: { Step → Knows → ℕ → Knows → Type 0 };
+}
+
+/// The tokens that nobody has taken yet. It has no bytes.
+pub(crate) struct Spares {
+    pub(crate) marker: PhantomData<u64>,
+    pub(crate) ghost id: { BlockId } by { block_id_coded },
+    pub(crate) ghost next: { ℕ },
+    pub(crate) ghost views: { List View } by { coded_list view_coded },
+}
+
+impl Model for Spares {
+    ghost also_owns = { λ s. waiting view_coded.code packet_coded s.id s.next s.views };
+}
+
+impl Shared {
+    /// A block of fresh units, and all its tokens.
+    pub(crate) fn deal(
+        words: Strip<u64>,
+        keep: usize,
+        seats: usize,
+        width: usize,
+    ) -> (Shared, Spares)
+        requires sizes { (1 ≤ keep) × (seats ≤ 1024) }
+        requires zeros { words.items ≡ flat (fresh_units keep width) }
+        ensures block { (result.0.base ≡ words.ptr) × (result.0.id.units ≡ keep + 2) × (result.0.id.width ≡ width) }
+        ensures spares { (result.1.id ≡ result.0.id) × (result.1.next ≡ 0) × (result.1.views ≡ fresh_views seats) }
+    {
+        let Strip { ptr } = words;
+        (
+            Shared { base: ptr },
+            Spares {
+                marker: PhantomData,
+            },
+        )
+    }
+
+    /// The memory comes back once nobody shares the block.
+    pub(crate) fn gather(self) -> Strip<u64>
+        ensures { (result.ptr ≡ self.base) × (length result.items ≡ self.id.units * (self.id.width + 1)) }
+    {
+        let Shared { base } = self;
+        Strip { ptr: base }
+    }
+}
+
+impl Shared {
+    /// One load of a unit's word, which lies `at` words from the first.
+    pub(crate) fn load<M: Play>(&self, token: &mut Token, unit: usize, at: usize) -> u64
+        requires { (token.old.id ≡ self.now.id) × (unit < self.now.id.units) × (at ≡ unit * (self.now.id.width + 1)) × Allows Holds self.now.id.units token.old.number token.old.me unit (λ n. n) (M.then (step self.now.id.units unit 0 0) token.old.me) }
+        ensures { (token.new.id ≡ token.old.id) × (token.new.number ≡ token.old.number) × M.then (step self.now.id.units unit 0 0) token.old.me result token.new.me }
+    {
+        let _ = unit;
+        unsafe { raw::load::<Brand>(self.base.add(at), SeqCst) }
+    }
+
+    /// One store of a unit's word.
+    pub(crate) fn store<M: Play>(&self, token: &mut Token, unit: usize, at: usize, new: u64)
+        requires { (token.old.id ≡ self.now.id) × (unit < self.now.id.units) × (at ≡ unit * (self.now.id.width + 1)) × Allows Holds self.now.id.units token.old.number token.old.me unit (λ _. new) (λ _. M.then (step self.now.id.units unit new 0) token.old.me new) }
+        ensures { (token.new.id ≡ token.old.id) × (token.new.number ≡ token.old.number) × M.then (step self.now.id.units unit new 0) token.old.me new token.new.me }
+    {
+        let _ = unit;
+        unsafe { raw::store::<Brand>(self.base.add(at), new, SeqCst) }
+    }
+
+    /// One addition to a unit's word, which answers the word as it was.
+    pub(crate) fn fetch_add<M: Play>(
+        &self,
+        token: &mut Token,
+        unit: usize,
+        at: usize,
+        k: u64,
+    ) -> u64
+        requires { (token.old.id ≡ self.now.id) × (unit < self.now.id.units) × (at ≡ unit * (self.now.id.width + 1)) × Allows Holds self.now.id.units token.old.number token.old.me unit (λ n. (n + k) % 2 ^ 64) (M.then (step self.now.id.units unit k 0) token.old.me) }
+        ensures { (token.new.id ≡ token.old.id) × (token.new.number ≡ token.old.number) × M.then (step self.now.id.units unit k 0) token.old.me result token.new.me }
+    {
+        let _ = unit;
+        unsafe { raw::fetch_add::<Brand>(self.base.add(at), k, SeqCst) }
+    }
+
+    /// One subtraction from a unit's word, which answers the word as it was.
+    pub(crate) fn fetch_sub<M: Play>(
+        &self,
+        token: &mut Token,
+        unit: usize,
+        at: usize,
+        k: u64,
+    ) -> u64
+        requires { (token.old.id ≡ self.now.id) × (unit < self.now.id.units) × (at ≡ unit * (self.now.id.width + 1)) × Allows Holds self.now.id.units token.old.number token.old.me unit (λ n. (n + (2 ^ 64 - k)) % 2 ^ 64) (M.then (step self.now.id.units unit k 0) token.old.me) }
+        ensures { (token.new.id ≡ token.old.id) × (token.new.number ≡ token.old.number) × M.then (step self.now.id.units unit k 0) token.old.me result token.new.me }
+    {
+        let _ = unit;
+        unsafe { raw::fetch_sub::<Brand>(self.base.add(at), k, SeqCst) }
+    }
+
+    /// One exchange of a unit's word, made where the word is `old`, which answers the word as it was.
+    pub(crate) fn compare_exchange<M: Play>(
+        &self,
+        token: &mut Token,
+        unit: usize,
+        at: usize,
+        old: u64,
+        new: u64,
+    ) -> u64
+        requires { (token.old.id ≡ self.now.id) × (unit < self.now.id.units) × (at ≡ unit * (self.now.id.width + 1)) × Allows Holds self.now.id.units token.old.number token.old.me unit (λ n. either (n == old) new n) (M.then (step self.now.id.units unit old new) token.old.me) }
+        ensures { (token.new.id ≡ token.old.id) × (token.new.number ≡ token.old.number) × M.then (step self.now.id.units unit old new) token.old.me result token.new.me }
+    {
+        let _ = unit;
+        unsafe { exchange::<Brand>(self.base.add(at), old, new) }
+    }
+}
+
+impl Spares {
+    /// The next token, and those after it.
+    pub(crate) fn take(self) -> (Token, Spares)
+        requires { (v : View) × (vs : List View) × (self.views ≡ v ∷ vs) }
+        ensures token { (result.0.id ≡ self.id) × (result.0.number ≡ self.next) × (result.0.me.right ≡ no_right) × (result.0.me.seen ≡ []) }
+        ensures rest { (result.1.id ≡ self.id) × (result.1.next ≡ self.next + 1) × (self.views ≡ result.0.me.view ∷ result.1.views) }
+    {
+        let Spares { marker: _ } = self;
+        (
+            Token {
+                marker: PhantomData,
+            },
+            Spares {
+                marker: PhantomData,
+            },
+        )
+    }
+}
+
+impl Shared {
+    /// A new round of the cells begins, which the token may end: what it wrote may be shared.
+    pub(crate) fn renew(&self, token: &mut Token)
+        requires { token.old.id ≡ self.now.id }
+        ensures { (token.new.id ≡ token.old.id) × (token.new.number ≡ token.old.number) × (token.new.me ≡ renewed token.old.me) }
+    {}
+}
+
+impl Token {
+    /// The round of the cells ends, and the token may write them.
+    pub(crate) fn settle(&mut self)
+        ensures { (self.new.id ≡ self.old.id) × (self.new.number ≡ self.old.number) × (self.new.me ≡ settled self.old.me) }
+    {}
+}
+
+impl Drop for Token {
+    fn drop(self) {
+        let Self { marker: _ } = self;
+    }
+}
+
+impl Drop for Spares {
+    fn drop(self) {
+        let Self { marker: _ } = self;
+    }
+}
+
+unsafe impl Send for Token {}
+
+unsafe impl Send for Spares {}
+
+unsafe impl Send for Shared {}
+
+unsafe impl Sync for Shared {}

@@ -1,0 +1,10 @@
+//! The running ring over one block of raw memory.
+#![tactic(auto)]
+
+mod allocated;
+mod block;
+mod head;
+mod send_lease;
+mod sending;
+mod slots;
+mod strip;

@@ -1,0 +1,57 @@
+//! The steps of the publisher on a slot's word: each is one step of the ring's core.
+ghost use Rattle.std.specs.Prelude.{◌≡◌, ◌+◌, ◌-◌, ◌*◌, ◌%◌, ◌^◌, ◌<◌, ℕ, List, false, length};
+ghost use Rattle.ring_steps.specs.declared.views.PublisherPhase.TheVariants as publishing;
+ghost use Rattle.packet_ring.specs.Steps.{Begins, Finishes, IsPublisher, MayEnd, log_of, publisher_of};
+ghost use Rattle.packet_ring.specs.Table.{no_right};
+
+use crate::block::{Play, Shared, Token};
+use std::marker::PhantomData;
+
+/// Which packet is sent. Each call of a begin picks it.
+pub(crate) trait Sends {
+    ghost packet: { List ℕ };
+}
+
+struct Beginning<N: Sends> {
+    of: PhantomData<N>,
+}
+
+impl<N: Sends> Play for Beginning<N> {
+    ghost then = { λ at me found next. Begins at.unit (log_of me.view) (publisher_of me.view) N.packet at.first me found next };
+}
+
+struct Finishing;
+
+impl Play for Finishing {
+    ghost then = { λ at me found next. Finishes (log_of me.view) (publisher_of me.view) me found next };
+}
+
+/// The begin of the slot where the next packet goes, with the word that the publisher knows there.
+pub(crate) fn begin<N: Sends>(
+    block: &Shared,
+    token: &mut Token,
+    unit: usize,
+    at: usize,
+    known: u64,
+) -> u64
+    requires same { (token.old.id ≡ block.now.id) × (1 < block.now.id.units) }
+    requires publisher { IsPublisher token.old.number token.old.me publishing.Between × (token.old.me.right ≡ no_right) × ((publisher_of token.old.me.view).closed ≡ false) }
+    requires unit { (unit ≡ length (log_of token.old.me.view) % (block.now.id.units - 2 + 1) + 1) × (unit < block.now.id.units) × (at ≡ unit * (block.now.id.width + 1)) }
+    requires known { (known ≡ 131072 * (length (log_of token.old.me.view) - (block.now.id.units - 2))) × (known < 2 ^ 63) }
+    ensures same { (token.new.id ≡ token.old.id) × (token.new.number ≡ token.old.number) }
+    ensures step { Begins unit (log_of token.old.me.view) (publisher_of token.old.me.view) N.packet known token.old.me result token.new.me }
+{
+    block.compare_exchange::<Beginning<N>>(token, unit, at, known, known + 65536)
+}
+
+/// The finish of that slot, once its cells hold the packet.
+pub(crate) fn finish(block: &Shared, token: &mut Token, unit: usize, at: usize, k: u64) -> u64
+    requires same { (token.old.id ≡ block.now.id) × (1 < block.now.id.units) }
+    requires publisher { IsPublisher token.old.number token.old.me publishing.Begun × MayEnd token.old.me.right unit (publisher_of token.old.me.view).packet }
+    requires unit { (unit ≡ length (log_of token.old.me.view) % (block.now.id.units - 2 + 1) + 1) × (unit < block.now.id.units) × (at ≡ unit * (block.now.id.width + 1)) }
+    requires more { k ≡ 131072 * (length (log_of token.old.me.view) + 1 - (length (log_of token.old.me.view) - (block.now.id.units - 2))) - 65536 }
+    ensures same { (token.new.id ≡ token.old.id) × (token.new.number ≡ token.old.number) }
+    ensures step { Finishes (log_of token.old.me.view) (publisher_of token.old.me.view) token.old.me result token.new.me }
+{
+    block.fetch_add::<Finishing>(token, unit, at, k)
+}
