@@ -1,2 +1,3 @@
 pub mod Pieces
 pub mod Frames
+pub mod Gathered

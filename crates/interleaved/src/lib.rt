@@ -4,6 +4,9 @@
 
 mod device;
 mod frame;
+mod gathering;
+#[cfg(test)]
+mod gathering_tests;
 mod laws;
 mod list_sink;
 mod list_source;
@@ -15,6 +18,7 @@ mod writing;
 
 pub use device::{Failed, Sink, Source};
 pub use frame::{FRAME_HEAD, Frame, FrameAt, PutFault, frame_at, frame_head, put_frame};
+pub use gathering::Gathering;
 pub use laws::no_frame_begins_another;
 pub use list_sink::ListSink;
 pub use list_source::ListSource;

@@ -1,10 +1,11 @@
 -- What the fields of an intake stand for.
-use Rattle.std.specs.Prelude.{◌≡◌, ◌≤◌, ℕ, true, List, [], Option, take}
+use Rattle.std.specs.Prelude.{◌≡◌, ◌+◌, ◌<◌, ◌≤◌, ℕ, true, List, [], Option, length, take}
 use Rattle.std.specs.Io.KnownBytes.{IsAtEnd}
 use Rattle.std.specs.Vec.Iter.{into_iter_items}
 use Rattle.rtsp_message.specs.declared.intake.Intake.TheInside.{Inside}
 use Rattle.rtsp_message.specs.Intakes.{IntakeState}
-use Rattle.rtsp_message.specs.Stream.{ReadsOn}
+use Rattle.rtsp_message.specs.Stream.{ReadsOn, waiting_len}
+use Rattle.rtsp_message.specs.Limits.{waiting_limit}
 
 abbrev pub state_of : {S : Type 0} → Inside S → IntakeState S
 state_of i = record { source = i.source; queue = into_iter_items i.units; reading = i.reader.reading; held = take i.held i.piece; ended = i.ended }
@@ -14,3 +15,5 @@ pub record IsIntake {S : Type 0} (incoming : S → Option (List ℕ)) (i : Insid
   pub within : i.held ≤ 4096
   pub settled : ReadsOn i.reader.reading [] [] i.reader.reading
   pub at_end : i.ended ≡ true → IsAtEnd (incoming i.source) × (i.held ≡ 0)
+  pub waits : waiting_len i.reader.reading < waiting_limit
+  pub few : length (into_iter_items i.units) ≤ waiting_limit + 4096

@@ -74,6 +74,16 @@ impl<S: Source + Drop> Intake<S> {
         self.source
     }
 
+    /// At most so many units are still to come: each takes a byte at least of what the source has left, of what is held
+    /// and of what waits, or is read already.
+    pub fn left(&self) -> u64
+        ensures { result ≡ weight S.bound self.now }
+    {
+        let held = &self.piece[..self.held];
+        let unread = self.source.left() + held.len() as u64;
+        unread + self.reader.room() as u64 + self.units.len() as u64
+    }
+
     /// The next unit, or why there is none. After `End`, `Fault` or `ReadFailed` it answers the same for good.
     ///
     /// The source is read only where no unit, no fault and no end is at hand, so that a source that waits for more

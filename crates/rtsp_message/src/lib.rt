@@ -9,6 +9,8 @@ mod head;
 mod headers;
 mod intake;
 pub mod laws;
+#[cfg(test)]
+mod left_tests;
 mod lines;
 mod plain;
 mod reader;

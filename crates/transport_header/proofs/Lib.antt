@@ -8,3 +8,4 @@ pub mod FirstNamed
 pub mod Modes
 pub mod SpecForms
 pub mod RoundTrip
+pub mod TagTables

@@ -8,3 +8,4 @@ pub mod Parameter
 pub mod Recording
 pub mod SpecForm
 pub mod Answered
+pub mod Tracks

@@ -8,17 +8,23 @@ mod channels;
 mod chosen;
 pub mod laws;
 mod parameter;
+mod point;
 mod read;
 mod rtp_info;
 mod session;
 mod spec;
+mod track_channels;
 
 pub use channels::Channels;
 pub use chosen::{Chosen, choose, put_transport};
+pub use point::Point;
 pub use read::read_transport;
 pub use rtp_info::{InfoEntry, put_rtp_info};
 pub use session::{put_session, read_session};
 pub use spec::{ChannelPair, Mode, Protocol, Spec};
+pub use track_channels::{MOST_TRACKS, TrackChannels};
 
 #[cfg(test)]
 mod tests;
+#[cfg(test)]
+mod track_tests;

@@ -1,4 +1,4 @@
-use Rattle.std.proofs.Common.{◌≡◌, ℕ, List, ◌∷◌, ◌++◌, [], take, refl, sym, ap, subst, ◌∙◌, inl, inr, append-nil, arith, true, ◌+◌, length, length-append}
+use Rattle.std.proofs.Common.{◌≡◌, ℕ, List, ◌∷◌, ◌++◌, [], take, refl, sym, ap, subst, ◌∙◌, inl, inr, append-nil, arith, true, ◌+◌, ◌<◌, length, length-append, length-take}
 use Rattle.std.specs.List.{concat}
 use Rattle.std.proofs.lemmas.List.{length-take-le}
 use Rattle.std.proofs.KnownBytes.{Consumes-nil, Consumes-kept}
@@ -6,6 +6,7 @@ use Rattle.std.specs.Io.KnownBytes.{Consumes}
 use Rattle.std.specs.Vec.Iter.{into_iter_items}
 use Rattle.rtsp_message.specs.declared.unit.Unit.{Unit as StreamUnit}
 use Rattle.rtsp_message.specs.Stream.{Ending, ReadsOn, ReaderState, waiting_len}
+use Rattle.rtsp_message.specs.Limits.{waiting_limit}
 use Rattle.rtsp_message.specs.IntakeFields.{state_of}
 use Rattle.rtsp_message.proofs.HandingOut.{units_found, settled, holds_more, holds_same}
 use Rattle.rtsp_message.specs.Intakes.{IntakeState, HandsOut}
@@ -63,10 +64,16 @@ fetched g c =
 pub invariant_of-self-in-Ok-feed : goal.invariant_of-self-in-Ok-feed
 invariant_of-self-in-Ok-feed g c =
     let f = fetched g (goal.at.invariant_of-self-in-Ok-feed g c).After-feed in
+    let inside = c.if-self-eq0.self-inside in
+    let found = units_found inside.reader.reading c.feed.new.self.reading (take inside.held inside.piece) c.in-Ok-feed.fed.units.items c.in-Ok-feed.ensures.units in
+    let waited = ap waiting_len f.reading in
+    let waits : waiting_len c.args.self.now.reading < waiting_limit = subst (λ (o : IntakeState g.row.S.Denot). waiting_len o.reading < waiting_limit) c.self.view_is c.self.invariant.waits in
     record {
       within = omega arith;
       settled = settled _ _ _ _ c.in-Ok-feed.ensures.units;
       at_end = λ ended. absurd (cc (ended, f.going));
+      waits = c.in-Ok-feed.ensures.bound;
+      few = omega (arith, found, waits, waited, f.within, length-take inside.held inside.piece, ap length c.into_iter.ensures.rest);
     }
 
 pub returns-in-Ok-feed-clause-hands_out : goal.returns-in-Ok-feed-clause-hands_out

@@ -1,0 +1,12 @@
+//! What goes out to a player: the packets of a tap, as frames on the channels of its session
+//! (RFC 2326, 10.12).
+#![tactic(auto)]
+
+mod framing;
+mod relaying;
+mod report;
+#[cfg(test)]
+mod tests;
+
+pub use relaying::relay_out;
+pub use report::{OutReport, OutStop};

@@ -1,0 +1,3 @@
+pub mod Rtp
+pub mod Fates
+pub mod FramesIn

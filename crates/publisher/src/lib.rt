@@ -1,0 +1,15 @@
+//! What comes in from a publisher: the frames of its connection, as packets of a feed
+//! (RFC 2326, 10.12; RFC 3550, 5.1).
+#![tactic(auto)]
+
+mod fate;
+mod offering;
+mod relaying;
+mod report;
+mod rtp;
+#[cfg(test)]
+mod tests;
+
+pub use relaying::relay_in;
+pub use report::{InReport, InStop};
+pub use rtp::{is_rtp, point_of};

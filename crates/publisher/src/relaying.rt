@@ -1,0 +1,68 @@
+//! Frames of a stream as packets.
+ghost use Rattle.std.specs.Prelude.{◌≡◌, ◌≤◌, ◌+◌, ℕ, length};
+ghost use Rattle.rtsp_message.specs.Intakes.{weight};
+ghost use Rattle.cursor.specs.declared.refusals.Refused.TheVariants.{Pinned, Worn, OutOfMemory};
+ghost use Rattle.publisher.specs.FramesIn.{HasPlaces, RelaysIn};
+
+use crate::offering::take_in;
+use crate::report::{InReport, InStop};
+use cursor::Feed;
+use interleaved::Source;
+use rtsp_message::{Intake, Next, Unit};
+use transport_header::{Point, TrackChannels};
+
+/// Publishes the frames of a stream, until a message comes, the end or a fault. A frame on a channel
+/// of no track is a stranger, and one on an RTP channel is bad where it is no RTP packet; RTCP isn't
+/// looked at. The others are offered to the feed, each with the tag of its channel, and counted by what
+/// it answers.
+///
+/// `points` has a place for each track that is set up, which becomes the point of the last RTP packet
+/// published.
+pub fn relay_in<S: Source + Drop, F: Feed>(
+    intake: &mut Intake<S>,
+    feed: &mut F,
+    channels: &TrackChannels,
+    points: &mut [Option<Point>],
+) -> InReport
+    requires { HasPlaces channels.now (length points.old) }
+    ensures relays { RelaysIn S.incoming S.failed channels.now (F.packet_bytes feed.old) F.may_refuse intake.old intake.new (F.told feed.old) (F.told feed.new) points.old points.new result }
+    ensures never_pinned { ((pins : ℕ) → ¬ F.may_refuse (Pinned pins)) → result.pinned ≡ 0 }
+    ensures never_worn { ¬ F.may_refuse Worn → result.worn ≡ 0 }
+    ensures never_unkept { ¬ F.may_refuse OutOfMemory → result.unkept ≡ 0 }
+    ensures same { F.packet_bytes feed.new ≡ F.packet_bytes feed.old }
+    ensures ends { weight S.bound intake.new ≤ weight S.bound intake.old }
+{
+    relay_frames(intake, feed, channels, points)
+}
+
+// The same, without what follows of the counts of answers that the feed never gives.
+fn relay_frames<S: Source + Drop, F: Feed>(
+    intake: &mut Intake<S>,
+    feed: &mut F,
+    channels: &TrackChannels,
+    points: &mut [Option<Point>],
+) -> InReport
+    requires { HasPlaces channels.now (length points.old) }
+    ensures relays { RelaysIn S.incoming S.failed channels.now (F.packet_bytes feed.old) F.may_refuse intake.old intake.new (F.told feed.old) (F.told feed.new) points.old points.new result }
+    ensures same { F.packet_bytes feed.new ≡ F.packet_bytes feed.old }
+    ensures ends { weight S.bound intake.new ≤ weight S.bound intake.old }
+{
+    // No more frames than these can come, so that no count is too large.
+    let _most = intake.left();
+    let mut report = InReport::new();
+    loop {
+        match intake.next() {
+            Next::Unit(Unit::Frame(frame)) => {
+                let fate = take_in(&frame, feed, channels, points);
+                report.count(fate);
+            }
+            Next::Unit(Unit::Message(request)) => {
+                return report.stopped(InStop::Message(request));
+            }
+            Next::End => return report.stopped(InStop::End),
+            Next::Fault(fault) => return report.stopped(InStop::Fault(fault)),
+            Next::ReadFailed => return report.stopped(InStop::ReadFailed),
+            Next::OutOfMemory => return report.stopped(InStop::OutOfMemory),
+        }
+    }
+}
