@@ -1,0 +1,15 @@
+pub mod Texts
+pub mod Places
+pub mod Differing
+pub mod Firsts
+pub mod FreeSeats
+pub mod Behind
+pub mod Sound
+pub mod Indexed
+pub mod Changes
+pub mod Finding
+pub mod Controls
+pub mod NamedTracks
+pub mod Lookups
+pub mod SoundRuns
+pub mod OneAnswer

@@ -1,0 +1,10 @@
+pub mod Different
+pub mod Find
+pub mod Kept
+pub mod Mounts
+pub mod Names
+pub mod Refusals
+pub mod Runs
+pub mod Seats
+pub mod Tracks
+pub mod Uri
