@@ -56,6 +56,14 @@ module _ {X A : Type 0} (key : X → A) where
   key_at P (y ∷ xs) zero x h at = let e : y ≡ x = cc in subst (λ z. P (key z)) e h.0
   key_at P (y ∷ xs) (suc i) x h at = key_at P xs i x h.1 at
 
+  -- elements with one key stand at one place
+  pub one_place : (xs : List X) (i j : ℕ) (x y : X) → AreDifferent (map key xs) → slice_get xs i ≡ Some x → slice_get xs j ≡ Some y → key x ≡ key y → i ≡ j
+  one_place [] i j x y d at there e = absurd (cc)
+  one_place (z ∷ xs) zero zero x y d at there e = refl
+  one_place (z ∷ xs) zero (suc j) x y d at there e = let same : z ≡ x = cc in absurd (key_at (λ k. k ≢ key z) xs j y d.0 there (sym e ∙ ap key (sym same)))
+  one_place (z ∷ xs) (suc i) zero x y d at there e = let same : z ≡ y = cc in absurd (key_at (λ k. k ≢ key z) xs i x d.0 at (e ∙ ap key (sym same)))
+  one_place (z ∷ xs) (suc i) (suc j) x y d at there e = ap suc (one_place xs i j x y d.1 at there e)
+
   -- an element that a test tells from those with other keys is the first that passes
   pub find_one : (p : X → Bool) (xs : List X) (i : ℕ) (x : X) → AreDifferent (map key xs) → slice_get xs i ≡ Some x → p x ≡ true → ((y : X) → key y ≢ key x → p y ≡ false)
       → find p xs ≡ Some x

@@ -4,11 +4,11 @@ use Rattle.std.specs.List.{AllByRecursion}
 use Rattle.std.proofs.lemmas.Bool.{eqb-true, eq-eqb}
 use Rattle.std.proofs.lemmas.List.{length-take-le, take_at}
 use Rattle.mounts.specs.declared.mount.Mount.{Mount}
-use Rattle.mounts.specs.Find.{IsFoundIn}
+use Rattle.mounts.specs.Find.{IsFoundIn, IsNowhereIn}
 use Rattle.mounts.specs.Mounts.{IsMountOf, named}
 use Rattle.mounts.specs.Names.{GoesOn}
 use Rattle.mounts.specs.Uri.{slash}
-use Rattle.mounts.proofs.Sound.{long_names_nothing}
+use Rattle.mounts.proofs.Sound.{names_nothing}
 
 -- Neither the whole path nor a beginning that ends before a slash at this place or behind it names a live mount.
 pub record AreTried (mounts : List Mount) (path : List ℕ) (end : ℕ) : Type 0 where
@@ -22,7 +22,7 @@ none_tried next seats mounts path end each whole far = record {
   whole = whole;
   longer = λ k at within is.
       let long = far (omega arith) in
-      long_names_nothing next seats mounts (take k path) each (omega (arith, length-take-le k path (omega arith)));
+      names_nothing next seats mounts (take k path) each (λ name. let most = name.most in omega (arith, most, long, length-take-le k path (omega arith)));
 }
 
 -- one place further to the front
@@ -83,3 +83,9 @@ found_longest mounts path end mount within tried e =
       number_is = refl;
       longest = λ longer other goes_on more. tried_names_nothing mounts path (suc end) tried longer other goes_on (omega (arith, len, more));
     }
+
+-- where all but the empty beginning were tried, no beginning names a live mount
+pub found_nowhere : (next seats : ℕ) (mounts : List Mount) (path : List ℕ) (end : ℕ) → AllByRecursion (IsMountOf next seats) mounts → AreTried mounts path end → end ≤ 1
+    → IsNowhereIn mounts path
+found_nowhere next seats mounts path end each tried last [] rest goes_on = names_nothing next seats mounts [] each (λ name. let some = name.some in omega (arith, some))
+found_nowhere next seats mounts path end each tried last (b ∷ name) rest goes_on = tried_names_nothing mounts path end tried (b ∷ name) rest goes_on (omega arith)

@@ -1,15 +1,19 @@
 -- The mount of a number after each change.
-use Rattle.std.proofs.Common.{◌≡◌, ◌≢◌, ℕ, ◌==◌, Bool, true, false, not, cond, Option, None, Some, List, [], ◌∷◌, map, refl, sym, ap, ◌∙◌, arith, slice_get}
-use Rattle.std.specs.List.{AllByRecursion, filter}
+use Rattle.std.proofs.Common.{◌≡◌, ◌≢◌, ℕ, ◌==◌, Bool, true, false, not, cond, Option, None, Some, List, [], ◌∷◌, map, refl, sym, ap, subst, ◌∙◌, arith, slice_get}
+use Rattle.std.specs.List.{AllByRecursion, filter, find, position_or_len}
 use Rattle.std.specs.Str.{bytes_eq}
 use Rattle.std.specs.Cmp.Lexicographic.{bytes_decides}
 use Rattle.std.specs.Option.{option_map, option_or}
 use Rattle.std.proofs.lemmas.Bool.{eq-eqb, eqb-true}
-use Rattle.std.proofs.lemmas.List.Folds.{find-append}
+use Rattle.std.proofs.lemmas.List.Folds.{find-append, find_at}
 use Rattle.sdp.specs.declared.sections.Sections.{Sections}
 use Rattle.mounts.specs.declared.mount.Mount.{Mount}
-use Rattle.mounts.specs.Mounts.{Table, IsMountOf, IsSound, announced, named, new_mount, numbered, owned_by, with_seat}
-use Rattle.mounts.proofs.Differing.{find_one, unequal}
+use Rattle.mounts.specs.Different.{AreDifferent}
+use Rattle.mounts.specs.Find.{IsFoundIn}
+use Rattle.mounts.specs.Mounts.{Table, IsMountOf, IsOnlyOne, IsSound, announced, named, new_mount, numbered, owned_by, with_seat}
+use Rattle.mounts.specs.Names.{GoesOn}
+use Rattle.mounts.proofs.Differing.{find_one, one_place, unequal}
+use Rattle.mounts.proofs.Firsts.{found_passes}
 use Rattle.mounts.proofs.Indexed.{unequal_bytes}
 
 -- another number than the new one
@@ -86,3 +90,35 @@ looked_up table sound i mount at = (
   find_one (λ m. m.name) (λ m. bytes_eq mount.name m.name) table.mounts i mount sound.names at ((bytes_decides mount.name mount.name).1 refl) (λ y ne. unequal_bytes mount.name y.name (λ e. ne (sym e))),
   find_one (λ m. m.owner) (λ m. m.owner == mount.owner) table.mounts i mount sound.owners at (eq-eqb mount.owner mount.owner refl) (λ y ne. unequal y.owner mount.owner ne),
 )
+
+-- what is the first to pass a test that goes by a key is the only mount with that key
+only_one : {A : Type 0} (key : Mount → A) (is : A) (p : Mount → Bool) (mounts : List Mount) (mount : Mount) → AreDifferent (map key mounts) → find p mounts ≡ Some mount → key mount ≡ is
+    → IsOnlyOne key mounts is mount
+only_one key is p mounts mount apart at has =
+    let live : slice_get mounts (position_or_len p mounts) ≡ Some mount = sym (find_at p mounts) ∙ at in
+    record {
+      place = position_or_len p mounts;
+      live = live;
+      key_is = has;
+      only = λ elsewhere other there same. one_place key mounts elsewhere (position_or_len p mounts) other mount apart there live (same ∙ sym has);
+    }
+
+pub only_number : (table : Table) (number : ℕ) (mount : Mount) → IsSound table → numbered number table.mounts ≡ Some mount → IsOnlyOne (λ m. m.number) table.mounts number mount
+only_number table number mount sound at =
+    only_one (λ m. m.number) number (λ m. m.number == number) table.mounts mount sound.numbers at (eqb-true mount.number number (found_passes (λ m. m.number == number) table.mounts mount at))
+
+pub only_name : (table : Table) (name : List ℕ) (mount : Mount) → IsSound table → named name table.mounts ≡ Some mount → IsOnlyOne (λ m. m.name) table.mounts name mount
+only_name table name mount sound at =
+    only_one (λ m. m.name) name (λ m. bytes_eq name m.name) table.mounts mount sound.names at (sym ((bytes_decides name mount.name).0 (found_passes (λ m. bytes_eq name m.name) table.mounts mount at)))
+
+pub only_owner : (table : Table) (owner : ℕ) (mount : Mount) → IsSound table → owned_by owner table.mounts ≡ Some mount → IsOnlyOne (λ m. m.owner) table.mounts owner mount
+only_owner table owner mount sound at =
+    only_one (λ m. m.owner) owner (λ m. m.owner == owner) table.mounts mount sound.owners at (eqb-true mount.owner owner (found_passes (λ m. m.owner == owner) table.mounts mount at))
+
+-- what a path finds is live under its number, and the path goes on after its name
+pub found_is_numbered : (table : Table) (path : List ℕ) (number : ℕ) (rest : Option (List ℕ)) → IsSound table → IsFoundIn table.mounts path number rest
+    → (mount : Mount) × (numbered number table.mounts ≡ Some mount) × GoesOn path mount.name rest
+found_is_numbered table path number rest sound h =
+    let one = only_name table h.name h.mount sound h.live in
+    let each = looked_up table sound one.place h.mount one.live in
+    (h.mount, subst (λ n. numbered n table.mounts ≡ Some h.mount) h.number_is each.0, subst (λ name. GoesOn path name rest) (sym one.key_is) h.goes_on)

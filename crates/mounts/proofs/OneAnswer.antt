@@ -1,5 +1,5 @@
 -- One URI, one mount, one track.
-use Rattle.std.proofs.Common.{◌≡◌, ℕ, zero, suc, ◌<◌, ◌≤◌, Bool, true, false, Option, None, Some, Ok, Err, inl, inr, List, [], ◌∷◌, ◌++◌, length, length-append, take, refl, sym, ap, ◌∙◌, arith, codes, slice_get}
+use Rattle.std.proofs.Common.{◌≡◌, ℕ, zero, suc, ◌<◌, ◌≤◌, ◌==◌, Bool, true, false, Option, None, Some, Ok, Err, inl, inr, List, [], ◌∷◌, ◌++◌, length, length-append, take, refl, sym, ap, subst, ◌∙◌, arith, codes, slice_get}
 use Rattle.std.proofs.lemmas.List.{take_at, append_cancel_left}
 use Rattle.std.proofs.lemmas.Option.{slice_get_within}
 use Rattle.url.specs.Parser.{Parsed, parse_url}
@@ -16,7 +16,7 @@ use Rattle.mounts.specs.declared.uri.Uri.TheVariants.{Star, At}
 use Rattle.mounts.specs.Find.{IsFoundIn}
 use Rattle.mounts.specs.Mounts.{named}
 use Rattle.mounts.specs.Names.{GoesOn}
-use Rattle.mounts.specs.Tracks.{IsCalledBy, IsFirstCalledBy, IsNamedBy}
+use Rattle.mounts.specs.Tracks.{IsCalledBy, IsFirstCalledBy, IsNamedBy, NamesTrack}
 use Rattle.mounts.specs.Uri.{IsTarget, IsUri, path_of, slash}
 use Rattle.mounts.proofs.Controls.{control_injective}
 use Rattle.mounts.proofs.Places.{all_at}
@@ -100,15 +100,24 @@ one_numbered rest tracks m n a b few at there g h =
     let high = slice_get_within tracks n b there in
     control_injective m n (omega arith) (omega arith) (sym g ∙ h)
 
-pub one_track : (owns : Bool) (target : Target) (rest : List ℕ) (tracks : List Track) (m n : ℕ) → length tracks ≤ 16 → IsNamedBy owns target rest tracks m → IsNamedBy owns target rest tracks n → m ≡ n
-one_track false target rest tracks m n few g h = one_numbered rest tracks m n g.track h.track few g.there h.there g.named h.named
-one_track true target rest tracks m n few (inl g) (inl h) =
+named_once : (owns : Bool) (target : Target) (rest : List ℕ) (tracks : List Track) (m n : ℕ) → length tracks ≤ 16 → IsNamedBy owns target rest tracks m → IsNamedBy owns target rest tracks n → m ≡ n
+named_once false target rest tracks m n few g h = one_numbered rest tracks m n g.track h.track few g.there h.there g.named h.named
+named_once true target rest tracks m n few (inl g) (inl h) =
     let a = not_before target rest tracks m n g h in
     let b = not_before target rest tracks n m h g in
     by a b
   where
     by : (m < n → ⊥) → (n < m → ⊥) → m ≡ n
     by a b = grind (arith, a, b)
-one_track true target rest tracks m n few (inl g) (inr h) = absurd (all_at (λ t. IsCalledBy target rest t → ⊥) tracks m g.track h.uncalled g.there g.called)
-one_track true target rest tracks m n few (inr g) (inl h) = absurd (all_at (λ t. IsCalledBy target rest t → ⊥) tracks n h.track g.uncalled h.there h.called)
-one_track true target rest tracks m n few (inr g) (inr h) = one_numbered rest tracks m n g.track h.track few g.there h.there g.named h.named
+named_once true target rest tracks m n few (inl g) (inr h) = absurd (all_at (λ t. IsCalledBy target rest t → ⊥) tracks m g.track h.uncalled g.there g.called)
+named_once true target rest tracks m n few (inr g) (inl h) = absurd (all_at (λ t. IsCalledBy target rest t → ⊥) tracks n h.track g.uncalled h.there h.called)
+named_once true target rest tracks m n few (inr g) (inr h) = one_numbered rest tracks m n g.track h.track few g.there h.there g.named h.named
+
+pub one_rest : (path name rest other : List ℕ) → GoesOn path name (Some rest) → GoesOn path name (Some other) → rest ≡ other
+one_rest path name rest other g h = same_tail (append_cancel_left name (slash ∷ rest) (slash ∷ other) (sym g ∙ h))
+
+pub one_track : (mount : Mount) (connection : ℕ) (target : Target) (m n : ℕ) → length mount.description.tracks ≤ 16 → NamesTrack mount connection target m → NamesTrack mount connection target n → m ≡ n
+one_track mount connection target m n few g h =
+    let same = one_rest target.path mount.name g.rest h.rest g.behind h.behind in
+    named_once (mount.owner == connection) target h.rest mount.description.tracks m n few
+    (subst (λ rest. IsNamedBy (mount.owner == connection) target rest mount.description.tracks m) same g.named) h.named

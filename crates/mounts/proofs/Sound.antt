@@ -9,7 +9,7 @@ use Rattle.sdp.specs.declared.sections.Sections.{Sections}
 use Rattle.sdp.proofs.Goods.{push_all}
 use Rattle.mounts.specs.declared.mount.Mount.{Mount}
 use Rattle.mounts.specs.Different.{AreDifferent}
-use Rattle.mounts.specs.Names.{IsName}
+use Rattle.mounts.specs.Names.{EndsInTrack, IsName}
 use Rattle.mounts.specs.Mounts.{Table, HasRoom, IsMountOf, IsSound, announced, ended, named, new_mount, owned_by, with_seat, with_seat_of}
 use Rattle.mounts.proofs.Differing.{different_filter, different_push, none_has, same_keys}
 use Rattle.mounts.proofs.Firsts.{find_none_fails}
@@ -61,7 +61,7 @@ changed_is_mount : (next seats number seat : ℕ) (out : Bool) (mount : Mount) �
 changed_is_mount next seats number seat out mount h = by (mount.number == number)
   where
     by : (v : Bool) → IsMountOf next seats (cond v (with_seat seat out mount) mount)
-    by true = record { from_one = h.from_one; below_next = h.below_next; name = h.name; seats_are = length-set mount.seats seat out ∙ h.seats_are }
+    by true = record { from_one = h.from_one; below_next = h.below_next; name = h.name; no_track = h.no_track; seats_are = length-set mount.seats seat out ∙ h.seats_are }
     by false = h
 
 -- with a seat out or free
@@ -94,12 +94,12 @@ names_apart name (m ∷ mounts) none =
 later : (next seats : ℕ) (mount : Mount) → IsMountOf next seats mount → IsMountOf (next + 1) seats mount
 later next seats mount h =
     let below = h.below_next in
-    record { from_one = h.from_one; below_next = omega (arith, below); name = h.name; seats_are = h.seats_are }
+    record { from_one = h.from_one; below_next = omega (arith, below); name = h.name; no_track = h.no_track; seats_are = h.seats_are }
 
 -- with one mount more
-pub sound_announced : (table : Table) (owner : ℕ) (name : List ℕ) (description : Sections) → IsSound table → HasRoom table → IsName name → named name table.mounts ≡ None
+pub sound_announced : (table : Table) (owner : ℕ) (name : List ℕ) (description : Sections) → IsSound table → HasRoom table → IsName name → (EndsInTrack name → ⊥) → named name table.mounts ≡ None
     → owned_by owner table.mounts ≡ None → IsSound (announced table owner name description)
-sound_announced table owner name description h room is_name free first =
+sound_announced table owner name description h room is_name no_track free first =
     let mount = new_mount table owner name description in
     let from = h.next_from in
     let few = room.few in
@@ -113,17 +113,17 @@ sound_announced table owner name description h room is_name free first =
           (different_push (map (λ m. m.owner) table.mounts) owner h.owners (none_has (λ m. m.owner) owner table.mounts first));
       each = push_all (IsMountOf (table.next + 1) table.seats) table.mounts mount
           (weaker_each (IsMountOf table.next table.seats) (IsMountOf (table.next + 1) table.seats) table.mounts (later table.next table.seats) h.each)
-          (record { from_one = from; below_next = omega arith; name = is_name; seats_are = length-replicate table.seats false });
+          (record { from_one = from; below_next = omega arith; name = is_name; no_track = no_track; seats_are = length-replicate table.seats false });
       few = omega (arith, few, length-append table.mounts (mount ∷ []));
       next_from = omega (arith, from);
       next_to = omega (arith, left);
     }
 
--- a name over 128 bytes names no mount
-pub long_names_nothing : (next seats : ℕ) (mounts : List Mount) (name : List ℕ) → AllByRecursion (IsMountOf next seats) mounts → 128 < length name → named name mounts ≡ None
-long_names_nothing next seats [] name h long = refl
-long_names_nothing next seats (m ∷ mounts) name h long = by (bytes_eq name m.name) refl (long_names_nothing next seats mounts name h.1 long)
+-- what is no name names no mount
+pub names_nothing : (next seats : ℕ) (mounts : List Mount) (name : List ℕ) → AllByRecursion (IsMountOf next seats) mounts → (IsName name → ⊥) → named name mounts ≡ None
+names_nothing next seats [] name h none = refl
+names_nothing next seats (m ∷ mounts) name h none = by (bytes_eq name m.name) refl (names_nothing next seats mounts name h.1 none)
   where
     by : (v : Bool) → bytes_eq name m.name ≡ v → named name mounts ≡ None → cond v (Some m) (named name mounts) ≡ None
-    by true is rest = let most = h.0.name.most in let same = ap length ((bytes_decides name m.name).0 is) in absurd (omega (arith, most, same, long))
+    by true is rest = absurd (none (subst IsName (sym ((bytes_decides name m.name).0 is)) h.0.name))
     by false is rest = rest

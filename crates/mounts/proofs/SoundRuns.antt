@@ -1,5 +1,5 @@
 -- Whole runs of changes.
-use Rattle.std.proofs.Common.{◌≡◌, ◌≢◌, ℕ, zero, suc, ◌<◌, ◌==◌, Bool, true, false, cond, Option, None, Some, List, [], ◌∷◌, ◌++◌, refl, sym, ap, subst, ◌∙◌, arith, slice_get, slice_set}
+use Rattle.std.proofs.Common.{◌≡◌, ◌≢◌, ℕ, zero, suc, ◌<◌, ◌≤◌, ◌==◌, Bool, true, false, cond, Option, None, Some, List, [], ◌∷◌, ◌++◌, refl, sym, ap, subst, ◌∙◌, arith, slice_get, slice_set}
 use Rattle.std.specs.List.{AllByRecursion}
 use Rattle.std.specs.Option.{option_map}
 use Rattle.std.proofs.lemmas.Bool.{eq-eqb, eqb-false, eqb-true}
@@ -13,7 +13,7 @@ use Rattle.mounts.proofs.Sound.{sound_announced, sound_ended, sound_seat}
 
 -- each change keeps a table sound
 pub sound_change : (old : Table) (change : Change) (new : Table) → IsSound old → Changes old change new → IsSound new
-sound_change old (Announce owner name description) new h c = subst IsSound (sym c.4) (sound_announced old owner name description h c.0 c.1 c.2 c.3)
+sound_change old (Announce owner name description) new h c = subst IsSound (sym c.5) (sound_announced old owner name description h c.0 c.1 c.2 c.3 c.4)
 sound_change old (End number) new h c = subst IsSound (sym c) (sound_ended number old h)
 sound_change old (Take number seat) new h c = subst IsSound (sym c.1) (sound_seat number seat true old h)
 sound_change old (GiveBack number seat) new h c = subst IsSound (sym c.1) (sound_seat number seat false old h)
@@ -30,6 +30,40 @@ pub run_parts : (before after : List Change) (old new : Table) → LeadsTo old (
 run_parts [] after old new run = (old, refl, run)
 run_parts (change ∷ before) after old new run =
     let rest = run_parts before after run.0 new run.2 in (rest.0, (run.0, run.1, rest.1), rest.2)
+
+-- the next number never falls
+next_after : (old : Table) (change : Change) (new : Table) → Changes old change new → old.next ≤ new.next
+next_after old (Announce owner name description) new c = let e = ap (λ t. t.next) c.5 in omega (arith, e)
+next_after old (End number) new c = let e = ap (λ t. t.next) c in omega (arith, e)
+next_after old (Take number seat) new c = let e = ap (λ t. t.next) c.1 in omega (arith, e)
+next_after old (GiveBack number seat) new c = let e = ap (λ t. t.next) c.1 in omega (arith, e)
+
+pub next_rises : (old : Table) (changes : List Change) (new : Table) → LeadsTo old changes new → old.next ≤ new.next
+next_rises old [] new run = let e = ap (λ t. t.next) run in omega (arith, e)
+next_rises old (change ∷ changes) new run =
+    let first = next_after old change run.0 run.1 in
+    let rest = next_rises run.0 changes new run.2 in
+    omega (arith, first, rest)
+
+-- a number that was given to a mount and has none stays without one
+ended_after : (number : ℕ) (old : Table) (change : Change) (new : Table) → Changes old change new → number < old.next → numbered number old.mounts ≡ None → numbered number new.mounts ≡ None
+ended_after number old (Announce owner name description) new c given none =
+    ap (λ t. numbered number t.mounts) c.5 ∙ numbered-announced old owner name description number (λ e. omega (arith, given, e)) ∙ none
+ended_after number old (End gone) new c given none = ap (λ t. numbered number t.mounts) c ∙ by (number == gone) refl
+  where
+    by : (v : Bool) → (number == gone) ≡ v → numbered number (ended gone old).mounts ≡ None
+    by true e = ap (λ n. numbered n (ended gone old).mounts) (eqb-true number gone e) ∙ numbered-ended_same old.mounts gone
+    by false e = numbered-ended_other old.mounts number gone (eqb-false number gone e) ∙ none
+ended_after number old (Take of seat) new c given none =
+    ap (λ t. numbered number t.mounts) c.1 ∙ numbered-with_seat old.mounts number of seat true ∙ ap (option_map (changed of seat true)) none
+ended_after number old (GiveBack of seat) new c given none =
+    ap (λ t. numbered number t.mounts) c.1 ∙ numbered-with_seat old.mounts number of seat false ∙ ap (option_map (changed of seat false)) none
+
+pub stays_ended : (number : ℕ) (old : Table) (changes : List Change) (new : Table) → LeadsTo old changes new → number < old.next → numbered number old.mounts ≡ None → numbered number new.mounts ≡ None
+stays_ended number old [] new run given none = ap (λ t. numbered number t.mounts) run ∙ none
+stays_ended number old (change ∷ changes) new run given none =
+    let rises = next_after old change run.0 run.1 in
+    stays_ended number run.0 changes new run.2 (omega (arith, given, rises)) (ended_after number old change run.0 run.1 given none)
 
 -- A seat of a number that was given to a mount: it isn't free.
 pub record IsGone (number seat : ℕ) (table : Table) : Type 0 where
@@ -75,7 +109,7 @@ free_before old number of seat other out back h =
 
 -- a seat that is out stays so until it is given back, also when its mount has ended
 gone_change : (number seat : ℕ) (old : Table) (change : Change) (new : Table) → IsGone number seat old → Changes old change new → change ≢ GiveBack number seat → IsGone number seat new
-gone_change number seat old (Announce owner name description) new h c ne = subst (IsGone number seat) (sym c.4) (record {
+gone_change number seat old (Announce owner name description) new h c ne = subst (IsGone number seat) (sym c.5) (record {
   given = let given = h.given in omega (arith, given);
   not_free = λ free. let given = h.given in
       h.not_free (record { mount = free.mount; live = sym (numbered-announced old owner name description number (λ e. omega (arith, given, e))) ∙ free.live; is = free.is });

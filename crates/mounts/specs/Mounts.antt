@@ -5,7 +5,7 @@ use Rattle.std.specs.Str.{bytes_eq}
 use Rattle.sdp.specs.declared.sections.Sections.{Sections}
 use Rattle.mounts.specs.declared.mount.Mount.{Mount}
 use Rattle.mounts.specs.Different.{AreDifferent}
-use Rattle.mounts.specs.Names.{IsName}
+use Rattle.mounts.specs.Names.{EndsInTrack, IsName}
 
 -- The live mounts in the order in which they were announced, the number that the next one gets, and how many seats each
 -- has.
@@ -23,6 +23,13 @@ named name mounts = find (λ mount. bytes_eq name mount.name) mounts
 
 abbrev pub owned_by : ℕ → List Mount → Option Mount
 owned_by owner mounts = find (λ mount. mount.owner == owner) mounts
+
+-- A live mount that has a key as its number, its name or its owner, and no other one has it.
+pub record IsOnlyOne {A : Type 0} (key : Mount → A) (mounts : List Mount) (is : A) (mount : Mount) : Type 0 where
+  pub place : ℕ
+  pub live : slice_get mounts place ≡ Some mount
+  pub key_is : key mount ≡ is
+  pub only : (elsewhere : ℕ) (other : Mount) → slice_get mounts elsewhere ≡ Some other → key other ≡ is → elsewhere ≡ place
 
 -- fewer than 64 mounts are live, and a number is left
 pub record HasRoom (table : Table) : Type 0 where
@@ -64,11 +71,12 @@ abbrev pub with_seat_of : ℕ → ℕ → Bool → Table → Table
 with_seat_of number seat out table =
     record { mounts = map (λ mount. if mount.number == number then with_seat seat out mount else mount) table.mounts; next = table.next; seats = table.seats }
 
--- What holds of each mount of a table.
+-- What holds of each mount of a table. Its name is none that a track of another mount could have.
 pub record IsMountOf (next seats : ℕ) (mount : Mount) : Type 0 where
   pub from_one : 1 ≤ mount.number
   pub below_next : mount.number < next
   pub name : IsName mount.name
+  pub no_track : EndsInTrack mount.name → ⊥
   pub seats_are : length mount.seats ≡ seats
 
 -- What holds of each table that the calls lead to: no two mounts share a number, a name or an owner.

@@ -1,11 +1,13 @@
 -- Which track of a mount the rest of a path names (RFC 2326, C.1.1: a media-level control attribute is the URL of one
 -- stream, absolute or relative to the base).
-use Rattle.std.specs.Prelude.{◌≡◌, ℕ, Bool, true, false, List, ◌∷◌, ◌++◌, ◌⊎◌, take, slice_get, codes, None, Some}
+use Rattle.std.specs.Prelude.{◌≡◌, ◌==◌, ℕ, Bool, true, false, List, ◌∷◌, ◌++◌, ◌⊎◌, take, slice_get, codes, None, Some}
 use Rattle.std.specs.List.{AllByRecursion}
 use Rattle.url.specs.Parts.{Parts}
 use Rattle.sdp.specs.declared.track.Track.{Track}
 use Rattle.sdp.specs.Written.{track_control}
+use Rattle.mounts.specs.declared.mount.Mount.{Mount}
 use Rattle.mounts.specs.declared.target.Target.{Target}
+use Rattle.mounts.specs.Names.{GoesOn}
 use Rattle.mounts.specs.Uri.{IsRtspUrl, path_of}
 
 -- A URL of the URI rule that has the path of the request. Its host, its query and its fragment don't count.
@@ -65,3 +67,10 @@ pub record IsNamedByPlayer (rest : List ℕ) (tracks : List Track) (number : ℕ
 abbrev pub IsNamedBy : (owns : Bool) → (target : Target) → (rest : List ℕ) → List Track → ℕ → Type 0
 IsNamedBy true target rest tracks number = IsNamedByOwner target rest tracks number
 IsNamedBy false target rest tracks number = IsNamedByPlayer rest tracks number
+
+-- A request of a connection names a track of a mount: its path goes on after the mount's name with a slash, and what
+-- stands behind that slash names the track.
+pub record NamesTrack (mount : Mount) (connection : ℕ) (target : Target) (number : ℕ) : Type 0 where
+  pub rest : List ℕ
+  pub behind : GoesOn target.path mount.name (Some rest)
+  pub named : IsNamedBy (mount.owner == connection) target rest mount.description.tracks number

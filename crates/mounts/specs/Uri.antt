@@ -1,6 +1,6 @@
 -- Request URIs (RFC 2326, 6.1: Request-URI = "*" | absolute_URI; 3.2: rtsp_URL = "rtsp:" "//" host [":" port] [abs_path]),
 -- over the definition of a URL that the crate `url` has.
-use Rattle.std.specs.Prelude.{◌≡◌, ℕ, ◌-◌, ◌==◌, ◌||◌, Bool, if◌then◌else◌, List, [], ◌∷◌, ◌++◌, ◌⊎◌, length, take, drop, slice_index, codes, None, Ok}
+use Rattle.std.specs.Prelude.{◌≡◌, ◌≢◌, ℕ, ◌-◌, ◌==◌, ◌||◌, Bool, if◌then◌else◌, List, [], ◌∷◌, ◌++◌, ◌⊎◌, length, take, drop, slice_index, codes, None, Ok}
 use Rattle.std.specs.List.{before_first}
 use Rattle.std.specs.Str.{IsUtf8}
 use Rattle.url.specs.Parser.{parse_url}
@@ -56,24 +56,25 @@ pub record IsTarget (text : List ℕ) (target : Target) : Type 0 where
   pub query : target.query ≡ url.query
   pub base : target.base ≡ base_text text
 
--- why a text isn't such a URL, or names nothing; memory may run out at any text
+-- Why a text isn't such a URL, or names nothing. Memory may run out at any text that `url` is given, and it is given what
+-- is UTF-8.
 abbrev pub IsUrlRefusal : List ℕ → UriFault → Type 0
 IsUrlRefusal text BadUri = (url : Parts) → IsRtspUrl text url → ⊥
-IsUrlRefusal text OutOfMemory = Unit {0}
+IsUrlRefusal text OutOfMemory = IsUtf8 text
 
 abbrev pub IsTargetRefusal : List ℕ → UriFault → Type 0
 IsTargetRefusal text BadUri = (target : Target) → IsTarget text target → ⊥
-IsTargetRefusal text OutOfMemory = Unit {0}
+IsTargetRefusal text OutOfMemory = IsUtf8 text
 
 -- the URI rule
 abbrev pub IsUri : List ℕ → Uri → Type 0
 IsUri text Star = text ≡ codes "*"
 IsUri text (At target) = IsTarget text target
 
--- why a text is refused; memory may run out at any text
+-- why a text is refused; `*` never is, and for want of memory only what could have been a URL
 abbrev pub IsRefused : List ℕ → UriFault → Type 0
 IsRefused text BadUri = (uri : Uri) → IsUri text uri → ⊥
-IsRefused text OutOfMemory = Unit {0}
+IsRefused text OutOfMemory = IsUtf8 text × (text ≢ codes "*")
 
 -- the faults by the numbers that the program reports
 abbrev pub fault_number : UriFault → ℕ

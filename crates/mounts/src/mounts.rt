@@ -41,7 +41,7 @@ impl Model for Mounts {
 
 impl Mounts {
     ghost use Rattle.mounts.specs.Mounts.{HasRoom, IsSeat, IsSound, announced, ended, named, no_mounts, numbered, owned_by, with_seat_of};
-    ghost use Rattle.mounts.specs.Names.{IsName};
+    ghost use Rattle.mounts.specs.Names.{EndsInTrack, IsName};
     ghost use Rattle.mounts.specs.Uri.{slash};
     ghost use Rattle.mounts.specs.Find.{IsFoundIn, IsNowhereIn};
 
@@ -111,7 +111,7 @@ impl Mounts {
     /// The live mount that a path names, by its number, and what is left of the path: the whole path, else the longest
     /// beginning that ends before a slash, which is a live mount's name. `None` behind the number says that the whole path is the
     /// name; a path that ends in a slash has an empty rest. Looks at no beginning over `MAX_NAME` bytes, so that it makes at
-    /// most `MAX_NAME + 1` look-ups, however long the path is.
+    /// most `MAX_NAME` look-ups, however long the path is.
     pub fn find<'a>(&self, path: &'a [u8]) -> Option<(u64, Option<&'a [u8]>)>
         ensures found { IfSome result (λ r. IsFoundIn self.now.mounts path.now r.0 (option_copied r.1)) }
         ensures nowhere { IfNone result (IsNowhereIn self.now.mounts path.now) }
@@ -125,7 +125,8 @@ impl Mounts {
             }
         }
         let mut end = path.len().min(MAX_NAME + 1);
-        while end > 0 {
+        // no name is empty
+        while end > 1 {
             end -= 1;
             if let Some(mount) = self.named_before(path, end) {
                 return Some((mount.number, Some(&path[end + 1..])));
@@ -134,7 +135,8 @@ impl Mounts {
         None
     }
 
-    /// Announces a mount, and tells its number. Only want of memory refuses it, and then nothing has changed.
+    /// Announces a mount, and tells its number. The name doesn't end in a track's name (`ends_in_track`): it would be taken
+    /// for a track of another mount. Only want of memory refuses the call, and then nothing has changed.
     pub fn announce(
         &mut self,
         owner: u64,
@@ -143,6 +145,7 @@ impl Mounts {
     ) -> Result<u64, AllocError>
         requires room { HasRoom self.old }
         requires name { IsName name.now }
+        requires no_track { EndsInTrack name.now → ⊥ }
         requires free { named name.now self.old.mounts ≡ None }
         requires first { owned_by owner self.old.mounts ≡ None }
         ensures number { IfOk result (λ number. number ≡ self.old.next) }

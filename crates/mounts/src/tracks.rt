@@ -1,6 +1,7 @@
 //! Which track of a mount the rest of a path names (RFC 2326, C.1.1).
-ghost use Rattle.std.specs.Prelude.{◌≡◌, ◌≢◌, ◌<◌, ◌≤◌, ◌==◌, ℕ, length, slice_get, Some, IfOk, IfSome, IfNone, MatchBool, MatchOption};
+ghost use Rattle.std.specs.Prelude.{◌≡◌, ◌≢◌, ◌<◌, ◌≤◌, ◌==◌, ℕ, length, slice_get, Some, IfOk, IfSome, IfNone, MatchBool, MatchOption, MatchResult};
 ghost use Rattle.sdp.specs.Written.{track_control};
+ghost use Rattle.mounts.specs.Names.{GoesOn};
 ghost use Rattle.mounts.specs.Tracks.{HasNoControl, HasPathOf, IsCalledBy, IsControlOf, IsFirstCalledBy, IsNamedBy, IsNamedByOwner, IsNamedByPlayer, IsRestAndQuery, NoneIsCalledBy};
 
 use crate::fault::UriFault;
@@ -153,7 +154,7 @@ impl Mount {
     /// announced controls count, in three ways: a control is the rest, it is the rest and the query, or it is a URL of the
     /// request's path; the first track counts that has such a control. Where no track has one, `trackID=k` names track k
     /// if that was announced without a control, or with `*`. For anybody else `trackID=k` alone does. The only error is
-    /// want of memory.
+    /// want of memory, and it comes to the owner alone.
     pub fn track(
         &self,
         alloc: Global,
@@ -161,9 +162,12 @@ impl Mount {
         target: &Target,
         rest: &[u8],
     ) -> Result<Option<usize>, AllocError>
-        ensures { IfOk result (λ found. MatchOption found
+        requires rest { GoesOn target.now.path self.now.name (Some rest.now) }
+        ensures { MatchResult result
+            (λ found. MatchOption found
             ((number : ℕ) → IsNamedBy (self.now.owner == connection) target.now rest.now self.now.description.tracks number → ⊥)
-            (IsNamedBy (self.now.owner == connection) target.now rest.now self.now.description.tracks)) }
+            (IsNamedBy (self.now.owner == connection) target.now rest.now self.now.description.tracks))
+            (λ _. self.now.owner ≡ connection) }
     {
         if self.owner == connection {
             named_by_owner(alloc, target, rest, self.description.tracks())

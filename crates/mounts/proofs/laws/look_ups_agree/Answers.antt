@@ -1,10 +1,6 @@
-use Rattle.std.proofs.Common.{◌≡◌, ◌==◌, Some, sym, ◌∙◌}
-use Rattle.std.specs.List.{position_or_len}
-use Rattle.std.proofs.lemmas.Bool.{eqb-true}
-use Rattle.std.proofs.lemmas.List.Folds.{find_at}
+use Rattle.std.proofs.Common.{◌≡◌, Some}
 use Rattle.mounts.specs.Mounts.{named, numbered, owned_by}
-use Rattle.mounts.proofs.Firsts.{found_passes}
-use Rattle.mounts.proofs.Lookups.{looked_up}
+use Rattle.mounts.proofs.Lookups.{found_is_numbered, looked_up, only_name, only_number, only_owner}
 use Rattle.mounts.proofs.Places.{all_from_places}
 use Rattle.mounts.proofs.laws.look_ups_agree.Goals as goal
 
@@ -14,7 +10,13 @@ returns-clause-each c table sound =
     (looked_up table sound)
 
 pub returns-clause-only : goal.returns-clause-only
-returns-clause-only c table number mount at = (
-  eqb-true mount.number number (found_passes (λ m. m.number == number) table.mounts mount at),
-  (position_or_len (λ m. m.number == number) table.mounts, sym (find_at (λ m. m.number == number) table.mounts) ∙ at),
-)
+returns-clause-only c table number mount sound at = only_number table number mount sound at
+
+pub returns-clause-only_name : goal.returns-clause-only_name
+returns-clause-only_name c table name mount sound at = only_name table name mount sound at
+
+pub returns-clause-only_owner : goal.returns-clause-only_owner
+returns-clause-only_owner c table owner mount sound at = only_owner table owner mount sound at
+
+pub returns-clause-found : goal.returns-clause-found
+returns-clause-found c table path number rest sound found = found_is_numbered table path number rest sound found

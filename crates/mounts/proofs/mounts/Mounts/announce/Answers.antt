@@ -21,6 +21,6 @@ invariant_of-self-2 c =
       names = names_more c.reserve.new.self.keys c.insert.new.self.keys c.in_ok-key.key c.self.inside.mounts.items (new_mount (table_of c.self.inside) c.args.owner c.args.name.now c.args.description)
           (ap (map (λ k. k.items)) kept ∙ c.self.invariant.names) keys key free ∙ ap (map (λ m. m.name)) (sym items);
       sound = subst (λ mounts. IsSound (record { mounts = mounts; next = c.self.inside.next + 1; seats = c.self.inside.seats })) (sym items)
-          (sound_announced (table_of c.self.inside) c.args.owner c.args.name.now c.args.description c.self.invariant.sound room c.requires.name free first);
+          (sound_announced (table_of c.self.inside) c.args.owner c.args.name.now c.args.description c.self.invariant.sound room c.requires.name c.requires.no_track free first);
       few_seats = c.self.invariant.few_seats;
     }

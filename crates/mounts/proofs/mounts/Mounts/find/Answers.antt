@@ -2,8 +2,8 @@ use Rattle.std.proofs.Common.{◌≡◌, ◌+◌, ◌-◌, None, Some, suc, leng
 use Rattle.std.proofs.lemmas.List.{take_all}
 use Rattle.mounts.specs.Find.{IsFoundIn}
 use Rattle.mounts.specs.Mounts.{IsSound, named}
-use Rattle.mounts.proofs.Finding.{AreTried, found_longest, none_tried, tried_names_nothing}
-use Rattle.mounts.proofs.Sound.{long_names_nothing}
+use Rattle.mounts.proofs.Finding.{AreTried, found_longest, found_nowhere, none_tried}
+use Rattle.mounts.proofs.Sound.{names_nothing}
 use Rattle.mounts.proofs.mounts.Mounts.find.Goals as goal
 use Rattle.mounts.proofs.mounts.Mounts.find.Goals.{then-path-le-MAX_NAME+in_default, else-path-le-MAX_NAME}
 
@@ -13,7 +13,7 @@ loop-end-init c =
     let end = c.min-end.ensures in
     let whole : named c.args.path.now c.args.self.now.mounts ≡ None = elim c.if-path-le-MAX_NAME.branch [
       | then-path-le-MAX_NAME+in_default w ↦ sym w.in_default.ensures
-      | else-path-le-MAX_NAME w ↦ long_names_nothing c.args.self.now.next c.args.self.now.seats c.args.self.now.mounts c.args.path.now sound.each (omega arith)
+      | else-path-le-MAX_NAME w ↦ names_nothing c.args.self.now.next c.args.self.now.seats c.args.self.now.mounts c.args.path.now sound.each (λ name. let most = name.most in omega (arith, most))
     ] in
     record {
       within = omega (arith, end);
@@ -32,5 +32,6 @@ returns-in-Some-named_before-clause-found c =
     (subst (AreTried c.args.self.now.mounts c.args.path.now) (sym behind) c.loop-end.invariant.tried) c.in-Some-named_before.ensures)
 
 pub returns-clause-nowhere : goal.returns-clause-nowhere
-returns-clause-nowhere c name rest goes_on =
-    tried_names_nothing c.args.self.now.mounts c.args.path.now c.loop-end.end c.loop-end.invariant.tried name rest goes_on (omega arith)
+returns-clause-nowhere c =
+    let sound = subst IsSound c.self.view_is c.self.invariant.sound in
+    found_nowhere c.args.self.now.next c.args.self.now.seats c.args.self.now.mounts c.args.path.now c.loop-end.end sound.each c.loop-end.invariant.tried (omega arith)

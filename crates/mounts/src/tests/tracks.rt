@@ -1,0 +1,114 @@
+use super::*;
+
+// The track of a mount that its owner names by a URI, and the one that a player does.
+fn tracks_named(
+    alloc: Global,
+    mount: &Mount,
+    text: &[u8],
+) -> Result<(Option<usize>, Option<usize>), Fail> {
+    let target = target_of(alloc, text)?;
+    match rest_after(target.path.as_slice(), mount.name.as_slice()) {
+        Some(Some(rest)) => Ok((
+            mount.track(alloc, mount.owner, &target, rest)?,
+            mount.track_for_player(rest),
+        )),
+        _ => Ok((None, None)),
+    }
+}
+
+// Absolute, with a query, empty, twice the same, `*`, and none.
+const CONTROLS: &[u8] =
+    b"v=0\nm=video 0 RTP/AVP 96\na=control:rtsp://else/cam/abs/?x\nm=a 0 RTP/AVP 0\na=control:s?q=1\n\
+    m=a 0 RTP/AVP 0\na=control:\nm=a 0 RTP/AVP 0\na=control:same\nm=a 0 RTP/AVP 0\na=control:same\n\
+    m=a 0 RTP/AVP 0\na=control:*\nm=a 0 RTP/AVP 0\nm=a 0 RTP/AVP 0\na=control:trackID=0\n";
+
+#[test]
+fn the_owner_names_tracks_by_their_controls(rt: HostRuntime) -> Result<(), Fail> {
+    let mut mounts = Mounts::new(rt.alloc(), 0, RandomState::new(&rt)?);
+    let _ = announce(&mut mounts, rt.alloc(), 7, b"cam", CONTROLS)?;
+    for mount in mounts.live() {
+        for (text, named) in [
+            (b"rtsp://h/cam/abs".as_slice(), (Some(0), None)),
+            (b"rtsp://h/cam/abs/?z", (Some(0), None)),
+            (b"rtsp://h/cam/s?q=1", (Some(1), None)),
+            (b"rtsp://h/cam/s", (None, None)),
+            (b"rtsp://h/cam//", (Some(2), None)),
+            (b"rtsp://h/cam/same", (Some(3), None)),
+            (b"rtsp://h/cam/*", (Some(5), None)),
+            (b"rtsp://h/cam/trackID=5", (Some(5), Some(5))),
+            (b"rtsp://h/cam/trackID=6", (Some(6), Some(6))),
+            (b"rtsp://h/cam/trackID=0", (Some(7), Some(0))),
+            (b"rtsp://h/cam/trackID=3", (None, Some(3))),
+            (b"rtsp://h/cam/trackID=8", (None, None)),
+            (b"rtsp://h/cam/trackID=00", (None, None)),
+            (b"rtsp://h/cam/trackID=99999999999999999999", (None, None)),
+        ] {
+            assert_eq!(rt; tracks_named(rt.alloc(), mount, text)?, named, "{text:?}");
+        }
+    }
+    Ok(())
+}
+
+// Controls that are a request's in different ways, and one whose path isn't rooted.
+const MIXED_CONTROLS: &[u8] =
+    b"v=0\nm=a 0 RTP/AVP 0\na=control:rtsp://x/cam/m\nm=a 0 RTP/AVP 0\na=control:m\n\
+    m=a 0 RTP/AVP 0\na=control:s?q\nm=a 0 RTP/AVP 0\na=control:s\nm=a 0 RTP/AVP 0\na=control:rtsp:cam/o\n";
+
+#[test]
+fn the_first_control_counts_whatever_its_way(rt: HostRuntime) -> Result<(), Fail> {
+    let mut mounts = Mounts::new(rt.alloc(), 0, RandomState::new(&rt)?);
+    let _ = announce(&mut mounts, rt.alloc(), 7, b"cam", MIXED_CONTROLS)?;
+    for mount in mounts.live() {
+        for (text, owner) in [
+            (b"rtsp://h/cam/m".as_slice(), Some(0)),
+            (b"rtsp://h/cam/s?q", Some(2)),
+            (b"rtsp://h/cam/s", Some(3)),
+            (b"rtsp://h/cam/o", None),
+        ] {
+            assert_eq!(rt;
+                tracks_named(rt.alloc(), mount, text)?,
+                (owner, None),
+                "{text:?}"
+            );
+        }
+    }
+    Ok(())
+}
+
+#[test]
+fn sixteen_tracks_are_named(rt: HostRuntime) -> Result<(), Fail> {
+    let mut text = b"v=0\n".to_vec(rt.alloc())?;
+    for _ in 0..16 {
+        text.extend_from_slice(b"m=a 0 RTP/AVP 0\n")?;
+    }
+    let mut mounts = Mounts::new(rt.alloc(), 0, RandomState::new(&rt)?);
+    let _ = announce(&mut mounts, rt.alloc(), 7, b"cam", text.as_slice())?;
+    for mount in mounts.live() {
+        for (text, named) in [
+            (b"rtsp://h/cam/trackID=0".as_slice(), Some(0)),
+            (b"rtsp://h/cam/trackID=15", Some(15)),
+            (b"rtsp://h/cam/trackID=16", None),
+        ] {
+            assert_eq!(rt;
+                tracks_named(rt.alloc(), mount, text)?,
+                (named, named),
+                "{text:?}"
+            );
+        }
+    }
+    Ok(())
+}
+
+#[test]
+fn a_track_has_a_number_below_the_count(rt: HostRuntime) {
+    let table: [(&[u8], Option<usize>); 5] = [
+        (b"trackID=0", Some(0)),
+        (b"trackID=15", Some(15)),
+        (b"trackID=16", None),
+        (b"trackID=015", None),
+        (b"trackid=1", None),
+    ];
+    for (rest, number) in table {
+        assert_eq!(rt; track_number(rest, 16), number);
+    }
+}
