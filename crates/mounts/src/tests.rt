@@ -38,12 +38,19 @@ fn announce(
     }
 }
 
-// `cam`, `cam/low` and a name of 128 bytes, of connections 7, 8 and 9, with two seats each.
-fn three_mounts(alloc: Global, hasher: RandomState) -> Result<Mounts, Fail> {
+// A name of 128 bytes, and what goes on behind it.
+const LONG_PATH: &[u8] =
+    b"long/xxxxxxxxxxxxxxxxxxxxxxxxxxxxxxxxxxxxxxxxxxxxxxxxxxxxxxxxxxxxxxxxxxxxxxxxxxxxxxxxxxxxxxxxxxxxxxxxxxxxxxxxxxxxxxxxxxxxxxxxxxx/y";
+
+// `cam`, `cam/low`, a name of 128 bytes and `cam/`, of connections 7 to 10, with two seats each.
+fn four_mounts(alloc: Global, hasher: RandomState) -> Result<Mounts, Fail> {
     let mut mounts = Mounts::new(alloc, 2, hasher);
-    let mut long = b"long/".to_vec(alloc)?;
-    long.resize(MAX_NAME, b'x')?;
-    let names: [(u64, &[u8]); 3] = [(7, b"cam"), (8, b"cam/low"), (9, long.as_slice())];
+    let names: [(u64, &[u8]); 4] = [
+        (7, b"cam"),
+        (8, b"cam/low"),
+        (9, &LONG_PATH[..MAX_NAME]),
+        (10, b"cam/"),
+    ];
     for (owner, name) in names {
         let _ = announce(&mut mounts, alloc, owner, name, ONE_TRACK)?;
     }
@@ -56,13 +63,15 @@ fn the_limits_are_these(rt: HostRuntime) {
 }
 
 #[test]
-fn names_have_1_to_128_bytes(rt: HostRuntime) -> Result<(), Fail> {
-    for (len, good) in [(0, false), (1, true), (128, true), (129, false)] {
-        let mut name = b"".to_vec(rt.alloc())?;
-        name.resize(len, b'a')?;
-        assert_eq!(rt; is_name(name.as_slice()), good);
+fn names_have_1_to_128_bytes(rt: HostRuntime) {
+    for (name, good) in [
+        (b"".as_slice(), false),
+        (b"a", true),
+        (&LONG_PATH[..128], true),
+        (&LONG_PATH[..129], false),
+    ] {
+        assert_eq!(rt; is_name(name), good);
     }
-    Ok(())
 }
 
 #[test]

@@ -128,7 +128,7 @@ fn a_long_path_of_slashes_is_read(rt: HostRuntime) -> Result<(), Fail> {
     text.resize(8_000, b'/')?;
     let target = target_of(rt.alloc(), text.as_slice())?;
     assert_eq!(rt; target.path.len(), 7_990);
-    let mounts = three_mounts(rt.alloc(), RandomState::new(&rt)?)?;
+    let mounts = four_mounts(rt.alloc(), RandomState::new(&rt)?)?;
     assert!(rt; mounts.find(target.path.as_slice()).is_none());
     Ok(())
 }
