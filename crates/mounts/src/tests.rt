@@ -17,24 +17,26 @@ fn target_of(alloc: Global, text: &[u8]) -> Result<Target, UriFault> {
 
 const ONE_TRACK: &[u8] = b"v=0\nm=video 0 RTP/AVP 96\n";
 
-// Announces a mount, and tells its number. 0 where that may not be done.
+// Announces a mount, and tells its number. 0 where that may not be done, or memory ran out.
 fn announce(
     mounts: &mut Mounts,
     alloc: Global,
     owner: u64,
     name: &[u8],
     description: &[u8],
-) -> Result<u64, Fail> {
-    let description = sdp::read(alloc, description)?;
+) -> u64 {
+    let Ok(description) = sdp::read(alloc, description) else {
+        return 0;
+    };
     if mounts.has_room()
         && is_name(name)
         && !ends_in_track(name)
         && mounts.named(name).is_none()
         && mounts.owned_by(owner).is_none()
     {
-        Ok(mounts.announce(owner, name, description)?)
+        mounts.announce(owner, name, description).unwrap_or(0)
     } else {
-        Ok(0)
+        0
     }
 }
 
@@ -43,7 +45,7 @@ const LONG_PATH: &[u8] =
     b"long/xxxxxxxxxxxxxxxxxxxxxxxxxxxxxxxxxxxxxxxxxxxxxxxxxxxxxxxxxxxxxxxxxxxxxxxxxxxxxxxxxxxxxxxxxxxxxxxxxxxxxxxxxxxxxxxxxxxxxxxxxxx/y";
 
 // `cam`, `cam/low`, a name of 128 bytes and `cam/`, of connections 7 to 10, with two seats each.
-fn four_mounts(alloc: Global, hasher: RandomState) -> Result<Mounts, Fail> {
+fn four_mounts(alloc: Global, hasher: RandomState) -> Mounts {
     let mut mounts = Mounts::new(alloc, 2, hasher);
     let names: [(u64, &[u8]); 4] = [
         (7, b"cam"),
@@ -52,9 +54,9 @@ fn four_mounts(alloc: Global, hasher: RandomState) -> Result<Mounts, Fail> {
         (10, b"cam/"),
     ];
     for (owner, name) in names {
-        let _ = announce(&mut mounts, alloc, owner, name, ONE_TRACK)?;
+        let _ = announce(&mut mounts, alloc, owner, name, ONE_TRACK);
     }
-    Ok(mounts)
+    mounts
 }
 
 #[test]

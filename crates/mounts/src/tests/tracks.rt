@@ -25,27 +25,30 @@ const CONTROLS: &[u8] =
     m=a 0 RTP/AVP 0\na=control:\nm=a 0 RTP/AVP 0\na=control:same\nm=a 0 RTP/AVP 0\na=control:same\n\
     m=a 0 RTP/AVP 0\na=control:*\nm=a 0 RTP/AVP 0\nm=a 0 RTP/AVP 0\na=control:trackID=0\n";
 
+// A URI, and the tracks that the owner and a player name by it.
+const NAMED: [(&[u8], (Option<usize>, Option<usize>)); 14] = [
+    (b"rtsp://h/cam/abs", (Some(0), None)),
+    (b"rtsp://h/cam/abs/?z", (Some(0), None)),
+    (b"rtsp://h/cam/s?q=1", (Some(1), None)),
+    (b"rtsp://h/cam/s", (None, None)),
+    (b"rtsp://h/cam//", (Some(2), None)),
+    (b"rtsp://h/cam/same", (Some(3), None)),
+    (b"rtsp://h/cam/*", (Some(5), None)),
+    (b"rtsp://h/cam/trackID=5", (Some(5), Some(5))),
+    (b"rtsp://h/cam/trackID=6", (Some(6), Some(6))),
+    (b"rtsp://h/cam/trackID=0", (Some(7), Some(0))),
+    (b"rtsp://h/cam/trackID=3", (None, Some(3))),
+    (b"rtsp://h/cam/trackID=8", (None, None)),
+    (b"rtsp://h/cam/trackID=00", (None, None)),
+    (b"rtsp://h/cam/trackID=99999999999999999999", (None, None)),
+];
+
 #[test]
 fn the_owner_names_tracks_by_their_controls(rt: HostRuntime) -> Result<(), Fail> {
     let mut mounts = Mounts::new(rt.alloc(), 0, RandomState::new(&rt)?);
-    let _ = announce(&mut mounts, rt.alloc(), 7, b"cam", CONTROLS)?;
+    assert_eq!(rt; announce(&mut mounts, rt.alloc(), 7, b"cam", CONTROLS), 1);
     for mount in mounts.live() {
-        for (text, named) in [
-            (b"rtsp://h/cam/abs".as_slice(), (Some(0), None)),
-            (b"rtsp://h/cam/abs/?z", (Some(0), None)),
-            (b"rtsp://h/cam/s?q=1", (Some(1), None)),
-            (b"rtsp://h/cam/s", (None, None)),
-            (b"rtsp://h/cam//", (Some(2), None)),
-            (b"rtsp://h/cam/same", (Some(3), None)),
-            (b"rtsp://h/cam/*", (Some(5), None)),
-            (b"rtsp://h/cam/trackID=5", (Some(5), Some(5))),
-            (b"rtsp://h/cam/trackID=6", (Some(6), Some(6))),
-            (b"rtsp://h/cam/trackID=0", (Some(7), Some(0))),
-            (b"rtsp://h/cam/trackID=3", (None, Some(3))),
-            (b"rtsp://h/cam/trackID=8", (None, None)),
-            (b"rtsp://h/cam/trackID=00", (None, None)),
-            (b"rtsp://h/cam/trackID=99999999999999999999", (None, None)),
-        ] {
+        for (text, named) in NAMED {
             assert!(rt;
                 tracks_named(rt.alloc(), mount, text) == Some(named),
                 "{text:?}"
@@ -63,7 +66,10 @@ const MIXED_CONTROLS: &[u8] =
 #[test]
 fn the_first_control_counts_whatever_its_way(rt: HostRuntime) -> Result<(), Fail> {
     let mut mounts = Mounts::new(rt.alloc(), 0, RandomState::new(&rt)?);
-    let _ = announce(&mut mounts, rt.alloc(), 7, b"cam", MIXED_CONTROLS)?;
+    assert_eq!(rt;
+        announce(&mut mounts, rt.alloc(), 7, b"cam", MIXED_CONTROLS),
+        1
+    );
     for mount in mounts.live() {
         for (text, owner) in [
             (b"rtsp://h/cam/m".as_slice(), Some(0)),
@@ -87,7 +93,10 @@ fn sixteen_tracks_are_named(rt: HostRuntime) -> Result<(), Fail> {
         text.extend_from_slice(b"m=a 0 RTP/AVP 0\n")?;
     }
     let mut mounts = Mounts::new(rt.alloc(), 0, RandomState::new(&rt)?);
-    let _ = announce(&mut mounts, rt.alloc(), 7, b"cam", text.as_slice())?;
+    assert_eq!(rt;
+        announce(&mut mounts, rt.alloc(), 7, b"cam", text.as_slice()),
+        1
+    );
     for mount in mounts.live() {
         for (text, named) in [
             (b"rtsp://h/cam/trackID=0".as_slice(), Some(0)),
