@@ -3,7 +3,7 @@ use super::*;
 // What a path finds: the number of a mount, and the rest.
 type Found = Option<(u64, Option<&'static [u8]>)>;
 
-const PATHS: [(&[u8], Found); 15] = [
+const PATHS: &[(&[u8], Found)] = &[
     (b"cam", Some((1, None))),
     (b"cam/", Some((4, None))),
     (b"cam/x", Some((1, Some(b"x")))),
@@ -25,7 +25,7 @@ const PATHS: [(&[u8], Found); 15] = [
 fn a_path_finds_the_longest_name(rt: HostRuntime) -> Result<(), Fail> {
     let mounts = four_mounts(rt.alloc(), RandomState::new(&rt)?);
     for (path, found) in PATHS {
-        assert!(rt; mounts.find(path) == found, "{path:?}");
+        assert!(rt; mounts.find(path) == *found, "{path:?}");
     }
     Ok(())
 }
@@ -39,7 +39,7 @@ fn a_name_of_128_bytes_is_found(rt: HostRuntime) -> Result<(), Fail> {
 }
 
 // A number to end, and then an owner and a name with the number that they get.
-const ENDS: [(u64, u64, &[u8], u64); 6] = [
+const ENDS: &[(u64, u64, &[u8], u64)] = &[
     (0, 8, b"other", 0),
     (0, 11, b"cam", 0),
     (2, 8, b"cam/low", 5),
@@ -52,10 +52,10 @@ const ENDS: [(u64, u64, &[u8], u64); 6] = [
 fn a_number_is_not_used_again(rt: HostRuntime) -> Result<(), Fail> {
     let mut mounts = four_mounts(rt.alloc(), RandomState::new(&rt)?);
     for (number, owner, name, gets) in ENDS {
-        mounts.end(number);
-        let is_gone = mounts.numbered(number).is_none();
-        let number = announce(&mut mounts, rt.alloc(), owner, name, ONE_TRACK);
-        assert_eq!(rt; (is_gone, number), (true, gets));
+        mounts.end(*number);
+        let is_gone = mounts.numbered(*number).is_none();
+        let number = announce(&mut mounts, rt.alloc(), *owner, name, ONE_TRACK);
+        assert_eq!(rt; (is_gone, number), (true, *gets));
     }
     let owned = match mounts.owned_by(11) {
         Some(mount) => mount.number,
@@ -82,28 +82,29 @@ fn sixty_four_mounts_are_live(rt: HostRuntime) -> Result<(), Fail> {
     Ok(())
 }
 
+// A mount, a seat to give back or else one to take, and whether that is done.
+const CHANGES: &[(u64, Option<usize>, bool)] = &[
+    (1, None, true),
+    (1, None, true),
+    (1, None, false),
+    (5, None, false),
+    (2, Some(0), false),
+    (1, Some(2), false),
+    (1, Some(0), true),
+    (1, Some(0), false),
+    (1, None, true),
+    (1, None, false),
+];
+
 #[test]
 fn a_seat_is_taken_and_given_back(rt: HostRuntime) -> Result<(), Fail> {
     let mut mounts = four_mounts(rt.alloc(), RandomState::new(&rt)?);
-    // A mount, a seat to give back or else one to take, and whether that is done.
-    let table: [(u64, Option<usize>, bool); 10] = [
-        (1, None, true),
-        (1, None, true),
-        (1, None, false),
-        (5, None, false),
-        (2, Some(0), false),
-        (1, Some(2), false),
-        (1, Some(0), true),
-        (1, Some(0), false),
-        (1, None, true),
-        (1, None, false),
-    ];
-    for (number, seat, done) in table {
+    for (number, seat, done) in CHANGES {
         let is_done = match seat {
-            Some(seat) => mounts.give_back(number, seat),
-            None => mounts.take_seat(number).is_some(),
+            Some(seat) => mounts.give_back(*number, *seat),
+            None => mounts.take_seat(*number).is_some(),
         };
-        assert_eq!(rt; is_done, done);
+        assert!(rt; is_done == *done);
     }
     Ok(())
 }
@@ -112,12 +113,12 @@ fn a_seat_is_taken_and_given_back(rt: HostRuntime) -> Result<(), Fail> {
 fn all_seats_are_taken_and_given_back(rt: HostRuntime) -> Result<(), Fail> {
     let mut mounts = Mounts::new(rt.alloc(), MAX_SEATS, RandomState::new(&rt)?);
     assert_eq!(rt; announce(&mut mounts, rt.alloc(), 7, b"cam", ONE_TRACK), 1);
-    for seat in 0..1_024 {
-        assert!(rt; mounts.take_seat(1).is_some(), "{seat}");
+    for _ in 0..1_024 {
+        assert!(rt; mounts.take_seat(1).is_some());
     }
     assert!(rt; mounts.take_seat(1).is_none());
     for seat in 0..1_024 {
-        assert!(rt; mounts.give_back(1, seat), "{seat}");
+        assert!(rt; mounts.give_back(1, seat));
     }
     assert!(rt; mounts.take_seat(1).is_some());
     Ok(())

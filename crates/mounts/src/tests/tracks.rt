@@ -1,4 +1,5 @@
 use super::*;
+use std::process::Abort;
 
 // The track of a mount that its owner names by a URI, and the one that a player does. `None` where the URI doesn't go on
 // after the mount's name, or memory ran out.
@@ -19,14 +20,37 @@ fn tracks_named(
     }
 }
 
+// A URI, and the tracks that the owner and a player name by it.
+type Row = (&'static [u8], (Option<usize>, Option<usize>));
+
+// Asserts which tracks of a mount `cam` of this description its owner and a player name.
+fn assert_named(
+    rt: &impl Abort,
+    alloc: Global,
+    hasher: RandomState,
+    description: &[u8],
+    rows: &[Row],
+) {
+    let mut mounts = Mounts::new(alloc, 0, hasher);
+    assert_eq!(rt; announce(&mut mounts, alloc, 7, b"cam", description), 1);
+    for mount in mounts.live() {
+        for row in rows {
+            assert!(rt;
+                tracks_named(alloc, mount, row.0) == Some(row.1),
+                "{:?}",
+                row.0
+            );
+        }
+    }
+}
+
 // Absolute, with a query, empty, twice the same, `*`, and none.
 const CONTROLS: &[u8] =
     b"v=0\nm=video 0 RTP/AVP 96\na=control:rtsp://else/cam/abs/?x\nm=a 0 RTP/AVP 0\na=control:s?q=1\n\
     m=a 0 RTP/AVP 0\na=control:\nm=a 0 RTP/AVP 0\na=control:same\nm=a 0 RTP/AVP 0\na=control:same\n\
     m=a 0 RTP/AVP 0\na=control:*\nm=a 0 RTP/AVP 0\nm=a 0 RTP/AVP 0\na=control:trackID=0\n";
 
-// A URI, and the tracks that the owner and a player name by it.
-const NAMED: [(&[u8], (Option<usize>, Option<usize>)); 14] = [
+const NAMED: &[Row] = &[
     (b"rtsp://h/cam/abs", (Some(0), None)),
     (b"rtsp://h/cam/abs/?z", (Some(0), None)),
     (b"rtsp://h/cam/s?q=1", (Some(1), None)),
@@ -45,16 +69,7 @@ const NAMED: [(&[u8], (Option<usize>, Option<usize>)); 14] = [
 
 #[test]
 fn the_owner_names_tracks_by_their_controls(rt: HostRuntime) -> Result<(), Fail> {
-    let mut mounts = Mounts::new(rt.alloc(), 0, RandomState::new(&rt)?);
-    assert_eq!(rt; announce(&mut mounts, rt.alloc(), 7, b"cam", CONTROLS), 1);
-    for mount in mounts.live() {
-        for (text, named) in NAMED {
-            assert!(rt;
-                tracks_named(rt.alloc(), mount, text) == Some(named),
-                "{text:?}"
-            );
-        }
-    }
+    assert_named(&rt, rt.alloc(), RandomState::new(&rt)?, CONTROLS, NAMED);
     Ok(())
 }
 
@@ -63,52 +78,46 @@ const MIXED_CONTROLS: &[u8] =
     b"v=0\nm=a 0 RTP/AVP 0\na=control:rtsp://x/cam/m\nm=a 0 RTP/AVP 0\na=control:m\n\
     m=a 0 RTP/AVP 0\na=control:s?q\nm=a 0 RTP/AVP 0\na=control:s\nm=a 0 RTP/AVP 0\na=control:rtsp:cam/o\n";
 
+const MIXED: &[Row] = &[
+    (b"rtsp://h/cam/m", (Some(0), None)),
+    (b"rtsp://h/cam/s?q", (Some(2), None)),
+    (b"rtsp://h/cam/s", (Some(3), None)),
+    (b"rtsp://h/cam/o", (None, None)),
+];
+
 #[test]
 fn the_first_control_counts_whatever_its_way(rt: HostRuntime) -> Result<(), Fail> {
-    let mut mounts = Mounts::new(rt.alloc(), 0, RandomState::new(&rt)?);
-    assert_eq!(rt;
-        announce(&mut mounts, rt.alloc(), 7, b"cam", MIXED_CONTROLS),
-        1
+    assert_named(
+        &rt,
+        rt.alloc(),
+        RandomState::new(&rt)?,
+        MIXED_CONTROLS,
+        MIXED,
     );
-    for mount in mounts.live() {
-        for (text, owner) in [
-            (b"rtsp://h/cam/m".as_slice(), Some(0)),
-            (b"rtsp://h/cam/s?q", Some(2)),
-            (b"rtsp://h/cam/s", Some(3)),
-            (b"rtsp://h/cam/o", None),
-        ] {
-            assert!(rt;
-                tracks_named(rt.alloc(), mount, text) == Some((owner, None)),
-                "{text:?}"
-            );
-        }
-    }
     Ok(())
 }
 
+const SIXTEEN_TRACKS: &[u8] = b"v=0\n\
+    m=a 0 RTP/AVP 0\nm=a 0 RTP/AVP 0\nm=a 0 RTP/AVP 0\nm=a 0 RTP/AVP 0\n\
+    m=a 0 RTP/AVP 0\nm=a 0 RTP/AVP 0\nm=a 0 RTP/AVP 0\nm=a 0 RTP/AVP 0\n\
+    m=a 0 RTP/AVP 0\nm=a 0 RTP/AVP 0\nm=a 0 RTP/AVP 0\nm=a 0 RTP/AVP 0\n\
+    m=a 0 RTP/AVP 0\nm=a 0 RTP/AVP 0\nm=a 0 RTP/AVP 0\nm=a 0 RTP/AVP 0\n";
+
+const NUMBERED: &[Row] = &[
+    (b"rtsp://h/cam/trackID=0", (Some(0), Some(0))),
+    (b"rtsp://h/cam/trackID=15", (Some(15), Some(15))),
+    (b"rtsp://h/cam/trackID=16", (None, None)),
+];
+
 #[test]
 fn sixteen_tracks_are_named(rt: HostRuntime) -> Result<(), Fail> {
-    let mut text = b"v=0\n".to_vec(rt.alloc())?;
-    for _ in 0..16 {
-        text.extend_from_slice(b"m=a 0 RTP/AVP 0\n")?;
-    }
-    let mut mounts = Mounts::new(rt.alloc(), 0, RandomState::new(&rt)?);
-    assert_eq!(rt;
-        announce(&mut mounts, rt.alloc(), 7, b"cam", text.as_slice()),
-        1
+    assert_named(
+        &rt,
+        rt.alloc(),
+        RandomState::new(&rt)?,
+        SIXTEEN_TRACKS,
+        NUMBERED,
     );
-    for mount in mounts.live() {
-        for (text, named) in [
-            (b"rtsp://h/cam/trackID=0".as_slice(), Some(0)),
-            (b"rtsp://h/cam/trackID=15", Some(15)),
-            (b"rtsp://h/cam/trackID=16", None),
-        ] {
-            assert!(rt;
-                tracks_named(rt.alloc(), mount, text) == Some((named, named)),
-                "{text:?}"
-            );
-        }
-    }
     Ok(())
 }
 
