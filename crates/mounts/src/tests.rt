@@ -76,38 +76,40 @@ fn names_have_1_to_128_bytes(rt: HostRuntime) {
     }
 }
 
+const ENDINGS: &[(&[u8], bool)] = &[
+    (b"cam/trackID=0", true),
+    (b"cam/trackID=16", true),
+    (
+        b"cam/trackID=99999999999999999999999999999999999999999999999999999999999999999999",
+        true,
+    ),
+    (b"/trackID=7", true),
+    (b"trackID=0", false),
+    (b"cam/trackID=00", false),
+    (b"cam/trackID=", false),
+    (b"cam/trackID=1/", false),
+    (b"cam/xtrackID=1", false),
+];
+
 #[test]
 fn a_path_may_end_in_a_track(rt: HostRuntime) {
-    let table: [(&[u8], bool); 9] = [
-        (b"cam/trackID=0", true),
-        (b"cam/trackID=16", true),
-        (
-            b"cam/trackID=99999999999999999999999999999999999999999999999999999999999999999999",
-            true,
-        ),
-        (b"/trackID=7", true),
-        (b"trackID=0", false),
-        (b"cam/trackID=00", false),
-        (b"cam/trackID=", false),
-        (b"cam/trackID=1/", false),
-        (b"cam/xtrackID=1", false),
-    ];
-    for (path, ends) in table {
-        assert_eq!(rt; ends_in_track(path), ends);
+    for (path, ends) in ENDINGS {
+        assert!(rt; ends_in_track(path) == *ends, "{path:?}");
     }
 }
 
+const RESTS: &[(&[u8], Option<Option<&[u8]>>)] = &[
+    (b"cam", Some(None)),
+    (b"cam/", Some(Some(b""))),
+    (b"cam/x/y", Some(Some(b"x/y"))),
+    (b"camera", None),
+    (b"ca", None),
+];
+
 #[test]
 fn a_path_goes_on_after_a_name(rt: HostRuntime) {
-    let table: [(&[u8], Option<Option<&[u8]>>); 5] = [
-        (b"cam", Some(None)),
-        (b"cam/", Some(Some(b""))),
-        (b"cam/x/y", Some(Some(b"x/y"))),
-        (b"camera", None),
-        (b"ca", None),
-    ];
-    for (path, rest) in table {
-        assert_eq!(rt; rest_after(path, b"cam"), rest);
+    for (path, rest) in RESTS {
+        assert!(rt; rest_after(path, b"cam") == *rest, "{path:?}");
     }
 }
 

@@ -4,7 +4,7 @@ use base_syntax::Bytes;
 // An absolute URI, and its path and query.
 type Row = (&'static [u8], &'static [u8], Option<&'static [u8]>);
 
-const ABSOLUTE: [Row; 24] = [
+const ABSOLUTE: &[Row] = &[
     (b"rtsp://h/cam", b"cam", None),
     (b"rtsp://h/cam/", b"cam", None),
     (b"rtsp://h/cam//", b"cam/", None),
@@ -41,7 +41,7 @@ fn is_query(told: &Option<Bytes>, wanted: Option<&[u8]>) -> bool {
     }
 }
 
-fn is_read_as(alloc: Global, row: Row) -> bool {
+fn is_read_as(alloc: Global, row: &Row) -> bool {
     match read_uri(alloc, row.0) {
         Ok(Uri::At(target)) => { target.path.as_slice() == row.1 && is_query(&target.query, row.2) }
         _ => false,
@@ -60,7 +60,7 @@ fn reads_the_star(rt: HostRuntime) {
     assert!(rt; matches!(&read_uri(rt.alloc(), b"*"), Ok(Uri::Star)));
 }
 
-const NO_URIS: [&[u8]; 16] = [
+const NO_URIS: &[&[u8]] = &[
     b"",
     b"cam",
     b"/cam",
@@ -88,7 +88,7 @@ fn refuses_bad_uris(rt: HostRuntime) {
 }
 
 // A URI, its text without query and fragment, and the base of its relative URLs.
-const BASES: [(&[u8], &[u8], &[u8]); 6] = [
+const BASES: &[(&[u8], &[u8], &[u8])] = &[
     (b"rtsp://h/cam", b"rtsp://h/cam", b"rtsp://h/cam/"),
     (b"rtsp://h/cam//?a", b"rtsp://h/cam//", b"rtsp://h/cam//"),
     (b"rtsp://h/cam?a/?b#", b"rtsp://h/cam", b"rtsp://h/cam/"),
@@ -103,7 +103,7 @@ fn tells_the_base(rt: HostRuntime) -> Result<(), Fail> {
         let target = target_of(rt.alloc(), text)?;
         assert_eq!(rt;
             (resource_text(text), target.base.as_slice()),
-            (resource, base)
+            (*resource, *base)
         );
     }
     Ok(())
