@@ -9,3 +9,4 @@ pub mod Modes
 pub mod SpecForms
 pub mod RoundTrip
 pub mod TagTables
+pub mod OtherTracks

@@ -24,14 +24,14 @@ by_twos tag track e = elim (cases_eq tag (2 * track)) [ inl even ↦ inl even | 
 at_pair : (pairs : Pairs) (tag track : ℕ) (pair : Option ChannelPair) → pair_at pairs track ≡ pair → tag / 2 ≡ track → channel_of pairs tag ≡ option_map (channel_in tag) pair
 at_pair pairs tag track pair is half = ap (λ t. option_map (channel_in tag) (pair_at pairs t)) half ∙ ap (option_map (channel_in tag)) is
 
-first_at : (pairs : Pairs) (track : ℕ) (pair : ChannelPair) → pair_at pairs track ≡ Some pair → channel_of pairs (2 * track) ≡ Some pair.first
+pub first_at : (pairs : Pairs) (track : ℕ) (pair : ChannelPair) → pair_at pairs track ≡ Some pair → channel_of pairs (2 * track) ≡ Some pair.first
 first_at pairs track pair is = at_pair pairs (2 * track) track (Some pair) is (omega arith) ∙ ap Some (in_even track pair)
 
-second_at : (pairs : Pairs) (track : ℕ) (pair : ChannelPair) → pair_at pairs track ≡ Some pair → channel_of pairs (2 * track + 1) ≡ Some pair.second
+pub second_at : (pairs : Pairs) (track : ℕ) (pair : ChannelPair) → pair_at pairs track ≡ Some pair → channel_of pairs (2 * track + 1) ≡ Some pair.second
 second_at pairs track pair is = at_pair pairs (2 * track + 1) track (Some pair) is (omega arith) ∙ ap Some (in_odd track pair)
 
 -- a tag of the track, whose channel is known, is the RTP one or the RTCP one
-on_pair : (pairs : Pairs) (tag track channel : ℕ) (pair : ChannelPair) → pair_at pairs track ≡ Some pair → tag / 2 ≡ track → channel_of pairs tag ≡ Some channel
+pub on_pair : (pairs : Pairs) (tag track channel : ℕ) (pair : ChannelPair) → pair_at pairs track ≡ Some pair → tag / 2 ≡ track → channel_of pairs tag ≡ Some channel
     → ((tag ≡ 2 * track) × (channel ≡ pair.first)) ⊎ ((tag ≡ 2 * track + 1) × (channel ≡ pair.second))
 on_pair pairs tag track channel pair is half e =
     elim (by_twos tag track half) [

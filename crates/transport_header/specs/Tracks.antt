@@ -23,6 +23,10 @@ IsTagOn pairs channel (Some tag) = (channel_of pairs tag ≡ Some channel) × ((
 abbrev pub IsFreeFor : List (Option ChannelPair) → (track channel : ℕ) → Type 0
 IsFreeFor pairs track channel = (tag : ℕ) → tag / 2 ≢ track → channel_of pairs tag ≢ Some channel
 
+-- another track has this channel
+abbrev pub IsOfOther : List (Option ChannelPair) → (track channel : ℕ) → Type 0
+IsOfOther pairs track channel = (tag : ℕ) × (tag / 2 ≢ track) × (channel_of pairs tag ≡ Some channel)
+
 -- two channels that a track may have: they differ, and no other track has either
 pub record MayHave (pairs : List (Option ChannelPair)) (track : ℕ) (pair : ChannelPair) : Type 0 where
   pub apart : pair.first ≢ pair.second

@@ -1,6 +1,6 @@
 //! Choosing among the specs of a Transport header, and the answer to it (RFC 2326, 12.39).
-ghost use Rattle.std.specs.Prelude.{◌≡◌, ◌↔◌, ◌+◌, ◌<◌, ◌++◌, IsTrue, OnOk, OnErr, All, MatchOption, length, take, vec_len, vec_capacity};
-ghost use Rattle.transport_header.specs.Chosen.{IsAcceptable, IsFirstAcceptable, IsUsable, IsGiven, IsChosen, mode_text, transport_text};
+ghost use Rattle.std.specs.Prelude.{◌≡◌, ◌≢◌, ◌↔◌, ◌+◌, ◌<◌, ◌++◌, IsTrue, IfSome, OnOk, OnErr, All, MatchOption, length, take, vec_len, vec_capacity};
+ghost use Rattle.transport_header.specs.Chosen.{IsAcceptable, IsFirstAcceptable, AreUnused, IsUsable, IsGiven, IsChosen, mode_text, transport_text};
 
 use crate::channels::Channels;
 use crate::spec::{ChannelPair, Mode, Protocol, Spec};
@@ -46,7 +46,9 @@ fn is_usable(used: &Channels, pair: ChannelPair) -> bool
 
 // The channels that a track gets where these are asked for.
 fn given(used: &Channels, asked: Option<ChannelPair>) -> ChannelPair
-    ensures { IsGiven used.now asked result.first result.second }
+    ensures given { IsGiven used.now asked result.first result.second }
+    ensures apart { result.first ≢ result.second }
+    ensures unused { AreUnused used.now result.first result.second }
 {
     match asked {
         Some(pair) => {
@@ -65,7 +67,10 @@ fn given(used: &Channels, asked: Option<ChannelPair>) -> ChannelPair
 /// least even channel that is unused as the next one (RFC 2326, 12.39). `used` are the channels of the
 /// session's other tracks. `None` where no spec is acceptable.
 pub fn choose(specs: &[Spec], used: &Channels) -> Option<Chosen>
-    ensures { IsChosen specs.now used.now result }
+    ensures chosen { IsChosen specs.now used.now result }
+    // So no other track has either of the two channels.
+    ensures apart { IfSome result (λ chosen. chosen.rtp ≢ chosen.rtcp) }
+    ensures unused { IfSome result (λ chosen. AreUnused used.now chosen.rtp chosen.rtcp) }
 {
     let spec = first_acceptable(specs)?;
     let channels = given(used, spec.interleaved);

@@ -1,7 +1,9 @@
 //! The channels of a session's tracks (RFC 2326, 10.12 and 12.39).
-ghost use Rattle.std.specs.Prelude.{◌≡◌, ◌↔◌, ◌<◌, None, Some, IsTrue, length, replicate, slice_set};
-ghost use Rattle.transport_header.specs.Tracks.{pair_at, channel_of, IsTagOn, IsFreeFor, MayHave};
+ghost use Rattle.std.specs.Prelude.{◌≡◌, ◌↔◌, ◌<◌, ℕ, None, Some, IsTrue, length, replicate, slice_set};
+ghost use Rattle.std.specs.List.{Contains};
+ghost use Rattle.transport_header.specs.Tracks.{pair_at, channel_of, IsTagOn, IsFreeFor, IsOfOther, MayHave};
 
+use crate::channels::Channels;
 use crate::spec::ChannelPair;
 use std::marker::Model;
 
@@ -90,6 +92,23 @@ impl TrackChannels {
             Some(tag) => usize::from(tag / 2) == track,
             None => true,
         }
+    }
+
+    /// The channels of the tracks other than this one: those that `choose` may not give it.
+    pub fn others(&self, track: usize) -> Channels
+        ensures { (channel : ℕ) → Contains result channel ↔ IsOfOther self.now track channel }
+    {
+        let mut others = Channels::new();
+        for other in 0..MOST_TRACKS {
+            let Some(pair) = self.pair_of(other) else {
+                continue;
+            };
+            if other != track {
+                others.insert(pair.first);
+                others.insert(pair.second);
+            }
+        }
+        others
     }
 
     /// Gives a track two channels, in place of those that it had.

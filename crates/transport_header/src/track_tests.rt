@@ -75,6 +75,38 @@ fn a_track_without_channels_is_on_none(rt: HostRuntime) -> Result<(), Fail> {
 }
 
 #[test]
+fn the_channels_of_the_other_tracks(rt: HostRuntime) -> Result<(), Fail> {
+    let mut channels = TrackChannels::new();
+    for track in 0..16 {
+        // The last channel of all is that of track 15.
+        let second = 255 - 15 + track as u8;
+        assert!(rt; set_up(&mut channels, track, (2 * track as u8, second)));
+    }
+    channels.remove(7);
+    let cases = [
+        (0, 0, false),
+        (0, 30, true),
+        (0, 255, true),
+        (15, 255, false),
+        (15, 30, false),
+        (15, 0, true),
+        (3, 14, false),
+        (3, 247, false),
+        (3, 31, false),
+    ];
+    for (track, channel, among) in cases {
+        let others = channels.others(track);
+        assert_eq!(rt;
+            (others.len(), others.contains(channel)),
+            (28, among),
+            "{track} {channel}"
+        );
+    }
+    assert_eq!(rt; channels.others(16).len(), 30);
+    Ok(())
+}
+
+#[test]
 fn points_differ(rt: HostRuntime) -> Result<(), Fail> {
     let point = Point {
         seq: 7,
