@@ -1,7 +1,7 @@
 //! A sink that gathers what is written.
-ghost use Rattle.std.specs.Prelude.{◌≡◌, ◌+◌, ◌-◌, ◌<◌, ◌≤◌, [], ◌++◌, true, false, min, length, take, IfOk, OnOk, OnErr};
+ghost use Rattle.std.specs.Prelude.{◌≡◌, ◌+◌, ◌-◌, ◌<◌, ◌≤◌, ◌⊎◌, [], ◌++◌, true, false, min, length, take, IfOk, OnOk, OnErr};
 ghost use Rattle.std.specs.Io.KnownBytes.{Appends, Keeps};
-ghost use Rattle.interleaved.specs.Gatherings.{gathered};
+ghost use Rattle.interleaved.specs.Gatherings.{gathered, Fills, PassesOn};
 
 use super::device::{Failed, Sink};
 use super::whole_write::{WriteCut, write_all};
@@ -73,6 +73,7 @@ impl<W: Sink + Drop> Gathering<W> {
         ensures working { OnOk result (W.failed self.new.inner ≡ W.failed self.old.inner) }
         ensures told { Keeps (gathered W.written self.old) (gathered W.written self.new) }
         ensures failed { OnErr result (W.failed self.new.inner ≡ true) }
+        ensures only { OnErr result (0 < length self.old.kept) }
         ensures size { self.new.size ≡ self.old.size }
     {
         match write_all(&mut self.inner, &self.buffer[..self.count]) {
@@ -121,6 +122,10 @@ impl<W: Sink + Drop> Sink for Gathering<W> {
         ensures stays { W.failed self.old.inner ≡ true → self.new ≡ self.old }
 
         ensures waits { OnOk result (length self.old.kept + length bytes.now ≤ self.old.size → self.new ≡ record self.old { kept = self.old.kept ++ bytes.now }) }
+        ensures fills { IfOk result (λ n. length self.old.kept < self.old.size → Fills self.old bytes.now n self.new) }
+        ensures passes { IfOk result (λ n. length self.old.kept ≡ self.old.size → 0 < self.old.size → 0 < length bytes.now
+            → PassesOn W.written self.old bytes.now n self.new) }
+        ensures only { OnErr result ((W.failed self.old.inner ≡ true) ⊎ (length self.old.kept ≡ self.old.size) × (0 < length bytes.now)) }
         ensures size { self.new.size ≡ self.old.size }
     {
         if self.inner.has_failed() {

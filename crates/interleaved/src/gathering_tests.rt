@@ -79,6 +79,23 @@ fn what_is_written_goes_through_in_few_writes(rt: HostRuntime) -> Result<(), Fai
 }
 
 #[test]
+fn sixteen_frames_go_through_in_one_write(rt: HostRuntime) -> Result<(), Fail> {
+    // The size of the buffer, and how often the inner sink is written to.
+    for (size, writes) in [(96, 1), (100, 1), (95, 2), (32, 3)] {
+        let mut sink = gathering(rt.alloc(), size, 96, 96)?;
+        for _ in 0..16 {
+            assert!(rt; write_all(&mut sink, &FRAME).is_ok());
+        }
+        assert!(rt; sink.flush().is_ok());
+        assert_eq!(rt; sink.inner().writes, writes, "{size}");
+        let bytes = sink.into_inner().sink.into_vec();
+        let mut frames = bytes.chunks(FRAME.len());
+        assert!(rt; bytes.len() == 96 && frames.all(|frame| frame == FRAME.as_slice()));
+    }
+    Ok(())
+}
+
+#[test]
 fn a_failed_write_is_told(rt: HostRuntime) -> Result<(), Fail> {
     for size in [0, 1, 6] {
         for room in 0..6 {
