@@ -1,5 +1,5 @@
 -- An intake that has bytes to read on with.
-use Rattle.std.proofs.Common.{◌≡◌, ◌+◌, ◌≤◌, ℕ, false, List, ◌++◌, Option, length, take}
+use Rattle.std.proofs.Common.{◌≡◌, ◌+◌, ◌≤◌, ◌<◌, ℕ, false, List, ◌++◌, Option, length, take}
 use Rattle.std.specs.List.{concat}
 use Rattle.std.specs.Io.KnownBytes.{Consumes}
 use Rattle.std.specs.Vec.Iter.{into_iter_items}
@@ -20,5 +20,6 @@ pub record Fetched {S : Type 0} (incoming : S → Option (List ℕ)) (bound : S 
   pub reading : i.reader.reading ≡ old.reading
   pub queue : into_iter_items i.units ≡ old.queue
   pub within : i.held ≤ 4096
+  pub some : 0 < length (take i.held i.piece)
   pub was_going : old.ended ≡ false
   pub going : i.ended ≡ false

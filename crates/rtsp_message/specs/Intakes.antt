@@ -48,13 +48,14 @@ module _ {S : Type 0} where
   abbrev pub IsDrained : IntakeState S → Type 0
   IsDrained intake = (intake.queue ≡ []) × (intake.held ≡ []) × (fault_of intake.reading ≡ None)
 
-  -- what an answer tells of the intake, beside the unit that it hands out
+  -- What an answer tells of the intake, beside the unit that it hands out. Where memory was refused, bytes are held that
+  -- the reader has not taken.
   abbrev pub Tells : (S → Option (List ℕ)) → (S → Bool) → IntakeState S → Next → Type 0
   Tells incoming failed intake (answers.Unit content) = Unit {0}
   Tells incoming failed intake answers.End = IsDrained intake × IsAtEnd (incoming intake.source)
   Tells incoming failed intake (answers.Fault fault) = (intake.queue ≡ []) × (intake.reading ≡ Fails fault)
   Tells incoming failed intake answers.ReadFailed = IsDrained intake × (failed intake.source ≡ true)
-  Tells incoming failed intake answers.OutOfMemory = (intake.queue ≡ []) × (fault_of intake.reading ≡ None)
+  Tells incoming failed intake answers.OutOfMemory = (intake.queue ≡ []) × (fault_of intake.reading ≡ None) × (0 < length intake.held)
 
   -- each call answers so from then on
   abbrev pub IsOver : (S → Bool) → IntakeState S → Next → Type 0

@@ -1,11 +1,11 @@
-use Rattle.std.proofs.Common.{◌≡◌, ℕ, List, ◌∷◌, ◌++◌, [], take, refl, sym, ap, subst, ◌∙◌, inl, inr, append-nil, arith, true, ◌+◌, ◌<◌, length, length-append, length-take}
+use Rattle.std.proofs.Common.{◌≡◌, ℕ, List, ◌∷◌, ◌++◌, [], None, take, refl, sym, ap, subst, ◌∙◌, inl, inr, append-nil, arith, true, ◌+◌, ◌<◌, length, length-append, length-take}
 use Rattle.std.specs.List.{concat}
 use Rattle.std.proofs.lemmas.List.{length-take-le}
 use Rattle.std.proofs.KnownBytes.{Consumes-nil, Consumes-kept}
 use Rattle.std.specs.Io.KnownBytes.{Consumes}
 use Rattle.std.specs.Vec.Iter.{into_iter_items}
 use Rattle.rtsp_message.specs.declared.unit.Unit.{Unit as StreamUnit}
-use Rattle.rtsp_message.specs.Stream.{Ending, ReadsOn, ReaderState, waiting_len}
+use Rattle.rtsp_message.specs.Stream.{Ending, ReadsOn, ReaderState, fault_of, waiting_len}
 use Rattle.rtsp_message.specs.Limits.{waiting_limit}
 use Rattle.rtsp_message.specs.IntakeFields.{state_of}
 use Rattle.rtsp_message.proofs.HandingOut.{units_found, settled, holds_more, holds_same}
@@ -39,6 +39,7 @@ fetched g c =
             reading = refl;
             queue = refl;
             within = omega (arith, w.in-Ok.ensures.count, w.read.auto.buf, c.self.told);
+            some = omega (arith, size);
             was_going = c.if-self.false;
             going = c.if-self.false;
           })
@@ -55,6 +56,7 @@ fetched g c =
             reading = refl;
             queue = refl;
             within = c.self.invariant.within;
+            some = omega (arith, length-take inside.held inside.piece, c.self.invariant.within, c.self.told);
             was_going = c.if-self.false;
             going = c.if-self.false;
           })
@@ -97,6 +99,12 @@ returns-in-Err-feed-clause-hands_out g c =
     let new = state_of (record c.if-self-eq0.self-inside { reader = c.feed.new.self }) in
     let stands = subst (λ (o : IntakeState g.row.S.Denot). ReadsOn o.reading [] [] o.reading) c.self.view_is c.self.invariant.settled in
     holds_more g.S.Source.incoming c.args.self.now new f.read [] f.given f.held (ap (λ (r : ReaderState). r.reading) c.in-Err-feed.ensures.err ∙ f.reading) stands (sym f.queue)
+
+pub returns-in-Err-feed-clause-tells : goal.returns-in-Err-feed-clause-tells
+returns-in-Err-feed-clause-tells g c =
+    let f = fetched g (goal.at.returns-in-Err-feed-clause-tells g c).After-feed in
+    let fault = subst (λ (o : IntakeState g.row.S.Denot). fault_of o.reading ≡ None) c.self.view_is (sym c.in_default.ensures) in
+    (f.queue ∙ c.requires, ap (λ (r : ReaderState). fault_of r.reading) c.in-Err-feed.ensures.err ∙ ap fault_of f.reading ∙ fault, f.some)
 
 pub returns-in-Some-clause-hands_out : goal.returns-in-Some-clause-hands_out
 returns-in-Some-clause-hands_out g c =
