@@ -1,11 +1,11 @@
-use Rattle.std.specs.Prelude.{◌≡◌, ℕ, ◌≤◌, Bool, false, Option, Some, None, List, [], ◌∷◌, length, map, option_map, slice_get, slice_set, slice_index_or, replicate, unwrap_or}
+use Rattle.std.specs.Prelude.{◌≡◌, ℕ, ◌≤◌, Bool, false, Option, Some, None, Result, Ok, Err, List, [], ◌∷◌, length, map, option_map, slice_get, slice_set, slice_index_or, replicate, unwrap_or}
 use Rattle.cursor.specs.declared.packets.Packet.{Packet}
 use Rattle.cursor.specs.declared.takes.Account.{Account}
 use Rattle.cursor.specs.declared.takes.Delivery.{Delivery}
 use Rattle.cursor.specs.declared.calls.Call.{Call}
 use Rattle.cursor.specs.declared.calls.Call.TheVariants.{Publish, Close, Attach, Take, Detach}
 use Rattle.cursor.specs.declared.calls.Answer.{Answer}
-use Rattle.cursor.specs.declared.calls.Answer.TheVariants.{Attached, Taken, Detached}
+use Rattle.cursor.specs.declared.calls.Answer.TheVariants.{Appended, Attached, Taken, Detached}
 use Rattle.cursor.specs.declared.refusals.Refused as refusals
 use Rattle.cursor.specs.declared.refusals.Refused.TheVariants as refusal
 use Rattle.cursor.specs.Log.{Log, LogEvent, Event}
@@ -72,6 +72,11 @@ PlainMayRefuse (refusal.Pinned pins) = ⊥
 PlainMayRefuse refusal.TooLong = Unit {0}
 PlainMayRefuse refusal.Worn = ⊥
 PlainMayRefuse refusal.OutOfMemory = Unit {0}
+
+-- a publish at a plain log is the log's event; a refused one leaves all as it is
+abbrev pub Publishes : (old : Plain) → Packet → Result ℕ refusals.Refused → (new : Plain) → Type 0
+Publishes old packet (Ok number) new = PlainEvent old (Publish packet) (Appended number) new
+Publishes old packet (Err refusal) new = new ≡ old
 
 -- what is true of each plain log: packets have at most `packet_bytes` bytes, which are at most 65,535,
 -- and no seat is past the end of the log

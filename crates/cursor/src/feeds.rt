@@ -1,4 +1,4 @@
-ghost use Rattle.std.specs.Prelude.{◌≡◌, ◌<◌, ◌≤◌, ◌↔◌, ℕ, List, Option, length, IfOk, IfErr, OnErr, IsErrOf};
+ghost use Rattle.std.specs.Prelude.{◌≡◌, ◌<◌, ◌≤◌, ◌↔◌, ℕ, List, Option, Result, length, IfOk, IfErr, OnErr, IsErrOf};
 ghost use Rattle.cursor.specs.declared.packets.Packet.{Packet};
 ghost use Rattle.cursor.specs.declared.refusals.Refused.{Refused};
 ghost use Rattle.cursor.specs.Feeds.{Appends};
@@ -17,8 +17,12 @@ pub trait Feed {
     /// The refusals that it may give at all.
     ghost may_refuse: { Refused → Type 0 };
 
+    /// Whether a publish of this packet may be answered so, by its number or a refusal, and leave the feed so.
+    ghost publish_gives: { Self → Packet → Result ℕ Refused → Self → Type 0 };
+
     /// Publishes one packet, and answers its number. After a refusal the log is as it was.
     fn publish(&mut self, tag: u8, bytes: &[u8]) -> Result<u64, Refused>
+        ensures gives { publish_gives self.old (packet_of tag bytes.now) result self.new }
         ensures appended { IfOk result (λ n. Appends (told self.old) (packet_of tag bytes.now) n (told self.new)) }
         ensures refused { OnErr result (told self.new ≡ told self.old) }
         ensures too_long { IsErrOf result Refused.TooLong ↔ (packet_bytes self.old < length bytes.now) }

@@ -1,8 +1,5 @@
-ghost use Rattle.std.specs.Prelude.{◌≡◌, ◌<◌, ◌↔◌, false, length, IfOk, IfErr, OnErr, IsErrOf};
-ghost use Rattle.cursor.specs.Feeds.{Appends};
-ghost use Rattle.cursor.specs.Log.{packet_of};
+ghost use Rattle.std.specs.Prelude.{◌≡◌, false};
 
-use super::calls::{Answer, Call};
 use super::feeds::Feed;
 use super::plain_log::PlainLog;
 use super::refusals::Refused;
@@ -44,7 +41,7 @@ impl PlainFeed {
 
 impl Feed for PlainFeed {
     ghost use Rattle.std.specs.Prelude.{Some};
-    ghost use Rattle.cursor.specs.Plain.{PlainEvent, PlainMayRefuse};
+    ghost use Rattle.cursor.specs.Plain.{PlainMayRefuse, Publishes};
 
     ghost told = { λ f. Some f.packets };
 
@@ -52,16 +49,10 @@ impl Feed for PlainFeed {
 
     ghost may_refuse = { PlainMayRefuse };
 
+    ghost publish_gives = { Publishes };
+
     /// Publishing is the log's event: seats, accounts and what is kept stay. A refusal leaves the feed as it was.
-    fn publish(&mut self, tag: u8, bytes: &[u8]) -> Result<u64, Refused>
-        ensures event { IfOk result (λ n. PlainEvent self.old (Call.Publish (packet_of tag bytes.now)) (Answer.Appended n) self.new) }
-        ensures unchanged { OnErr result (self.new ≡ self.old) }
-        ensures appended { IfOk result (λ n. Appends (Some self.old.packets) (packet_of tag bytes.now) n (Some self.new.packets)) }
-        ensures refused { OnErr result (self.new.packets ≡ self.old.packets) }
-        ensures too_long { IsErrOf result Refused.TooLong ↔ (self.old.packet_bytes < length bytes.now) }
-        ensures may { IfErr result PlainMayRefuse }
-        ensures same { self.new.packet_bytes ≡ self.old.packet_bytes }
-    {
+    fn publish(&mut self, tag: u8, bytes: &[u8]) -> Result<u64, Refused> {
         self.log.publish(tag, bytes)
     }
 
