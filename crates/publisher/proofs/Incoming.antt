@@ -1,6 +1,6 @@
 -- The frames so far, and what became of them.
 use Rattle.std.proofs.Common.{◌≡◌, ◌≢◌, ◌+◌, ◌*◌, ◌/◌, ◌%◌, ℕ, zero, suc, Bool, false, cond, ◌⊎◌, inl, inr, List, [], ◌∷◌, ◌++◌, Option, None, Some, length, get_or, set, refl, sym, ap, subst, ◌∙◌, arith, append_assoc, append-nil, length-append}
-use Rattle.std.specs.Prelude.{option_map}
+use Rattle.std.specs.Prelude.{option_map, Result}
 use Rattle.std.proofs.lemmas.Bool.{cases_eq}
 use Rattle.std.proofs.lemmas.Grind.{flat_map-append}
 use Rattle.std.proofs.lemmas.List.{get_or-set_same, get_or-set_other, map-append}
@@ -9,7 +9,8 @@ use Rattle.std.proofs.lemmas.List.Sums.{sum_by-append, sum_by-cons}
 use Rattle.interleaved.specs.declared.frame.Frame.{Frame}
 use Rattle.rtsp_message.specs.declared.unit.Unit.{Unit as StreamUnit}
 use Rattle.rtsp_message.specs.declared.unit.Unit.TheVariants as content
-use Rattle.rtsp_message.specs.Intakes.{IntakeState, HandsOut, Tells, handed}
+use Rattle.rtsp_message.specs.declared.intake.Next.{Next}
+use Rattle.rtsp_message.specs.Intakes.{IntakeState, HandsOut, Tells, IsOver, Lasts, handed}
 use Rattle.rtsp_message.proofs.HandingOut.{HandsOut-trans}
 use Rattle.transport_header.specs.declared.spec.ChannelPair.{ChannelPair}
 use Rattle.transport_header.specs.declared.point.Point.{Point}
@@ -22,7 +23,7 @@ use Rattle.publisher.specs.declared.report.InReport.{InReport}
 use Rattle.publisher.specs.declared.report.InStop.{InStop}
 use Rattle.publisher.specs.Rtp.{point_of}
 use Rattle.publisher.specs.Fates.{Handling, HasFate, AreCounted, CountsOne, published, published_as, is_published, is_pinned, is_oversize, is_worn, is_unkept, is_bad_rtp, is_stranger, one_if, count_of, total}
-use Rattle.publisher.specs.FramesIn.{IsPointAfter, ArePointsAfter, GrowsBy, HaveFates, frames_of, answer_of, RelaysIn}
+use Rattle.publisher.specs.FramesIn.{IsPointAfter, ArePointsAfter, GrowsBy, HaveFates, frames_of, answer_of, RelaysIn, StaysOver, Meets, MeetInTurn}
 
 -- one RTP packet moves the point of its track, and no other
 pub point_moves : (points : List (Option Point)) (packet : Packet) (place : ℕ) (point : Point) → packet.tag % 2 ≡ 0 → place ≡ packet.tag / 2 → point ≡ point_of packet.bytes
@@ -114,7 +115,13 @@ none_such pairs room may test never (h ∷ hs) all =
     let first : one h ≡ 0 = ap (λ b. cond b 1 0) (never h.frame h.fate (all zero h (omega arith))) in
     omega (arith, sum_by-cons one h hs, first, none_such pairs room may test never hs (λ k d below. all (suc k) d (omega arith)))
 
-module _ {S : Type 0} (incoming : S → Option (List ℕ)) (pairs : List (Option ChannelPair)) (room : ℕ) (may : Refusal → Type 0) where
+-- one frame more at the feed
+meet-push : {F : Type 0} (gives : F → Packet → Result ℕ Refusal → F → Type 0) (pairs : List (Option ChannelPair)) (hs : List Handling) (h : Handling) (old now new : F)
+    → MeetInTurn gives pairs hs old now → Meets gives pairs h.frame h.fate now new → MeetInTurn gives pairs (hs ++ h ∷ []) old new
+meet-push gives pairs [] h old now new same one = (new, subst (λ o. Meets gives pairs h.frame h.fate o new) same one, refl)
+meet-push gives pairs (first ∷ hs) h old now new met one = (met.0, met.1, meet-push gives pairs hs h met.0 now new met.2 one)
+
+module _ {S F : Type 0} (incoming : S → Option (List ℕ)) (gives : F → Packet → Result ℕ Refusal → F → Type 0) (pairs : List (Option ChannelPair)) (room : ℕ) (may : Refusal → Type 0) where
   -- nothing happened yet, or these units were handed out
   abbrev pub HasHanded : (old now : IntakeState S) → List StreamUnit → Type 0
   HasHanded old now units = (now ≡ old) × (units ≡ []) ⊎ HandsOut incoming old now units
@@ -124,30 +131,32 @@ module _ {S : Type 0} (incoming : S → Option (List ℕ)) (pairs : List (Option
   handed_more old now new us vs (inr so_far) out = HandsOut-trans incoming old now new us vs so_far out
 
   -- the frames that an intake has handed out, and what became of them
-  pub record SoFar (old now : IntakeState S) (old_log log : Option (List Packet)) (old_points points : List (Option Point)) (report : InReport) : Type 0 where
+  pub record SoFar (old now : IntakeState S) (old_feed feed : F) (old_log log : Option (List Packet)) (old_points points : List (Option Point)) (report : InReport) : Type 0 where
     pub handlings : List Handling
     pub hands_out : HasHanded old now (frames_of handlings)
     pub fates : HaveFates pairs room may handlings
+    pub met : MeetInTurn gives pairs handlings old_feed feed
     pub counts : AreCounted handlings report
     pub grown : GrowsBy old_log (published handlings) log
     pub moved : ArePointsAfter old_points (published handlings) points
 
-  pub none_so_far : (old : IntakeState S) (log : Option (List Packet)) (points : List (Option Point)) (report : InReport) → AreCounted [] report → SoFar old old log log points points report
-  none_so_far old log points report counts = record {
+  pub none_so_far : (old : IntakeState S) (feed : F) (log : Option (List Packet)) (points : List (Option Point)) (report : InReport) → AreCounted [] report → SoFar old old feed feed log log points points report
+  none_so_far old feed log points report counts = record {
     handlings = [];
     hands_out = inl (refl, refl);
     fates = λ k d below. absurd (omega arith);
+    met = refl;
     counts = counts;
     grown = grows_none log;
     moved = λ track within. inl (λ k d below. absurd (omega arith), refl);
   }
 
-  pub one_more : (old now new : IntakeState S) (old_log log new_log : Option (List Packet)) (old_points points new_points : List (Option Point)) (report new_report : InReport) (frame : Frame) (outcome : Fate)
-      → SoFar old now old_log log old_points points report → length points ≡ length old_points
-      → HandsOut incoming now new (content.Frame frame ∷ []) → HasFate pairs room may frame outcome → CountsOne report outcome new_report
+  pub one_more : (old now new : IntakeState S) (old_feed feed new_feed : F) (old_log log new_log : Option (List Packet)) (old_points points new_points : List (Option Point)) (report new_report : InReport) (frame : Frame) (outcome : Fate)
+      → SoFar old now old_feed feed old_log log old_points points report → length points ≡ length old_points
+      → HandsOut incoming now new (content.Frame frame ∷ []) → HasFate pairs room may frame outcome → Meets gives pairs frame outcome feed new_feed → CountsOne report outcome new_report
       → GrowsBy log (published_as frame outcome) new_log → ArePointsAfter points (published_as frame outcome) new_points
-      → SoFar old new old_log new_log old_points new_points new_report
-  one_more old now new old_log log new_log old_points points new_points report new_report frame outcome so long out has counted grown moved =
+      → SoFar old new old_feed new_feed old_log new_log old_points new_points new_report
+  one_more old now new old_feed feed new_feed old_log log new_log old_points points new_points report new_report frame outcome so long out has meets counted grown moved =
       let hs = so.handlings in
       let one = handling frame outcome in
       let as_packets : Handling → List Packet = λ (h : Handling). published_as h.frame h.fate in
@@ -157,6 +166,7 @@ module _ {S : Type 0} (incoming : S → Option (List ℕ)) (pairs : List (Option
         handlings = hs ++ one ∷ [];
         hands_out = inr (subst (HandsOut incoming old new) (sym (map-append (λ (h : Handling). content.Frame h.frame) hs (one ∷ []))) (handed_more old now new (frames_of hs) _ so.hands_out out));
         fates = All-append (λ (h : Handling). HasFate pairs room may h.frame h.fate) hs (one ∷ []) so.fates (All-cons (λ (h : Handling). HasFate pairs room may h.frame h.fate) one [] has (λ k d below. absurd (omega arith)));
+        met = meet-push gives pairs hs one old_feed feed new_feed so.met meets;
         counts = counts_more hs frame outcome report new_report so.counts counted;
         grown = subst (λ ps. GrowsBy old_log ps new_log) (sym packets) (grows-trans old_log log new_log (published hs) (published_as frame outcome) so.grown grown);
         moved = λ track within.
@@ -165,15 +175,17 @@ module _ {S : Type 0} (incoming : S → Option (List ℕ)) (pairs : List (Option
       }
 
   -- the answer that ends the frames
-  pub ends : (failed : S → Bool) (old now new : IntakeState S) (old_log log : Option (List Packet)) (old_points points : List (Option Point)) (report : InReport) (stop : InStop)
-      → SoFar old now old_log log old_points points report
-      → HandsOut incoming now new (handed (answer_of stop)) → Tells incoming failed new (answer_of stop)
-      → RelaysIn incoming failed pairs room may old new old_log log old_points points (record report { stop = stop })
-  ends failed old now new old_log log old_points points report stop so out tells = record {
+  pub ends : (failed : S → Bool) (old now new : IntakeState S) (old_feed feed : F) (old_log log : Option (List Packet)) (old_points points : List (Option Point)) (report : InReport) (stop : InStop)
+      → SoFar old now old_feed feed old_log log old_points points report
+      → HandsOut incoming now new (handed (answer_of stop)) → Tells incoming failed new (answer_of stop) → Lasts failed new (answer_of stop)
+      → RelaysIn incoming failed gives pairs room may old new old_feed feed old_log log old_points points (record report { stop = stop })
+  ends failed old now new old_feed feed old_log log old_points points report stop so out tells lasts = record {
     handlings = so.handlings;
     hands_out = handed_more old now new (frames_of so.handlings) (handed (answer_of stop)) so.hands_out out;
     tells = tells;
+    lasts = lasts;
     fates = so.fates;
+    feed = so.met;
     counts = record {
       published = so.counts.published;
       pinned = so.counts.pinned;
@@ -187,6 +199,13 @@ module _ {S : Type 0} (incoming : S → Option (List ℕ)) (pairs : List (Option
     log = so.grown;
     points = so.moved;
   }
+
+-- an intake that was over gives its answer for good
+pub stays : {S : Type 0} (failed : S → Bool) (old now : IntakeState S) (report : InReport) (stop : InStop)
+    → ((answer : Next) → IsOver failed old answer → IsOver failed now answer × (total report ≡ 0))
+    → ((answer : Next) → IsOver failed now answer → answer_of stop ≡ answer)
+    → StaysOver failed old (record report { stop = stop })
+stays failed old now report stop over gives answer is = ((over answer is).1, gives answer (over answer is).0)
 
 module _ (pairs : List (Option ChannelPair)) (room : ℕ) (may : Refusal → Type 0) (hs : List Handling) (fates : HaveFates pairs room may hs) where
   -- what a feed never answers is never counted

@@ -1,20 +1,25 @@
 -- What goes from a publisher's stream into a feed.
-use Rattle.std.specs.Prelude.{◌≡◌, ◌≢◌, ℕ, ◌*◌, ◌/◌, ◌<◌, ◌⊎◌, Bool, List, ◌∷◌, ◌++◌, Option, None, Some, All, length, map, get_or, option_map}
+use Rattle.std.specs.Prelude.{◌≡◌, ◌≢◌, ℕ, ◌+◌, ◌*◌, ◌/◌, ◌<◌, ◌⊎◌, Bool, List, [], ◌∷◌, ◌++◌, Option, None, Some, Result, Ok, Err, All, length, map, get_or, option_map}
 use Rattle.rtsp_message.specs.declared.unit.Unit.{Unit as StreamUnit}
 use Rattle.rtsp_message.specs.declared.unit.Unit.TheVariants as content
 use Rattle.rtsp_message.specs.declared.intake.Next.{Next}
 use Rattle.rtsp_message.specs.declared.intake.Next.TheVariants as next
-use Rattle.rtsp_message.specs.Intakes.{IntakeState, HandsOut, Tells, handed}
+use Rattle.rtsp_message.specs.Intakes.{IntakeState, HandsOut, Tells, IsOver, Lasts, handed}
 use Rattle.transport_header.specs.declared.spec.ChannelPair.{ChannelPair}
 use Rattle.transport_header.specs.declared.point.Point.{Point}
-use Rattle.transport_header.specs.Tracks.{channel_of}
+use Rattle.interleaved.specs.declared.frame.Frame.{Frame}
+use Rattle.transport_header.specs.Tracks.{channel_of, IsTagOn}
 use Rattle.cursor.specs.declared.packets.Packet.{Packet}
 use Rattle.cursor.specs.declared.refusals.Refused.{Refused as Refusal}
+use Rattle.cursor.specs.declared.refusals.Refused.TheVariants as refused
+use Rattle.cursor.specs.Log.{packet_of}
+use Rattle.publisher.specs.declared.fate.Fate.{Fate}
+use Rattle.publisher.specs.declared.fate.Fate.TheVariants as fate
 use Rattle.publisher.specs.declared.report.InReport.{InReport}
 use Rattle.publisher.specs.declared.report.InStop.{InStop}
 use Rattle.publisher.specs.declared.report.InStop.TheVariants as stop
 use Rattle.publisher.specs.Rtp.{point_of}
-use Rattle.publisher.specs.Fates.{Handling, HasFate, AreCounted, published}
+use Rattle.publisher.specs.Fates.{Handling, HasFate, AreCounted, published, total}
 
 -- there is a place for each track that is set up
 abbrev pub HasPlaces : List (Option ChannelPair) → (places : ℕ) → Type 0
@@ -47,6 +52,14 @@ answer_of (stop.Fault fault) = next.Fault fault
 answer_of stop.ReadFailed = next.ReadFailed
 answer_of stop.OutOfMemory = next.OutOfMemory
 
+-- how many units were handed out: the frames that are counted, and the message that ended them
+abbrev pub handed_out : InReport → ℕ
+handed_out report = total report + length (handed (answer_of report.stop))
+
+-- what is told where the intake was over before: no frame came, and its answer for good ended them
+abbrev pub StaysOver : {S : Type 0} → (S → Bool) → (old : IntakeState S) → InReport → Type 0
+StaysOver failed old report = (answer : Next) → IsOver failed old answer → (total report ≡ 0) × (answer_of report.stop ≡ answer)
+
 -- the frames of these
 abbrev pub frames_of : List Handling → List StreamUnit
 frames_of handlings = map (λ (h : Handling). content.Frame h.frame) handlings
@@ -55,15 +68,38 @@ frames_of handlings = map (λ (h : Handling). content.Frame h.frame) handlings
 abbrev pub HaveFates : List (Option ChannelPair) → (room : ℕ) → (may : Refusal → Type 0) → List Handling → Type 0
 HaveFates pairs room may handlings = All (λ (h : Handling). HasFate pairs room may h.frame h.fate) handlings
 
+module _ {F : Type 0} (gives : F → Packet → Result ℕ Refusal → F → Type 0) (pairs : List (Option ChannelPair)) where
+  -- the feed was offered this frame as a packet of its channel's tag, and refused it so
+  abbrev pub Refuses : Frame → Refusal → (old new : F) → Type 0
+  Refuses frame refusal old new = (tag : ℕ) × IsTagOn pairs frame.channel (Some tag) × gives old (packet_of tag frame.payload) (Err refusal) new
+
+  -- the feed was offered this frame and gave the answer that makes its fate; or it wasn't offered, and the feed stayed
+  abbrev pub Meets : Frame → Fate → (old new : F) → Type 0
+  Meets frame (fate.Published tag) old new = (number : ℕ) × gives old (packet_of tag frame.payload) (Ok number) new
+  Meets frame fate.Pinned old new = (pins : ℕ) × Refuses frame (refused.Pinned pins) old new
+  Meets frame fate.Oversize old new = Refuses frame refused.TooLong old new
+  Meets frame fate.Worn old new = Refuses frame refused.Worn old new
+  Meets frame fate.Unkept old new = Refuses frame refused.OutOfMemory old new
+  Meets frame fate.BadRtp old new = new ≡ old
+  Meets frame fate.Stranger old new = new ≡ old
+
+  -- so these frames met their fates, one after another: each was offered to the feed as the one before it had left it
+  abbrev pub MeetInTurn : List Handling → (old new : F) → Type 0
+  MeetInTurn [] old new = new ≡ old
+  MeetInTurn (h ∷ hs) old new = (mid : F) × Meets h.frame h.fate old mid × MeetInTurn hs mid new
+
 -- What was done with the frames of a stream, up to the first unit that is none, the end or a fault: the intake handed
--- them out in order and then gave its last answer; each met its fate and was counted by it; what was published stands in
--- the log, in order; and the points are those of the last RTP packets published.
-pub record RelaysIn {S : Type 0} (incoming : S → Option (List ℕ)) (failed : S → Bool) (pairs : List (Option ChannelPair)) (room : ℕ) (may : Refusal → Type 0)
-    (old new : IntakeState S) (old_log new_log : Option (List Packet)) (old_points new_points : List (Option Point)) (report : InReport) : Type 0 where
+-- them out in order and then gave its last answer, which lasts where it is an end; each met its fate at the feed, in
+-- turn, and was counted by it; what was published stands in the log, in order; and the points are those of the last RTP
+-- packets published.
+pub record RelaysIn {S F : Type 0} (incoming : S → Option (List ℕ)) (failed : S → Bool) (gives : F → Packet → Result ℕ Refusal → F → Type 0) (pairs : List (Option ChannelPair)) (room : ℕ) (may : Refusal → Type 0)
+    (old new : IntakeState S) (old_feed new_feed : F) (old_log new_log : Option (List Packet)) (old_points new_points : List (Option Point)) (report : InReport) : Type 0 where
   pub handlings : List Handling
   pub hands_out : HandsOut incoming old new (frames_of handlings ++ handed (answer_of report.stop))
   pub tells : Tells incoming failed new (answer_of report.stop)
+  pub lasts : Lasts failed new (answer_of report.stop)
   pub fates : HaveFates pairs room may handlings
+  pub feed : MeetInTurn gives pairs handlings old_feed new_feed
   pub counts : AreCounted handlings report
   pub log : GrowsBy old_log (published handlings) new_log
   pub points : ArePointsAfter old_points (published handlings) new_points

@@ -1,7 +1,7 @@
 //! One frame of a publisher.
 ghost use Rattle.std.specs.Prelude.{◌≡◌, length};
 ghost use Rattle.publisher.specs.Fates.{HasFate, published_as};
-ghost use Rattle.publisher.specs.FramesIn.{HasPlaces, GrowsBy, ArePointsAfter};
+ghost use Rattle.publisher.specs.FramesIn.{HasPlaces, GrowsBy, ArePointsAfter, Meets};
 
 use crate::fate::Fate;
 use crate::rtp::{is_rtp, point_of};
@@ -19,6 +19,7 @@ pub(crate) fn take_in<F: Feed>(
 ) -> Fate
     requires { HasPlaces channels.now (length points.old) }
     ensures fate { HasFate channels.now (F.packet_bytes feed.old) F.may_refuse frame.now result }
+    ensures meets { Meets F.publish_gives channels.now frame.now result feed.old feed.new }
     ensures log { GrowsBy (F.told feed.old) (published_as frame.now result) (F.told feed.new) }
     ensures points { ArePointsAfter points.old (published_as frame.now result) points.new }
     ensures same { F.packet_bytes feed.new ≡ F.packet_bytes feed.old }

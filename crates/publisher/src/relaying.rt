@@ -2,7 +2,7 @@
 ghost use Rattle.std.specs.Prelude.{◌≡◌, ◌≤◌, ◌+◌, ℕ, length};
 ghost use Rattle.rtsp_message.specs.Intakes.{weight};
 ghost use Rattle.cursor.specs.declared.refusals.Refused.TheVariants.{Pinned, Worn, OutOfMemory};
-ghost use Rattle.publisher.specs.FramesIn.{HasPlaces, RelaysIn};
+ghost use Rattle.publisher.specs.FramesIn.{HasPlaces, RelaysIn, StaysOver, handed_out};
 
 use crate::offering::take_in;
 use crate::report::{InReport, InStop};
@@ -25,12 +25,13 @@ pub fn relay_in<S: Source + Drop, F: Feed>(
     points: &mut [Option<Point>],
 ) -> InReport
     requires { HasPlaces channels.now (length points.old) }
-    ensures relays { RelaysIn S.incoming S.failed channels.now (F.packet_bytes feed.old) F.may_refuse intake.old intake.new (F.told feed.old) (F.told feed.new) points.old points.new result }
+    ensures relays { RelaysIn S.incoming S.failed F.publish_gives channels.now (F.packet_bytes feed.old) F.may_refuse intake.old intake.new feed.old feed.new (F.told feed.old) (F.told feed.new) points.old points.new result }
     ensures never_pinned { ((pins : ℕ) → ¬ F.may_refuse (Pinned pins)) → result.pinned ≡ 0 }
     ensures never_worn { ¬ F.may_refuse Worn → result.worn ≡ 0 }
     ensures never_unkept { ¬ F.may_refuse OutOfMemory → result.unkept ≡ 0 }
     ensures same { F.packet_bytes feed.new ≡ F.packet_bytes feed.old }
-    ensures ends { weight S.bound intake.new ≤ weight S.bound intake.old }
+    ensures ends { weight S.bound intake.new + handed_out result ≤ weight S.bound intake.old }
+    ensures for_good { StaysOver S.failed intake.old result }
 {
     relay_frames(intake, feed, channels, points)
 }
@@ -43,9 +44,10 @@ fn relay_frames<S: Source + Drop, F: Feed>(
     points: &mut [Option<Point>],
 ) -> InReport
     requires { HasPlaces channels.now (length points.old) }
-    ensures relays { RelaysIn S.incoming S.failed channels.now (F.packet_bytes feed.old) F.may_refuse intake.old intake.new (F.told feed.old) (F.told feed.new) points.old points.new result }
+    ensures relays { RelaysIn S.incoming S.failed F.publish_gives channels.now (F.packet_bytes feed.old) F.may_refuse intake.old intake.new feed.old feed.new (F.told feed.old) (F.told feed.new) points.old points.new result }
     ensures same { F.packet_bytes feed.new ≡ F.packet_bytes feed.old }
-    ensures ends { weight S.bound intake.new ≤ weight S.bound intake.old }
+    ensures ends { weight S.bound intake.new + handed_out result ≤ weight S.bound intake.old }
+    ensures for_good { StaysOver S.failed intake.old result }
 {
     // No more frames than these can come, so that no count is too large.
     let _most = intake.left();

@@ -2,51 +2,101 @@
 ghost use Rattle.std.specs.Prelude.{None, ⊤};
 
 use crate::{InReport, InStop, is_rtp, point_of, relay_in};
-use cursor::{Feed, PlainFeed, PlainLog, Refused};
-use interleaved::ListSource;
+use cursor::{Feed, Packet, PlainFeed, PlainLog, PlainTap, Refused, pump};
+use interleaved::{Failed, ListSource, Source};
 use rtsp_message::Intake;
 use std::alloc::Global;
+use std::cell::Cell;
 use std::test::Fail;
 use transport_header::{ChannelPair, Point, TrackChannels};
 
 /// An RTP packet of twelve bytes: number 7, timestamp 9000.
 const RTP: [u8; 12] = [0x80, 0x60, 0, 7, 0, 0, 0x23, 0x28, 0, 0, 0, 0];
 
-/// A feed that answers what it is given to answer, one after another, and then takes each packet.
+/// A feed of packets of at most twelve bytes that answers what it is given to answer, one after another, and
+/// counts what it takes.
 #[derive(Drop)]
-struct Answering {
+struct Answering<'a> {
     refusals: [Option<Refused>; 4],
-    published: usize,
+    offered: usize,
+    published: &'a Cell<usize>,
 }
 
-impl Feed for Answering {
+impl Feed for Answering<'_> {
     ghost told = { λ _. None };
 
-    ghost packet_bytes = { λ _. 65_535 };
+    ghost packet_bytes = { λ _. 12 };
 
     ghost may_refuse = { λ _. ⊤ };
+
+    ghost publish_gives = { λ _ _ _ _. ⊤ };
 
     fn publish(&mut self, _tag: u8, bytes: &[u8]) -> Result<u64, Refused> {
         if bytes.len() > self.packet_bytes() {
             return Err(Refused::TooLong);
         }
-        let at = self.published % 4;
-        self.published = self.published.wrapping_add(1);
+        let at = self.offered % 4;
+        self.offered = self.offered.wrapping_add(1);
         match self.refusals[at] {
-            Some(Refused::TooLong) | None => Ok(0),
+            Some(Refused::TooLong) | None => {
+                self.published.set(self.published.get().saturating_add(1));
+                Ok(0)
+            }
             Some(refused) => Err(refused),
         }
     }
 
     fn packet_bytes(&self) -> usize {
-        65_535
+        12
     }
 
     fn close(self) {}
 }
 
+/// A source of frames of sixteen bytes that looks, at each read, whether all that it gave whole were published.
+#[derive(Drop)]
+struct Passing<'a, S> {
+    inner: S,
+    given: usize,
+    published: &'a Cell<usize>,
+    /// A read came before.
+    late: &'a Cell<bool>,
+}
+
+impl<S: Source> Source for Passing<'_, S> {
+    ghost incoming = { λ s. S.incoming s.inner };
+
+    ghost bound = { λ s. S.bound s.inner };
+
+    ghost failed = { λ s. S.failed s.inner };
+
+    ghost gives = { λ old bytes new. S.gives old.inner bytes new.inner };
+
+    fn read(&mut self, buf: &mut [u8]) -> Result<usize, Failed> {
+        if self.published.get() < self.given / 16 {
+            self.late.set(true);
+        }
+        let count = self.inner.read(buf)?;
+        self.given = self.given.wrapping_add(count);
+        Ok(count)
+    }
+
+    fn left(&self) -> u64 {
+        self.inner.left()
+    }
+
+    fn has_failed(&self) -> bool {
+        self.inner.has_failed()
+    }
+}
+
 /// The points of sixteen tracks, none of which stands anywhere.
 const NO_POINTS: [Option<Point>; 16] = [None; 16];
+
+/// Where an RTP packet of this number stands.
+fn point(seq: u16) -> Point {
+    Point { seq, rtptime: 9000 }
+}
 
 /// The channels of tracks, where they may have them.
 fn set_up(tracks: &[(usize, u8, u8)]) -> TrackChannels {
@@ -114,6 +164,29 @@ fn put_rtp(stream: &mut Vec<u8>, channel: u8, first: u8, len: u8) -> Result<(), 
     Ok(())
 }
 
+/// A feed of packets of at most twelve bytes, whose log has one seat that reads it from the start.
+fn logged(alloc: Global) -> Result<PlainFeed, Fail> {
+    let mut log = PlainLog::new(alloc, 9, 1, 12)?;
+    log.attach(0);
+    if log.is_closed() {
+        return Err("an open log".into());
+    }
+    Ok(PlainFeed::new(log))
+}
+
+/// The packets that were published.
+fn packets_of(alloc: Global, feed: PlainFeed) -> Result<Vec<Packet>, Fail> {
+    let log = feed.into_log();
+    if !log.is_attached(0) {
+        return Err("a seat that is attached".into());
+    }
+    let mut packets = Vec::new(alloc);
+    match pump(alloc, &mut PlainTap::new(log, 0), 99, &mut packets) {
+        Ok(_) => Ok(packets),
+        Err(_) => Err("room for a packet".into()),
+    }
+}
+
 #[test]
 fn row_frames_in(rt: HostRuntime) -> Result<(), Fail> {
     let alloc = rt.alloc();
@@ -128,20 +201,57 @@ fn row_frames_in(rt: HostRuntime) -> Result<(), Fail> {
         (2, 0x80, 12),
         (0, 0x40, 12),
         (1, 0, 13),
+        (0, 0x80, 0),
     ];
     for (channel, first, len) in frames {
         put_rtp(&mut stream, channel, first, len)?;
     }
-    let mut feed = PlainFeed::new(PlainLog::new(alloc, 9, 0, 12)?);
+    let mut feed = logged(alloc)?;
     let mut points = NO_POINTS;
     let channels = set_up(&[(0, 0, 1)]);
     let report = relay(alloc, stream, None, &mut feed, &channels, &mut points);
-    assert_eq!(rt; told(&report), ([2, 0, 2, 0, 0, 3, 1], "end"));
-    let seven = Point {
-        seq: 7,
-        rtptime: 9000,
+    assert_eq!(rt; told(&report), ([2, 0, 2, 0, 0, 4, 1], "end"));
+    assert!(rt; points[0] == Some(point(7)) && points[1] == None);
+    let packets = packets_of(alloc, feed)?;
+    let [first, second] = packets.as_slice() else {
+        return Err("two packets".into());
     };
-    assert!(rt; points[0] == Some(seven) && points[1] == None);
+    assert!(rt; first.tag == 0 && first.bytes.as_slice() == RTP.as_slice());
+    assert!(rt; second.tag == 1 && second.bytes.as_slice().is_empty());
+    Ok(())
+}
+
+/// Appends an RTP packet of twelve bytes with this number as a frame on the channel.
+fn put_numbered(stream: &mut Vec<u8>, channel: u8, number: u8) -> Result<(), Fail> {
+    stream.extend_from_slice(&[0x24, channel, 0, 12, 0x80, 0x60, 0, number])?;
+    stream.extend_from_slice(&RTP[4..])?;
+    Ok(())
+}
+
+#[test]
+fn each_channel_is_that_of_its_own_track(rt: HostRuntime) -> Result<(), Fail> {
+    let alloc = rt.alloc();
+    let mut stream = Vec::new(alloc);
+    for channel in 0..=255 {
+        put_numbered(&mut stream, channel, channel)?;
+    }
+    let mut feed = logged(alloc)?;
+    let mut points = NO_POINTS;
+    // Two tracks, whose channels come in odd order.
+    let channels = set_up(&[(0, 6, 8), (1, 7, 5)]);
+    let report = relay(alloc, stream, None, &mut feed, &channels, &mut points);
+    assert_eq!(rt; told(&report), ([4, 0, 0, 0, 0, 0, 252], "end"));
+    assert!(rt; points[0] == Some(point(6)) && points[1] == Some(point(7)) && points[2] == None);
+    // RTCP of the second track, RTP of the first and of the second, and RTCP of the first.
+    let want = [(3, 5), (0, 6), (2, 7), (1, 8)];
+    let packets = packets_of(alloc, feed)?;
+    assert_eq!(rt; packets.len(), want.len());
+    for (packet, (tag, number)) in packets.iter().zip(want) {
+        assert_eq!(rt;
+            (packet.tag, packet.bytes.as_slice().get(3)),
+            (tag, Some(&number))
+        );
+    }
     Ok(())
 }
 
@@ -149,10 +259,11 @@ fn row_frames_in(rt: HostRuntime) -> Result<(), Fail> {
 fn each_answer_of_a_feed_is_counted(rt: HostRuntime) -> Result<(), Fail> {
     let alloc = rt.alloc();
     let mut stream = Vec::new(alloc);
-    for number in 0..4 {
-        stream.extend_from_slice(&[0x24, 7, 0, 12, 0x80, 0x60, 0, number])?;
-        stream.extend_from_slice(&RTP[4..])?;
+    for number in 0..8 {
+        put_numbered(&mut stream, 6, number)?;
     }
+    put_rtp(&mut stream, 6, 0x80, 13)?;
+    let published = Cell::new(0);
     let mut feed = Answering {
         refusals: [
             None,
@@ -160,19 +271,73 @@ fn each_answer_of_a_feed_is_counted(rt: HostRuntime) -> Result<(), Fail> {
             Some(Refused::Worn),
             Some(Refused::OutOfMemory),
         ],
-        published: 0,
+        offered: 0,
+        published: &published,
     };
     let mut points = NO_POINTS;
-    // Two tracks, whose channels come in odd order.
-    let channels = set_up(&[(0, 6, 8), (1, 7, 5)]);
+    let channels = set_up(&[(1, 6, 5)]);
     let report = relay(alloc, stream, None, &mut feed, &channels, &mut points);
-    assert_eq!(rt; told(&report), ([1, 1, 0, 1, 1, 0, 0], "end"));
-    assert!(rt; points[0] == None);
-    let published = Point {
-        seq: 0,
-        rtptime: 9000,
-    };
-    assert_eq!(rt; points[1], Some(published));
+    assert_eq!(rt; told(&report), ([2, 2, 1, 2, 2, 0, 0], "end"));
+    assert!(rt; points[0] == None && points[1] == Some(point(4)));
+    Ok(())
+}
+
+#[test]
+fn each_frame_is_offered_before_more_is_read(rt: HostRuntime) -> Result<(), Fail> {
+    for piece in [1, 15, 16, 17, 40, 100] {
+        let mut stream = Vec::new(rt.alloc());
+        for number in 0..5 {
+            put_numbered(&mut stream, 0, number)?;
+        }
+        let published = Cell::new(0);
+        let late = Cell::new(false);
+        let source = Passing {
+            inner: ListSource::new(stream, piece, None),
+            given: 0,
+            published: &published,
+            late: &late,
+        };
+        let mut feed = Answering {
+            refusals: [None; 4],
+            offered: 0,
+            published: &published,
+        };
+        let channels = set_up(&[(0, 0, 1)]);
+        let mut points = NO_POINTS;
+        let _sixteen = channels.pair_of(0);
+        let mut intake = Intake::new(rt.alloc(), source);
+        let report = relay_in(&mut intake, &mut feed, &channels, &mut points);
+        assert_eq!(rt;
+            (report.published, published.get(), late.get()),
+            (5, 5, false),
+            "{piece}"
+        );
+    }
+    Ok(())
+}
+
+/// The frames that were published or that there was no memory for.
+fn published_or_unkept(report: &InReport) -> u64 {
+    report.published.saturating_add(report.unkept)
+}
+
+#[test]
+fn no_frame_is_lost_where_memory_is_refused(rt: HostRuntime) -> Result<(), Fail> {
+    let alloc = rt.alloc();
+    let mut stream = Vec::new(alloc);
+    for number in 0..5 {
+        put_numbered(&mut stream, 0, number)?;
+    }
+    let mut feed = logged(alloc)?;
+    let mut points = NO_POINTS;
+    let channels = set_up(&[(0, 0, 1)]);
+    let _sixteen = channels.pair_of(0);
+    let mut intake = Intake::new(alloc, ListSource::new(stream, 40, None));
+    // A run in which one request for memory is refused ends early, or leaves one frame unkept.
+    let first = relay_in(&mut intake, &mut feed, &channels, &mut points);
+    let second = relay_in(&mut intake, &mut feed, &channels, &mut points);
+    let all = published_or_unkept(&first).saturating_add(published_or_unkept(&second));
+    assert_eq!(rt; (all, told(&second).1), (5, "end"));
     Ok(())
 }
 
