@@ -1,0 +1,9 @@
+pub mod Kept
+pub mod Living
+pub mod Parts
+pub mod Strangers
+pub mod Coming
+pub mod Going
+pub mod Plays
+pub mod Backs
+pub mod Refusals

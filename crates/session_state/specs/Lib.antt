@@ -1,0 +1,9 @@
+pub mod Methods
+pub mod History
+pub mod Streams
+pub mod Lookups
+pub mod Fields
+pub mod Checks
+pub mod Replies
+pub mod Legal
+pub mod Stands

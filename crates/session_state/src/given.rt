@@ -1,0 +1,14 @@
+//! What a decision is handed beside the request.
+
+use base_syntax::Items;
+use transport_header::Point;
+
+/// What a decision is handed beside the request.
+#[derive(Drop)]
+pub struct Given {
+    /// The last eight digits of the identifier of a session that begins (RFC 2326, 3.4).
+    pub word: u32,
+    /// Where the packets of each track of the session's mount stand, by the track's number (RFC 2326, 12.33). A track
+    /// that has no place here has no point.
+    pub points: Items<Option<Point>>,
+}

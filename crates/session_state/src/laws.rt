@@ -1,0 +1,55 @@
+//! What the definitions of this crate mean, as theorems that call nothing.
+ghost use Rattle.std.specs.Prelude.{◌≡◌, ◌≢◌, ◌<◌, ℕ, ◌+◌, List, ◌∷◌, Option, true, false};
+ghost use Rattle.rtsp_message.specs.declared.request.Request as messages;
+ghost use Rattle.rtsp_message.specs.declared.reply.Reply.{Reply};
+ghost use Rattle.rtsp_message.specs.Reply.{code_of};
+ghost use Rattle.mounts.specs.declared.mount.Mount.{Mount};
+ghost use Rattle.session_state.specs.declared.act.Act.{Act};
+ghost use Rattle.session_state.specs.declared.act.Act.TheVariants as acts;
+ghost use Rattle.session_state.specs.declared.entry.Entry.{Entry};
+ghost use Rattle.session_state.specs.declared.entry.Entry.TheVariants.{Request, Back};
+ghost use Rattle.session_state.specs.declared.given.Given.{Given};
+ghost use Rattle.session_state.specs.declared.session.Session.{Session};
+ghost use Rattle.session_state.specs.History.{History, accepts_from};
+ghost use Rattle.session_state.specs.Legal.{IsLegal};
+ghost use Rattle.session_state.specs.Lookups.{IsSessionOf, came, is_open, sessions_begun};
+ghost use Rattle.session_state.specs.Methods.{is_teardown, moves};
+ghost use Rattle.session_state.specs.Streams.{AreLive, is_out};
+
+/// In a legal history a PLAY takes a seat below the number of seats, and a free one; a seat is given back only while it is
+/// out. So no seat is out twice.
+pub fn seats_are_taken_free()
+    ensures below { (seats : ℕ) (before : History) (conn : ℕ) (request : messages.Request) (given : Given) (reply : Reply) (mount seat : ℕ)
+        → IsLegal seats (Request conn request given reply (acts.Play mount seat) ∷ before) → seat < seats }
+    ensures free { (seats : ℕ) (before : History) (conn : ℕ) (request : messages.Request) (given : Given) (reply : Reply) (mount seat : ℕ)
+        → IsLegal seats (Request conn request given reply (acts.Play mount seat) ∷ before) → is_out mount seat before ≡ false }
+    ensures given_back { (seats : ℕ) (before : History) (mount seat : ℕ) → IsLegal seats (Back mount seat ∷ before) → is_out mount seat before ≡ true }
+    ensures out { (seats : ℕ) (history : History) (mount seat : ℕ) → IsLegal seats history → is_out mount seat history ≡ true → seat < seats }
+{}
+
+/// A request that isn't answered 200 asks for nothing, and changes no look-up: not the mounts that live nor their seats, no
+/// session, and not how many have begun.
+pub fn refusals_change_nothing()
+    ensures act { (seats : ℕ) (before : History) (conn : ℕ) (request : messages.Request) (given : Given) (reply : Reply) (act : Act)
+        → IsLegal seats (Request conn request given reply act ∷ before) → code_of reply.status ≢ 200 → act ≡ acts.None }
+    ensures mounts { (seats : ℕ) (before : History) (conn : ℕ) (request : messages.Request) (given : Given) (reply : Reply) (act : Act) (mounts : List Mount)
+        → IsLegal seats (Request conn request given reply act ∷ before) → code_of reply.status ≢ 200 → AreLive seats before mounts → AreLive seats (Request conn request given reply act ∷ before) mounts }
+    ensures sessions { (seats : ℕ) (before : History) (conn : ℕ) (request : messages.Request) (given : Given) (reply : Reply) (act : Act) (who : ℕ) (session : Option Session)
+        → IsLegal seats (Request conn request given reply act ∷ before) → code_of reply.status ≢ 200 → IsSessionOf seats who before session → IsSessionOf seats who (Request conn request given reply act ∷ before) session }
+    ensures seats { (seats : ℕ) (before : History) (conn : ℕ) (request : messages.Request) (given : Given) (reply : Reply) (act : Act) (mount seat : ℕ)
+        → IsLegal seats (Request conn request given reply act ∷ before) → code_of reply.status ≢ 200 → is_out mount seat (Request conn request given reply act ∷ before) ≡ is_out mount seat before }
+    ensures begun { (seats : ℕ) (before : History) (conn : ℕ) (request : messages.Request) (given : Given) (reply : Reply) (act : Act)
+        → IsLegal seats (Request conn request given reply act ∷ before) → code_of reply.status ≢ 200 → sessions_begun (Request conn request given reply act ∷ before) ≡ sessions_begun before }
+{}
+
+/// A connection's session, and with it its state, changes only by its own accepted SETUP, PLAY, RECORD, PAUSE and TEARDOWN
+/// (RFC 2326, A.2).
+pub fn sessions_change_by_their_own()
+    ensures { (seats conn : ℕ) (before : History) (entry : Entry) (session : Option Session) → accepts_from conn is_teardown entry ≡ false → accepts_from conn moves entry ≡ false
+        → IsSessionOf seats conn before session → IsSessionOf seats conn (entry ∷ before) session }
+{}
+
+/// A connection that is open has come, and one that hasn't come has no session: numbers aren't used again.
+pub fn connections_come_first()
+    ensures { (seats conn : ℕ) (history : History) → IsLegal seats history → is_open conn history ≡ true → conn < came history + 1 }
+{}

@@ -1,0 +1,22 @@
+//! What a server decides about a request (RFC 2326, 10 to 12 and A.2), and what it remembers to decide it. What a
+//! decision has to be is said over the history of all that was asked and answered, in `specs/`.
+#![tactic(auto)]
+
+mod act;
+mod entry;
+mod fault;
+mod given;
+pub mod laws;
+mod method;
+mod session;
+#[cfg(test)]
+mod tests;
+mod world;
+
+pub use act::Act;
+pub use entry::Entry;
+pub use fault::ConnectFault;
+pub use given::Given;
+pub use method::{Method, read_method};
+pub use session::{Session, State};
+pub use world::{MAX_CONNECTIONS, World};

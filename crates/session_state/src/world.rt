@@ -1,0 +1,125 @@
+//! What a server remembers to decide.
+ghost use Rattle.std.specs.Prelude.{◌≡◌, ◌≤◌, ◌+◌, ◌∷◌, [], true, false, MatchBool, IfOk, OnErr, IfErr, List};
+
+use crate::act::Act;
+use crate::fault::ConnectFault;
+use crate::session::{Session, State};
+use mounts::Mounts;
+use std::alloc::{AllocError, Global};
+use std::collections::BTreeMap;
+use std::collections::hash_map::RandomState;
+use std::marker::Model;
+
+/// The most connections that are open at a time.
+pub const MAX_CONNECTIONS: usize = 1024;
+
+/// What a server remembers to decide: the live mounts, and the open connections with their sessions. A contract speaks of
+/// every history that it stands for.
+#[derive(Drop)]
+pub struct World {
+    mounts: Mounts,
+    connections: BTreeMap<u64, Option<Session>>,
+    came: u64,
+    begun: u32,
+}
+
+impl Model for World {
+    ghost use Rattle.session_state.specs.Stands.{Tables};
+
+    ghost Value = { Tables };
+
+    ghost view = { λ w. record { mounts = w.mounts; connections = w.connections.entries; came = w.came; begun = w.begun } };
+}
+
+impl World {
+    ghost use Rattle.session_state.specs.declared.act.Act.TheVariants as acts;
+    ghost use Rattle.session_state.specs.declared.entry.Entry.TheVariants.{Connect, HangUp, Back};
+    ghost use Rattle.session_state.specs.declared.fault.ConnectFault.TheVariants.{Full, OutOfMemory};
+    ghost use Rattle.session_state.specs.History.{History};
+    ghost use Rattle.session_state.specs.Legal.{Comes, IsBack, IsHangUp, IsLegal};
+    ghost use Rattle.session_state.specs.Lookups.{came, is_open};
+    ghost use Rattle.session_state.specs.Stands.{Stands};
+
+    /// The opening world: nobody has come yet. Each mount that is announced has so many seats. Takes no memory.
+    pub fn new(alloc: Global, seats: usize, hasher: RandomState) -> World
+        requires { seats ≤ 1024 }
+        ensures opening { Stands [] result }
+        ensures seats { result.mounts.seats ≡ seats }
+    {
+        World {
+            mounts: Mounts::new(alloc, seats, hasher),
+            connections: BTreeMap::new(alloc),
+            came: 0,
+            begun: 0,
+        }
+    }
+
+    /// Whether a connection is open. Looks at so many connections as their count has binary digits.
+    pub fn is_open(&self, conn: u64) -> bool
+        ensures { (history : History) → Stands history self.now → result ≡ is_open conn history }
+    {
+        self.connections.contains_key(&conn)
+    }
+
+    /// Lets a connection come, and tells its number: from 1 on, and never used again. `Full` comes exactly where
+    /// `MAX_CONNECTIONS` are open or the numbers are used up; after an error nothing has changed.
+    pub fn connect(&mut self) -> Result<u64, ConnectFault>
+        ensures ok { IfOk result (λ conn. (history : History) → IsLegal self.old.mounts.seats history → Stands history self.old
+            → Comes history conn × Stands (Connect conn ∷ history) self.new) }
+        ensures full { result ≡ Err Full → (history : History) → Stands history self.old → Comes history (came history + 1) → ⊥ }
+        ensures err { OnErr result (self.new ≡ self.old) }
+    {
+        if self.connections.len() >= MAX_CONNECTIONS || self.came >= 1 << 63 {
+            return Err(ConnectFault::Full);
+        }
+        let number = self.came + 1;
+        self.connections.insert(number, None)?;
+        self.came = number;
+        Ok(number)
+    }
+
+    /// Hangs a connection up: its session ends, and so does the mount that it owns. Tells what it has to do. Where it isn't
+    /// open, nothing changes. Takes no memory.
+    pub fn hangup(&mut self, conn: u64) -> Act
+        ensures ok { (history : History) → IsLegal self.old.mounts.seats history → Stands history self.old → is_open conn history ≡ true
+            → IsHangUp self.old.mounts.seats history conn result × Stands (HangUp conn result ∷ history) self.new }
+        ensures unknown { (history : History) → Stands history self.old → is_open conn history ≡ false → (result ≡ acts.None) × (self.new ≡ self.old) }
+    {
+        let Some(session) = self.connections.remove(&conn) else {
+            return Act::None;
+        };
+        if let Some(mount) = self.mounts.owned_by(conn) {
+            let number = mount.number;
+            self.mounts.end(number);
+            return Act::End;
+        }
+        seat_given_up(&session)
+    }
+
+    /// Gives back a seat of a mount. `false`, and nothing changes, where no such mount lives or the seat isn't out. Takes no
+    /// memory.
+    pub fn back(&mut self, mount: u64, seat: usize) -> bool
+        ensures yes { (history : History) → Stands history self.old → result ≡ true → IsBack history mount seat × Stands (Back mount seat ∷ history) self.new }
+        ensures no { (history : History) → IsLegal self.old.mounts.seats history → Stands history self.old → result ≡ false → (IsBack history mount seat → ⊥) × (self.new ≡ self.old) }
+    {
+        self.mounts.give_back(mount, seat)
+    }
+}
+
+ghost use Rattle.session_state.specs.Replies.{pause_act};
+
+/// The seat that a session plays from is given up.
+fn seat_given_up(session: &Option<Session>) -> Act
+    ensures { result ≡ pause_act session.now }
+{
+    let Some(session) = session else {
+        return Act::None;
+    };
+    match session.state {
+        State::Playing { seat } => Act::Stop {
+            mount: session.mount,
+            seat,
+        },
+        _ => Act::None,
+    }
+}
