@@ -1,11 +1,11 @@
 -- What giving a seat back leaves.
-use Rattle.std.proofs.Common.{◌≡◌, ◌≢◌, ℕ, zero, suc, ◌<◌, ◌==◌, ◌&&◌, Bool, true, false, cond, List, [], ◌∷◌, length, map, is_some, Option, None, Some, slice_get, slice_set, refl, ap, sym, ◌∙◌, subst, arith, length-set}
+use Rattle.std.proofs.Common.{◌≡◌, ℕ, zero, suc, ◌<◌, ◌==◌, ◌&&◌, Bool, true, false, cond, List, [], ◌∷◌, map, Some, slice_get, slice_set, refl, ap, sym, ◌∙◌, subst, length-set}
 use Rattle.std.specs.List.{AllByRecursion}
 use Rattle.std.specs.Option.{option_map, option_map_or}
 use Rattle.std.proofs.lemmas.Bool.{eqb-true, eq-eqb}
 use Rattle.mounts.specs.declared.mount.Mount.{Mount}
 use Rattle.mounts.specs.Different.{AreDifferent}
-use Rattle.mounts.specs.Mounts.{IsSeat, IsSound, numbered, with_seat, with_seat_of}
+use Rattle.mounts.specs.Mounts.{IsSeat, numbered, with_seat, with_seat_of}
 use Rattle.mounts.proofs.Differing.{same_keys, unequal}
 use Rattle.mounts.proofs.Firsts.{found_all, found_passes}
 use Rattle.mounts.proofs.Indexed.{some_at}
@@ -13,7 +13,6 @@ use Rattle.mounts.proofs.Lookups.{changed, numbered-with_seat}
 use Rattle.mounts.proofs.Places.{read_other}
 use Rattle.mounts.proofs.Sound.{sound_seat}
 use Rattle.session_state.specs.declared.entry.Entry.TheVariants.{Back}
-use Rattle.session_state.specs.declared.session.Session.{Session}
 use Rattle.session_state.specs.History.{History, act_of, is_play_of, last_of}
 use Rattle.session_state.specs.Legal.{IsBack, IsLegal}
 use Rattle.session_state.specs.Stands.{Stands, Tables}

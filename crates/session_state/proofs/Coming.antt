@@ -1,13 +1,13 @@
 -- What a connection's coming leaves.
-use Rattle.std.proofs.Common.{◌≡◌, ℕ, suc, ◌+◌, ◌-◌, ◌^◌, ◌<◌, ◌≤◌, ◌==◌, Bool, true, false, cond, if◌then◌else◌, List, [], ◌∷◌, ◌++◌, length, is_some, Option, None, Some, refl, ap, sym, ◌∙◌, subst, arith}
+use Rattle.std.proofs.Common.{◌≡◌, ℕ, ◌+◌, ◌^◌, ◌<◌, ◌==◌, Bool, true, false, if◌then◌else◌, List, [], ◌∷◌, ◌++◌, length, is_some, Option, None, Some, refl, ap, sym, ◌∙◌, subst, arith}
 use Rattle.std.proofs.lemmas.Bool.{eqb-true}
 use Rattle.mounts.specs.Mounts.{IsSound, Table, no_mounts}
 use Rattle.mounts.proofs.SoundRuns.{no_mounts_sound}
 use Rattle.session_state.specs.declared.entry.Entry.TheVariants.{Connect}
 use Rattle.session_state.specs.declared.session.Session.{Session}
-use Rattle.session_state.specs.History.{History, how_many, is_hang_up}
+use Rattle.session_state.specs.History.{History}
 use Rattle.session_state.specs.Legal.{Comes, IsLegal}
-use Rattle.session_state.specs.Lookups.{IsSessionOf, beginning, came, has_session, is_open, open_count}
+use Rattle.session_state.specs.Lookups.{IsSessionOf, beginning, is_open}
 use Rattle.session_state.specs.Stands.{Stands, Tables, kept_of}
 use Rattle.session_state.specs.Streams.{AreLive, IsLive, ends_mount_of}
 use Rattle.session_state.proofs.Kept.{IsKeptFor, kept_same}
@@ -15,7 +15,7 @@ use Rattle.session_state.proofs.Living.{each_of, mounts_still}
 use Rattle.session_state.proofs.Parts.{session_still}
 use Rattle.session_state.proofs.Strangers.{after, open_came, strangers}
 
-none_lives : (number owner : ℕ) → IsLive [] number owner → ⊥
+pub none_lives : (number owner : ℕ) → IsLive [] number owner → ⊥
 none_lives number owner live = by live.later live.nth.cut
   where
     by : (later : History) → [] ≡ later ++ live.moment.entry ∷ live.moment.before → ⊥

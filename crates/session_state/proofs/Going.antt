@@ -1,25 +1,24 @@
 -- What a connection's hanging up leaves.
-use Rattle.std.proofs.Common.{◌≡◌, ◌≢◌, ℕ, suc, ◌+◌, ◌==◌, Bool, true, false, not, cond, List, [], ◌∷◌, length, map, is_some, Option, None, Some, refl, ap, sym, ◌∙◌, subst, arith}
-use Rattle.std.specs.List.{AllByRecursion, filter, position_or_len}
+use Rattle.std.proofs.Common.{◌≡◌, ◌≢◌, ℕ, ◌+◌, ◌==◌, Bool, true, false, cond, List, [], ◌∷◌, length, map, is_some, Option, None, Some, refl, ap, sym, ◌∙◌, subst, arith}
+use Rattle.std.specs.List.{AllByRecursion, position_or_len}
 use Rattle.std.proofs.lemmas.Bool.{eqb-true, eq-eqb}
 use Rattle.std.proofs.lemmas.List.Folds.{find_at}
 use Rattle.mounts.specs.declared.mount.Mount.{Mount}
 use Rattle.mounts.specs.Different.{AreDifferent}
-use Rattle.mounts.specs.Mounts.{IsSound, Table, ended, numbered, owned_by}
+use Rattle.mounts.specs.Mounts.{IsSound, Table, ended, owned_by}
 use Rattle.mounts.proofs.Differing.{find_one, none_has, unequal}
 use Rattle.mounts.proofs.Firsts.{found_passes}
 use Rattle.mounts.proofs.Sound.{sound_ended}
 use Rattle.session_state.specs.declared.act.Act.{Act}
-use Rattle.session_state.specs.declared.entry.Entry.{Entry}
 use Rattle.session_state.specs.declared.entry.Entry.TheVariants.{HangUp}
 use Rattle.session_state.specs.declared.session.Session.{Session}
 use Rattle.session_state.specs.History.{History}
 use Rattle.session_state.specs.Legal.{IsHangUp, act_at_end}
 use Rattle.session_state.specs.Lookups.{IsSessionOf, is_open}
 use Rattle.session_state.specs.Stands.{Stands, Tables, kept_of}
-use Rattle.session_state.specs.Streams.{AreLive, ends_mount_of}
+use Rattle.session_state.specs.Streams.{AreLive}
 use Rattle.session_state.proofs.Kept.{IsKeptFor, kept_same}
-use Rattle.session_state.proofs.Living.{LeavesMounts, EndsAlone, mount_ends, mounts_still}
+use Rattle.session_state.proofs.Living.{LeavesMounts, mount_ends, mounts_still}
 use Rattle.session_state.proofs.Parts.{session_still}
 use Rattle.session_state.proofs.Strangers.{after}
 

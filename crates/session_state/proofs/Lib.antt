@@ -7,3 +7,7 @@ pub mod Going
 pub mod Plays
 pub mod Backs
 pub mod Refusals
+pub mod Announced
+pub mod Owners
+pub mod Nth
+pub mod Namesakes

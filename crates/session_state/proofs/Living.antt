@@ -1,5 +1,5 @@
 -- Which mounts live after one entry more.
-use Rattle.std.proofs.Common.{◌≡◌, ℕ, ◌+◌, ◌==◌, Bool, true, false, not, cond, List, [], ◌∷◌, ◌++◌, Some, refl, ap, sym, ◌∙◌, subst}
+use Rattle.std.proofs.Common.{◌≡◌, ℕ, ◌==◌, Bool, true, false, not, cond, List, [], ◌∷◌, ◌++◌, Some, refl, ap, sym, ◌∙◌, subst}
 use Rattle.std.specs.List.{AllByRecursion, filter}
 use Rattle.std.specs.Option.{option_map_or}
 use Rattle.std.proofs.lemmas.Bool.{eqb-true, eq-eqb}
@@ -10,7 +10,7 @@ use Rattle.mounts.proofs.Lookups.{numbered-ended_other}
 use Rattle.mounts.proofs.Places.{all_both}
 use Rattle.session_state.specs.declared.entry.Entry.{Entry}
 use Rattle.session_state.specs.Methods.{is_announce}
-use Rattle.session_state.specs.History.{History, IsNth, accepts, act_of, is_play_of, last_of}
+use Rattle.session_state.specs.History.{History, accepts, act_of, is_play_of, last_of}
 use Rattle.session_state.specs.Streams.{AreLive, IsLive, IsLiveMount, ends_mount_of, is_out, takes_or_gives_back}
 
 pub false_true : {A : Type 0} → false ≡ true → A

@@ -1,5 +1,5 @@
 -- What a refused request leaves: everything.
-use Rattle.std.proofs.Common.{◌≡◌, ◌≢◌, ℕ, suc, ◌==◌, ◌&&◌, Bool, true, false, cond, not, if◌then◌else◌, List, [], ◌∷◌, ◌⊎◌, inl, inr, Option, None, Some, refl, ap, sym, ◌∙◌}
+use Rattle.std.proofs.Common.{◌≡◌, ◌≢◌, ℕ, suc, ◌==◌, ◌&&◌, Bool, false, cond, not, List, ◌∷◌, inl, inr, Option, None, ap}
 use Rattle.std.specs.Option.{option_map, option_map_or}
 use Rattle.rtsp_message.specs.declared.request.Request as messages
 use Rattle.rtsp_message.specs.declared.reply.Reply.{Reply}
@@ -21,7 +21,7 @@ use Rattle.session_state.specs.Legal.{IsAnswered, IsReplyOf}
 use Rattle.session_state.specs.Lookups.{IsSessionOf, has_session, sessions_begun}
 use Rattle.session_state.specs.Replies.{IsAccepted}
 use Rattle.session_state.specs.Streams.{AreLive, ends_mount_of, is_out, takes_or_gives_back}
-use Rattle.session_state.proofs.Living.{LeavesMounts, each_of, mounts_still, out_still}
+use Rattle.session_state.proofs.Living.{each_of, mounts_still, out_still}
 use Rattle.session_state.proofs.Parts.{part_still, session_still}
 
 -- what accepts a request has status 200

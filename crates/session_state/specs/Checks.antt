@@ -1,6 +1,6 @@
 -- What a request is checked for, in order: the first check that it doesn't pass decides how it is refused (RFC 2326, 10, 11.3
 -- and 12).
-use Rattle.std.specs.Prelude.{◌≡◌, ℕ, ◌+◌, ◌-◌, ◌^◌, ◌<◌, ◌≤◌, ◌==◌, Bool, true, false, List, [], ◌∷◌, ◌++◌, ◌⊎◌, length, Option, None, Some, IsSome, codes}
+use Rattle.std.specs.Prelude.{◌≡◌, ℕ, ◌-◌, ◌^◌, ◌<◌, ◌==◌, Bool, true, false, List, [], ◌∷◌, ◌⊎◌, length, Option, None, Some, IsSome, codes}
 use Rattle.rtsp_message.specs.declared.request.Request as messages
 use Rattle.rtsp_message.specs.Headers.{value_of}
 use Rattle.sdp.specs.declared.fault.SdpFault.TheVariants.{TooManyTracks}

@@ -8,7 +8,7 @@ use Rattle.session_state.specs.declared.entry.Entry.TheVariants.{Connect, Reques
 use Rattle.session_state.specs.declared.act.Act.{Act}
 use Rattle.session_state.specs.declared.act.Act.TheVariants as acts
 use Rattle.session_state.specs.declared.method.Method.{Method}
-use Rattle.session_state.specs.Methods.{method_of, is_announce, is_teardown, moves}
+use Rattle.session_state.specs.Methods.{method_of}
 
 -- the newest entry first
 abbrev pub History : Type 0

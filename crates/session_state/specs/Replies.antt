@@ -1,5 +1,5 @@
 -- What a request is answered (RFC 2326, 7, 10, 11 and 12).
-use Rattle.std.specs.Prelude.{◌≡◌, ℕ, ◌+◌, ◌<◌, zero, suc, ◌==◌, Bool, true, false, if◌then◌else◌, List, [], ◌∷◌, ◌++◌, ◌⊎◌, ◌↔◌, get_or, is_some, Option, None, Some, codes}
+use Rattle.std.specs.Prelude.{◌≡◌, ℕ, ◌+◌, ◌<◌, zero, suc, ◌==◌, false, if◌then◌else◌, List, [], ◌∷◌, ◌++◌, ◌↔◌, get_or, Option, None, Some, codes}
 use Rattle.std.specs.List.{Contains}
 use Rattle.std.specs.Option.{option_map, option_and_then, unwrap_or}
 use Rattle.rtsp_message.specs.declared.reply.Reply.{Reply}

@@ -1,5 +1,5 @@
 -- What a server remembers to decide, and which history it stands for.
-use Rattle.std.specs.Prelude.{◌≡◌, ℕ, ◌+◌, List, length, is_some, Option, None, Some}
+use Rattle.std.specs.Prelude.{◌≡◌, ℕ, ◌+◌, List, length, is_some, Option, Some}
 use Rattle.std.specs.Ordering.{nat_cmp}
 use Rattle.std.specs.BTreeMap.{is_at}
 use Rattle.std.specs.Map.{lookup}

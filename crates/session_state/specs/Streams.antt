@@ -1,6 +1,6 @@
 -- The mounts that a history tells of, and which of them, and which of their tracks, a SETUP names (RFC 2326, 3.2, 10.3,
 -- 10.4 and C.1.1).
-use Rattle.std.specs.Prelude.{◌≡◌, ℕ, ◌==◌, ◌&&◌, Bool, true, false, List, ◌∷◌, ◌⊎◌, length, map, slice_get, Option, None, Some}
+use Rattle.std.specs.Prelude.{◌≡◌, ℕ, ◌==◌, ◌&&◌, Bool, true, false, List, ◌⊎◌, length, map, slice_get, Option, None, Some}
 use Rattle.std.specs.List.{AllByRecursion}
 use Rattle.std.specs.Option.{option_map_or}
 use Rattle.rtsp_message.specs.declared.request.Request as messages

@@ -14,7 +14,7 @@ ghost use Rattle.session_state.specs.History.{History, accepts_from};
 ghost use Rattle.session_state.specs.Legal.{IsLegal};
 ghost use Rattle.session_state.specs.Lookups.{IsSessionOf, came, is_open, sessions_begun};
 ghost use Rattle.session_state.specs.Methods.{is_teardown, moves};
-ghost use Rattle.session_state.specs.Streams.{AreLive, is_out};
+ghost use Rattle.session_state.specs.Streams.{AreLive, IsLiveMount, is_out};
 
 /// In a legal history a PLAY takes a seat below the number of seats, and a free one; a seat is given back only while it is
 /// out. So no seat is out twice.
@@ -52,4 +52,12 @@ pub fn sessions_change_by_their_own()
 /// A connection that is open has come, and one that hasn't come has no session: numbers aren't used again.
 pub fn connections_come_first()
     ensures { (seats conn : ℕ) (history : History) → IsLegal seats history → is_open conn history ≡ true → conn < came history + 1 }
+{}
+
+/// In a legal history a connection owns at most one mount that lives, and no two mounts that live have one name.
+pub fn mounts_differ()
+    ensures owners { (seats : ℕ) (history : History) (one other : Mount) → IsLegal seats history → IsLiveMount seats history one → IsLiveMount seats history other
+        → one.owner ≡ other.owner → one.number ≡ other.number }
+    ensures names { (seats : ℕ) (history : History) (one other : Mount) → IsLegal seats history → IsLiveMount seats history one → IsLiveMount seats history other
+        → one.name ≡ other.name → one.number ≡ other.number }
 {}

@@ -45,10 +45,19 @@ fn connections_come_and_go(rt: HostRuntime) -> Result<(), Fail> {
 fn no_more_come_than_may_be_open(rt: HostRuntime) -> Result<(), Fail> {
     let mut world = World::new(rt.alloc(), 1, RandomState::new(&rt)?);
     for _ in 0..MAX_CONNECTIONS {
-        world.connect().unwrap();
+        assert!(rt; world.connect().is_ok());
     }
     assert_eq!(rt; world.connect(), Err(ConnectFault::Full));
     world.hangup(7);
     assert_eq!(rt; world.connect(), Ok(1025));
     Ok(())
+}
+
+#[test]
+fn the_laws_are_called() {
+    laws::seats_are_taken_free();
+    laws::refusals_change_nothing();
+    laws::sessions_change_by_their_own();
+    laws::connections_come_first();
+    laws::mounts_differ();
 }

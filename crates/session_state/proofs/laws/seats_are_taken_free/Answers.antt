@@ -1,4 +1,4 @@
-use Rattle.std.proofs.Common.{◌&&◌, true, refl, ap, ◌∙◌, ◌==◌}
+use Rattle.std.proofs.Common.{◌&&◌, refl, ap, ◌∙◌, ◌==◌}
 use Rattle.std.proofs.lemmas.Bool.{eq-eqb}
 use Rattle.session_state.specs.declared.act.Act.TheVariants as acts
 use Rattle.session_state.proofs.Plays.{out_below, plays_free}

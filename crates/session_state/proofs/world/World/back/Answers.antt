@@ -1,4 +1,4 @@
-use Rattle.std.proofs.Common.{◌≡◌, ◌∷◌, true, false, MatchBool, ap, sym, subst, ◌∙◌}
+use Rattle.std.proofs.Common.{◌≡◌, ◌∷◌, true, false, MatchBool, ap, subst}
 use Rattle.mounts.specs.Mounts.{IsSeat, Table}
 use Rattle.session_state.specs.declared.entry.Entry.TheVariants.{Back}
 use Rattle.session_state.specs.History.{History}

@@ -1,4 +1,4 @@
-use Rattle.std.proofs.Common.{◌≡◌, ◌+◌, ◌∷◌, arith, subst}
+use Rattle.std.proofs.Common.{◌+◌, ◌∷◌, arith, subst}
 use Rattle.session_state.specs.declared.entry.Entry.TheVariants.{Connect}
 use Rattle.session_state.specs.History.{History}
 use Rattle.session_state.specs.Legal.{Comes, IsLegal}
