@@ -11,3 +11,4 @@ pub mod Announced
 pub mod Owners
 pub mod Nth
 pub mod Namesakes
+pub mod Identifiers

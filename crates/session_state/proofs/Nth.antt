@@ -3,10 +3,47 @@ use Rattle.std.proofs.Common.{◌≡◌, ℕ, suc, ◌+◌, ◌≤◌, Bool, tru
 use Rattle.session_state.specs.declared.entry.Entry.{Entry}
 use Rattle.session_state.specs.History.{History, IsNth, Moment, how_many}
 
-module _ (that : Entry → Bool) (n : ℕ) where
-  counts_it : (entry : Entry) (before : History) → that entry ≡ true → how_many that (entry ∷ before) ≡ suc (how_many that before)
-  counts_it entry before is = ap (λ b. cond b (suc (how_many that before)) (how_many that before)) is
+pub record AreSame (one two : Moment) : Type 0 where
+  pub entry : one.entry ≡ two.entry
+  pub before : one.before ≡ two.before
 
+-- of a count that no entry lowers
+module _ (count : History → ℕ) (more : (entry : Entry) (before : History) → count before ≤ count (entry ∷ before)) where
+  -- A moment at which the count rises by one, to n.
+  pub record RisesTo (n : ℕ) (history later : History) (moment : Moment) : Type 0 where
+    pub cut : history ≡ later ++ moment.entry ∷ moment.before
+    pub rises : count (moment.entry ∷ moment.before) ≡ count moment.before + 1
+    pub counted : n ≡ count (moment.entry ∷ moment.before)
+
+  within : (later history : History) → count history ≤ count (later ++ history)
+  within [] history = omega arith
+  within (x ∷ later) history = let so = within later history in let more = more x (later ++ history) in omega (arith, so, more)
+
+  -- there is one such moment
+  pub one_rise : (n : ℕ) (history later other : History) (one two : Moment) → RisesTo n history later one → RisesTo n history other two → AreSame one two
+  one_rise n history [] [] one two a b =
+      let cut = sym a.cut ∙ b.cut in
+      record { entry = cc; before = cc }
+  one_rise n history [] (y ∷ other) one two a b =
+      let cut = sym a.cut ∙ b.cut in
+      let rest : one.before ≡ other ++ two.entry ∷ two.before = cc in
+      let so = within other (two.entry ∷ two.before) in
+      let mine = ap count rest in
+      let rises = a.rises in let counted = a.counted in let other_counted = b.counted in
+      absurd (omega (arith, so, mine, rises, counted, other_counted))
+  one_rise n history (x ∷ later) [] one two a b =
+      let cut = sym b.cut ∙ a.cut in
+      let rest : two.before ≡ later ++ one.entry ∷ one.before = cc in
+      let so = within later (one.entry ∷ one.before) in
+      let mine = ap count rest in
+      let rises = b.rises in let counted = b.counted in let other_counted = a.counted in
+      absurd (omega (arith, so, mine, rises, counted, other_counted))
+  one_rise n history (x ∷ later) (y ∷ other) one two a b =
+      let cut = sym a.cut ∙ b.cut in
+      let rest : later ++ one.entry ∷ one.before ≡ other ++ two.entry ∷ two.before = cc in
+      one_rise n (later ++ one.entry ∷ one.before) later other one two (record { cut = refl; rises = a.rises; counted = a.counted }) (record { cut = rest; rises = b.rises; counted = b.counted })
+
+module _ (that : Entry → Bool) where
   counts_more : (entry : Entry) (before : History) → how_many that before ≤ how_many that (entry ∷ before)
   counts_more entry before = by (that entry)
     where
@@ -14,37 +51,11 @@ module _ (that : Entry → Bool) (n : ℕ) where
       by true = omega arith
       by false = omega arith
 
-  -- the n-th entry has at least n up to it
-  within : (later : History) (moment : Moment) → that moment.entry ≡ true → n ≡ how_many that moment.before + 1 → n ≤ how_many that (later ++ moment.entry ∷ moment.before)
-  within [] moment is counted = let one = counts_it moment.entry moment.before is in omega (arith, one, counted)
-  within (x ∷ later) moment is counted =
-      let so = within later moment is counted in
-      let more = counts_more x (later ++ moment.entry ∷ moment.before) in
-      omega (arith, so, more)
+  rises : (n : ℕ) (history later : History) (moment : Moment) → IsNth that n history later moment → RisesTo (how_many that) counts_more n history later moment
+  rises n history later moment nth =
+      let one : how_many that (moment.entry ∷ moment.before) ≡ suc (how_many that moment.before) = ap (λ b. cond b (suc (how_many that moment.before)) (how_many that moment.before)) nth.is in
+      let counted = nth.counted in
+      record { cut = nth.cut; rises = omega (arith, one); counted = omega (arith, one, counted) }
 
-  pub record AreSame (one two : Moment) : Type 0 where
-    pub entry : one.entry ≡ two.entry
-    pub before : one.before ≡ two.before
-
-  pub one_nth : (history later other : History) (one two : Moment) → IsNth that n history later one → IsNth that n history other two → AreSame one two
-  one_nth history [] [] one two a b =
-      let cut = sym a.cut ∙ b.cut in
-      record { entry = cc; before = cc }
-  one_nth history [] (y ∷ other) one two a b =
-      let cut = sym a.cut ∙ b.cut in
-      let rest : one.before ≡ other ++ two.entry ∷ two.before = cc in
-      let so = within other two b.is b.counted in
-      let mine = ap (how_many that) rest in
-      let counted = a.counted in
-      absurd (omega (arith, so, mine, counted))
-  one_nth history (x ∷ later) [] one two a b =
-      let cut = sym b.cut ∙ a.cut in
-      let rest : two.before ≡ later ++ one.entry ∷ one.before = cc in
-      let so = within later one a.is a.counted in
-      let mine = ap (how_many that) rest in
-      let counted = b.counted in
-      absurd (omega (arith, so, mine, counted))
-  one_nth history (x ∷ later) (y ∷ other) one two a b =
-      let cut = sym a.cut ∙ b.cut in
-      let rest : later ++ one.entry ∷ one.before ≡ other ++ two.entry ∷ two.before = cc in
-      one_nth (later ++ one.entry ∷ one.before) later other one two (record { cut = refl; is = a.is; counted = a.counted }) (record { cut = rest; is = b.is; counted = b.counted })
+  pub one_nth : (n : ℕ) (history later other : History) (one two : Moment) → IsNth that n history later one → IsNth that n history other two → AreSame one two
+  one_nth n history later other one two a b = one_rise (how_many that) counts_more n history later other one two (rises n history later one a) (rises n history other two b)

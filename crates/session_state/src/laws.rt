@@ -12,7 +12,7 @@ ghost use Rattle.session_state.specs.declared.given.Given.{Given};
 ghost use Rattle.session_state.specs.declared.session.Session.{Session};
 ghost use Rattle.session_state.specs.History.{History, accepts_from};
 ghost use Rattle.session_state.specs.Legal.{IsLegal};
-ghost use Rattle.session_state.specs.Lookups.{IsSessionOf, came, is_open, sessions_begun};
+ghost use Rattle.session_state.specs.Lookups.{IsSession, IsSessionOf, came, is_open, sessions_begun};
 ghost use Rattle.session_state.specs.Methods.{is_teardown, moves};
 ghost use Rattle.session_state.specs.Streams.{AreLive, IsLiveMount, is_out};
 
@@ -60,4 +60,10 @@ pub fn mounts_differ()
         → one.owner ≡ other.owner → one.number ≡ other.number }
     ensures names { (seats : ℕ) (history : History) (one other : Mount) → IsLegal seats history → IsLiveMount seats history one → IsLiveMount seats history other
         → one.name ≡ other.name → one.number ≡ other.number }
+{}
+
+/// No two connections' sessions have one number, and so none have one identifier (RFC 2326, 3.4).
+pub fn sessions_differ()
+    ensures { (seats conn other : ℕ) (history : History) (session second : Session) → IsSession seats conn history session → IsSession seats other history second
+        → session.number ≡ second.number → conn ≡ other }
 {}

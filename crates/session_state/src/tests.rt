@@ -60,4 +60,5 @@ fn the_laws_are_called() {
     laws::sessions_change_by_their_own();
     laws::connections_come_first();
     laws::mounts_differ();
+    laws::sessions_differ();
 }
