@@ -60,7 +60,7 @@ module _ {M : Type 1} {𝓤 : Ura M} (𝓛 : Logic 𝓤) (t : Spot) where
   abbrev at : List ℕ → Fml
   at x = part_at R full_share x t.block t.offset
 
-  row_laws : RowLaws R
+  pub row_laws : RowLaws R
   row_laws = Array-row_laws u64 (uint_row_laws w64) t.width
 
   whole_shared : Shares 𝓛 R []

@@ -1,6 +1,7 @@
 pub mod Rights
 pub mod Fields
 pub mod Cells
+pub mod OneCell
 pub mod Units
 pub mod Moves
 pub mod Dealing
@@ -13,3 +14,5 @@ pub mod Pinned
 pub mod Begun
 pub mod Finished
 pub mod Settling
+pub mod Unpacking
+pub mod Putting

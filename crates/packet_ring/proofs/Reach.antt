@@ -1,5 +1,5 @@
--- Where a unit's word lies, as the code reaches it.
-use Rattle.std.proofs.Common.{◌≡◌, ℕ, suc, ◌+◌, ◌*◌, ◌^◌, ◌<◌, ◌≤◌, sym, ap, ◌∙◌, subst, arith, suc-mul, mul-le-mul_right}
+-- Where a unit's word and its cells lie, as the code reaches them.
+use Rattle.std.proofs.Common.{◌≡◌, ℕ, suc, ◌+◌, ◌*◌, ◌^◌, ◌<◌, ◌≤◌, sym, ap, ◌∙◌, subst, arith, suc-mul, mul-le-mul_right, refl}
 use denote.RawPtr.{Ptr, block_ptr, block_of, count_of, InBlock}
 use Rattle.packet_ring.proofs.Dealing.{widths}
 use Rattle.packet_ring.specs.Lent.{BlockId, unit_at, stride, Placed}
@@ -16,3 +16,13 @@ pub in_reach : (p : Ptr) (z : BlockId) (i at : ℕ) → Placed p z → at ≡ i 
 in_reach p z i at so is near = let bytes : at * 8 ≡ i * stride z = ap (λ (k : ℕ). k * 8) is ∙ sym (widths i z.width) in let all : z.units * stride z < 2 ^ 63 = so.1 in
     let m : suc i * stride z ≤ z.units * stride z = mul-le-mul_right (stride z) (let r : suc i ≤ z.units = omega arith in r) in let n : suc i * stride z ≡ i * stride z + stride z = suc-mul i (stride z) in
     let x : ℕ = i * stride z in let y : ℕ = z.units * stride z in let b : at * 8 ≡ x = bytes in let c : x + stride z ≤ y = subst (λ (k : ℕ). k ≤ y) n m in omega arith
+
+pub reached_cell : (p : Ptr) (z : BlockId) (i j at : ℕ) → Placed p z → at ≡ i * (z.width + 1) + 1 + j → block_ptr (block_of p) (at * 8 + count_of p) ≡ block_ptr z.block (j * 8 + (unit_at z i + 8))
+reached_cell p z i j at so is = let y : ℕ = i * (z.width + 1) in let x : ℕ = i * stride z in let o : ℕ = z.offset in let bytes : y * 8 ≡ x = sym (widths i z.width) in
+    let there : at * 8 + o ≡ j * 8 + (x + o + 8) = (let e : at ≡ y + 1 + j = is in omega arith) in
+    ap (λ (q : Ptr). block_ptr (block_of q) (at * 8 + count_of q)) so.0 ∙ ap (λ (k : ℕ). block_ptr z.block k) there
+
+pub cell_in_reach : (p : Ptr) (z : BlockId) (i j at : ℕ) → Placed p z → at ≡ i * (z.width + 1) + 1 + j → j < z.width → i < z.units → at * 8 < 2 ^ 64
+cell_in_reach p z i j at so is inside near = let y : ℕ = i * (z.width + 1) in let x : ℕ = i * stride z in let u : ℕ = z.units * stride z in let d : ℕ = stride z in
+    let bytes : y * 8 ≡ x = sym (widths i z.width) in let all : u < 2 ^ 63 = so.1 in let m : suc i * d ≤ u = mul-le-mul_right d (let r : suc i ≤ z.units = omega arith in r) in
+    let c : x + d ≤ u = subst (λ (k : ℕ). k ≤ u) (suc-mul i d) m in let e : at ≡ y + 1 + j = is in let w : d ≡ z.width * 8 + 8 = refl in omega arith

@@ -2,3 +2,4 @@ pub mod Table
 pub mod Lent
 pub mod Rule
 pub mod Steps
+pub mod Packing

@@ -13,7 +13,7 @@ use Rattle.ring_steps.specs.declared.views.SeatPhase.TheVariants as seating
 use Rattle.ring_steps.specs.Bits.{head_bits, word_bits}
 use Rattle.ring_steps.specs.Ring.{cursor, new_publisher, new_seat}
 use Rattle.ring_steps.specs.Step.{holds}
-use Rattle.packet_ring.specs.Table.{Right, no_right, may_read, may_end}
+use Rattle.packet_ring.specs.Table.{Right, no_right, may_read, may_end, may_write}
 use Rattle.packet_ring.specs.Rule.{Knows, View, bytes_of}
 
 -- a seat's view once it loaded this head
@@ -142,6 +142,10 @@ step n i a b = record { units = n; unit = i; first = a; second = b }
 -- a token may read the cells of this unit
 abbrev pub MayRead : Right → (unit : ℕ) → Type 0
 MayRead r u = (cells : List ℕ) × (r ≡ may_read u cells)
+
+-- and it may write them
+abbrev pub MayWrite : Right → (unit : ℕ) → Type 0
+MayWrite r u = (cells : List ℕ) × (r ≡ may_write u cells)
 
 -- the packet at a seat's cursor, in the log that its token has seen
 abbrev pub next_packet : Knows → List ℕ

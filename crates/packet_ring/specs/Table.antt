@@ -116,6 +116,21 @@ renewed_right r = r
 abbrev pub renewed : {V E : Type 0} → Me V E → Me V E
 renewed me = record me { right = renewed_right me.right }
 
+-- the cells that a right is to, as they stand
+abbrev pub cells_of : Right → List ℕ
+cells_of no_right = []
+cells_of (may_read k x) = x
+cells_of (may_end k x) = x
+cells_of (may_write k x) = x
+
+-- the right to write, once the cell i holds n
+abbrev pub written_right : Right → (i n : ℕ) → Right
+written_right (may_write k x) i n = may_write k (slice_set x i n)
+written_right r i n = r
+
+abbrev pub written : {V E : Type 0} → Me V E → (i n : ℕ) → Me V E
+written me i n = record me { right = written_right me.right i n }
+
 -- rights as numbers
 abbrev pub right_code : Right → ℕ × (ℕ × List ℕ)
 right_code no_right = (0, (0, []))

@@ -1,11 +1,11 @@
 //! The block of raw memory as threads share it, and the tokens that step on it.
-ghost use Rattle.core.specs.Prelude.{◌≡◌, ◌+◌, ◌-◌, ◌*◌, ◌%◌, ◌^◌, ◌==◌, ◌<◌, ◌≤◌, ℕ, List, [], ◌∷◌, length};
+ghost use Rattle.core.specs.Prelude.{◌≡◌, ◌+◌, ◌-◌, ◌*◌, ◌%◌, ◌^◌, ◌==◌, ◌<◌, ◌≤◌, ℕ, List, [], ◌∷◌, length, slice_index};
 ghost use base.Stored.{coded_list};
 ghost use prog.Atomic.{either};
-ghost use Rattle.packet_ring.specs.Table.{no_right, flat, Allows, renewed, settled};
+ghost use Rattle.packet_ring.specs.Table.{no_right, flat, Allows, cells_of, renewed, settled, written};
 ghost use Rattle.packet_ring.specs.Lent.{BlockId, block_id_coded, block_owns, block_shares, mine, waiting};
 ghost use Rattle.packet_ring.specs.Rule.{Knows, View, knows_coded, view_coded, packet_coded, Holds, fresh_units, fresh_views};
-ghost use Rattle.packet_ring.specs.Steps.{Step, step};
+ghost use Rattle.packet_ring.specs.Steps.{MayRead, MayWrite, Step, step};
 
 use crate::strip::Strip;
 use atomic_table::exchange;
@@ -172,6 +172,29 @@ impl Spares {
 }
 
 impl Shared {
+    /// One cell of a unit that the token may read, which lies `at` words from the first.
+    pub(crate) fn read(&self, token: &mut Token, unit: usize, at: usize, cell: usize) -> u64
+        requires { (token.old.id ≡ self.now.id) × MayRead token.old.me.right unit × (cell < self.now.id.width) × (at ≡ unit * (self.now.id.width + 1) + 1 + cell) }
+        ensures { (token.new ≡ token.old) × (length (cells_of token.old.me.right) ≡ self.now.id.width) × (result ≡ slice_index (cells_of token.old.me.right) cell) }
+    {
+        let _ = unit;
+        let _ = cell;
+        unsafe { *self.base.add(at) }
+    }
+
+    /// Writes one cell of a unit that the token may write.
+    pub(crate) fn write(&self, token: &mut Token, unit: usize, at: usize, cell: usize, value: u64)
+        requires { (token.old.id ≡ self.now.id) × MayWrite token.old.me.right unit × (cell < self.now.id.width) × (at ≡ unit * (self.now.id.width + 1) + 1 + cell) }
+        ensures { (token.new.id ≡ token.old.id) × (token.new.number ≡ token.old.number) × (length (cells_of token.old.me.right) ≡ self.now.id.width) × (token.new.me ≡ written token.old.me cell value) }
+    {
+        let _ = unit;
+        let _ = cell;
+        unsafe {
+            let place = self.base.add(at);
+            *place = value;
+        }
+    }
+
     /// A new round of the cells begins, which the token may end: what it wrote may be shared.
     pub(crate) fn renew(&self, token: &mut Token)
         requires { token.old.id ≡ self.now.id }

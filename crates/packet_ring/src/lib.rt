@@ -4,6 +4,7 @@
 mod allocated;
 mod block;
 mod head;
+mod packets;
 mod send_lease;
 mod sending;
 mod slots;

@@ -1,0 +1,67 @@
+//! A packet in the cells of a unit: its length in the first, and its tag and its bytes in the others.
+ghost use Rattle.std.specs.Prelude.{◌≡◌, ◌+◌, ◌*◌, ◌^◌, ◌<◌, ◌≤◌, ◌∷◌, length, slice_index};
+ghost use Rattle.packet_ring.specs.Packing.{MayWritePacket, word_at};
+ghost use Rattle.packet_ring.specs.Steps.{MayWrite};
+
+use crate::block::{Shared, Token};
+
+/// A byte of a packet, which is its tag and then its bytes, or 0 past their end.
+fn byte(tag: u8, bytes: &[u8], place: usize) -> u8
+    ensures { result ≡ slice_index (tag ∷ bytes.now) place }
+{
+    if place == 0 {
+        tag
+    } else if place <= bytes.len() {
+        bytes[place - 1]
+    } else {
+        0
+    }
+}
+
+/// The eight bytes of a packet from a place on, the first of them lowest.
+fn word(tag: u8, bytes: &[u8], place: usize) -> u64
+    requires { place ≤ length bytes.now }
+    ensures { result ≡ word_at 8 (tag ∷ bytes.now) place }
+{
+    u64::from_le_bytes([
+        byte(tag, bytes, place),
+        byte(tag, bytes, place + 1),
+        byte(tag, bytes, place + 2),
+        byte(tag, bytes, place + 3),
+        byte(tag, bytes, place + 4),
+        byte(tag, bytes, place + 5),
+        byte(tag, bytes, place + 6),
+        byte(tag, bytes, place + 7),
+    ])
+}
+
+/// Writes a packet into the cells of a unit, of which the first lies `first` words from the block's
+/// start.
+pub(crate) fn put(
+    block: &Shared,
+    token: &mut Token,
+    unit: usize,
+    first: usize,
+    tag: u8,
+    bytes: &[u8],
+)
+    requires right { (token.old.id ≡ block.now.id) × MayWrite token.old.me.right unit }
+    requires first { (first ≡ unit * (block.now.id.width + 1) + 1) × (first + block.now.id.width < 2 ^ 64) }
+    requires fits { length bytes.now + 9 ≤ 8 * block.now.id.width }
+    ensures same { (token.new.id ≡ token.old.id) × (token.new.number ≡ token.old.number) }
+    ensures knows { (token.new.me.view ≡ token.old.me.view) × (token.new.me.seen ≡ token.old.me.seen) }
+    ensures packet { MayWritePacket token.new.me.right unit (tag ∷ bytes.now) }
+{
+    block.write(token, unit, first, 0, bytes.len() as u64 + 1);
+    let mut cell = 0;
+    while 8 * cell <= bytes.len() {
+        block.write(
+            token,
+            unit,
+            first + 1 + cell,
+            1 + cell,
+            word(tag, bytes, 8 * cell),
+        );
+        cell += 1;
+    }
+}
