@@ -16,3 +16,4 @@ pub mod Finished
 pub mod Settling
 pub mod Unpacking
 pub mod Putting
+pub mod Getting

@@ -1,7 +1,8 @@
 //! A packet in the cells of a unit: its length in the first, and its tag and its bytes in the others.
-ghost use Rattle.std.specs.Prelude.{◌≡◌, ◌+◌, ◌*◌, ◌^◌, ◌<◌, ◌≤◌, ◌∷◌, length, slice_index};
+ghost use Rattle.std.specs.Prelude.{◌≡◌, ◌+◌, ◌*◌, ◌^◌, ◌<◌, ◌≤◌, ◌∷◌, length, slice_index, take};
 ghost use Rattle.packet_ring.specs.Packing.{MayWritePacket, word_at};
-ghost use Rattle.packet_ring.specs.Steps.{MayWrite};
+ghost use Rattle.packet_ring.specs.Steps.{HasPacket, MayRead, MayWrite, next_packet};
+ghost use Rattle.packet_ring.specs.Table.{cells_of};
 
 use crate::block::{Shared, Token};
 
@@ -64,4 +65,38 @@ pub(crate) fn put(
         );
         cell += 1;
     }
+}
+
+/// Copies the packet in the cells of a unit into the buffer, and answers its tag and how many bytes
+/// it has.
+pub(crate) fn get(
+    block: &Shared,
+    token: &mut Token,
+    unit: usize,
+    first: usize,
+    buf: &mut [u8],
+) -> (u8, usize)
+    requires right { (token.old.id ≡ block.now.id) × MayRead token.old.me.right unit }
+    requires first { (first ≡ unit * (block.now.id.width + 1) + 1) × (first + block.now.id.width < 2 ^ 64) × (1 < block.now.id.width) }
+    requires packet { HasPacket (cells_of token.old.me.right) (next_packet token.old.me) }
+    requires room { (1 ≤ length (next_packet token.old.me)) × (length (next_packet token.old.me) ≤ length buf.old + 1) }
+    ensures same { token.new ≡ token.old }
+    ensures packet { result.0 ∷ take result.1 buf.new ≡ next_packet token.old.me }
+    ensures room { (result.1 ≤ length buf.old) × (length buf.new ≡ length buf.old) }
+{
+    let len = block.read(token, unit, first, 0) as usize;
+    let mut word = block.read(token, unit, first + 1, 1);
+    let tag = (word % 256) as u8;
+    let mut copied = 0;
+    while copied + 1 < len {
+        if (copied + 1) % 8 == 0 {
+            let cell = 1 + (copied + 1) / 8;
+            word = block.read(token, unit, first + cell, cell);
+        } else {
+            word /= 256;
+        }
+        buf[copied] = (word % 256) as u8;
+        copied += 1;
+    }
+    (tag, len - 1)
 }
