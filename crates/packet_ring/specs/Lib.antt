@@ -3,3 +3,4 @@ pub mod Lent
 pub mod Rule
 pub mod Steps
 pub mod Packing
+pub mod Tokens

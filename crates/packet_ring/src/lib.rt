@@ -5,6 +5,7 @@ mod allocated;
 mod block;
 mod head;
 mod packets;
+mod publishing;
 mod send_lease;
 mod sending;
 mod slots;

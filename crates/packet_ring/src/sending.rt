@@ -1,15 +1,19 @@
 //! The steps of the publisher on a slot's word: each is one step of the ring's core.
-ghost use Rattle.std.specs.Prelude.{◌≡◌, ◌+◌, ◌-◌, ◌*◌, ◌%◌, ◌^◌, ◌<◌, ℕ, List, false, length};
+ghost use Rattle.std.specs.Prelude.{◌≡◌, ◌+◌, ◌-◌, ◌*◌, ◌%◌, ◌^◌, ◌<◌, ℕ, List, [], false, length};
 ghost use Rattle.ring_steps.specs.declared.views.PublisherPhase.TheVariants as publishing;
 ghost use Rattle.packet_ring.specs.Steps.{Begins, Finishes, IsPublisher, MayEnd, log_of, publisher_of};
 ghost use Rattle.packet_ring.specs.Table.{no_right};
 
 use crate::block::{Play, Shared, Token};
-use std::marker::PhantomData;
+use std::marker::{Brand, PhantomData};
 
-/// Which packet is sent. Each call of a begin picks it.
+/// Which packet is sent. A call of a begin at `Brand` picks the one that it is given.
 pub(crate) trait Sends {
     ghost packet: { List ℕ };
+}
+
+impl Sends for Brand {
+    ghost packet = { [] };
 }
 
 struct Beginning<N: Sends> {
@@ -26,13 +30,16 @@ impl Play for Finishing {
     ghost then = { λ at me found next. Finishes (log_of me.view) (publisher_of me.view) me found next };
 }
 
-/// The begin of the slot where the next packet goes, with the word that the publisher knows there.
+/// The begin of the slot where the next packet goes, with the word that the publisher knows there. The
+/// packet is told for the proof alone.
 pub(crate) fn begin<N: Sends>(
     block: &Shared,
     token: &mut Token,
     unit: usize,
     at: usize,
     known: u64,
+    tag: u8,
+    bytes: &[u8],
 ) -> u64
     requires same { (token.old.id ≡ block.now.id) × (1 < block.now.id.units) }
     requires publisher { IsPublisher token.old.number token.old.me publishing.Between × (token.old.me.right ≡ no_right) × ((publisher_of token.old.me.view).closed ≡ false) }
@@ -41,6 +48,8 @@ pub(crate) fn begin<N: Sends>(
     ensures same { (token.new.id ≡ token.old.id) × (token.new.number ≡ token.old.number) }
     ensures step { Begins unit (log_of token.old.me.view) (publisher_of token.old.me.view) N.packet known token.old.me result token.new.me }
 {
+    let _ = tag;
+    let _ = bytes;
     block.compare_exchange::<Beginning<N>>(token, unit, at, known, known + 65536)
 }
 
