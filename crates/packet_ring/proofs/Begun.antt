@@ -20,19 +20,22 @@ use Rattle.ring_steps.proofs.Places.{at_set, place_within}
 use Rattle.ring_steps.proofs.Begins.{begin_keeps, refused_step}
 use Rattle.ring_steps.proofs.Bits.{known_bits, begin_bits, pins_fit, words_apart}
 use Rattle.packet_ring.specs.Table.{State, Home, away, home, Right, no_right, Act, keeps, begins, homes_after, stepped, Goes, Allows}
-use Rattle.packet_ring.specs.Rule.{View, Knows, Holds, Fits, HomeFits, HasCells, hold_of, holders}
+use Rattle.packet_ring.specs.Rule.{Limits, IsSized, IsPending, View, Knows, Holds, Fits, HomeFits, HasCells, hold_of, holders}
 use Rattle.packet_ring.specs.Steps.{Begins}
 use Rattle.packet_ring.proofs.Heads.{map_set, set_same, units_of, publisher_there}
 use Rattle.packet_ring.proofs.Pinned.{word_at, at_home, home_there, elem_within}
 
 -- a step by the publisher on the word of the slot at place j, which changes that slot and the publisher's view
-pub written_kept : (s : Ring.State) (t : State View (List ℕ)) → Fits s t → (j : ℕ) (p : Publisher) (b : Slot) (v : ℕ) (r : Right) (a : Act) → Invariant (with_publisher (with_slot s j b) p) → v ≡ word_bits b.word
-    → ((k : ℕ) → k ≤ s.keep → HomeFits (with_publisher (with_slot s j b) p) k (get_or (homes_after t.homes r a) (suc k) away)) → Holds (stepped t (suc j) v 0 r (inl (s.log, p)) a t.log)
-written_kept s t fits j p b v r a sound bits homes = (
+pub written_kept : {L : Limits} (s : Ring.State) (t : State View (List ℕ)) → Fits L s t → (j : ℕ) (p : Publisher) (b : Slot) (v : ℕ) (r : Right) (a : Act) → IsPending L.1 p.phase p.packet → Invariant (with_publisher (with_slot s j b) p) → v ≡ word_bits b.word
+    → ((k : ℕ) → k ≤ s.keep → HomeFits (with_publisher (with_slot s j b) p) k (get_or (homes_after t.homes r a) (suc k) away)) → Holds L (stepped t (suc j) v 0 r (inl (s.log, p)) a t.log)
+written_kept s t fits j p b v r a pending sound bits homes = (
   with_publisher (with_slot s j b) p,
   record {
     sound = sound;
     few = fits.few;
+    many = fits.many;
+    packets = fits.packets;
+    pending = pending;
     short = fits.short;
     words = ap (λ (ws : List ℕ). set ws (suc j) v) fits.words ∙ ap (λ (ws : List ℕ). head_bits s.head ∷ ws) (ap (set (map (λ (x : Slot). word_bits x.word) s.slots) j) bits ∙ map_set (λ (x : Slot). word_bits x.word) s.slots j b);
     views = ap (λ (vs : List View). set vs 0 (inl (s.log, p))) fits.views;
@@ -63,8 +66,8 @@ pub other_home : (s : Ring.State) (j : ℕ) (b : Slot) (p : Publisher) (k : ℕ)
 other_home s j b p k away e fit = ap (λ (u : Slot). u.word.writing) e ∙ fit
 other_home s j b p k (home m c) e fit = (ap (λ (u : Slot). u.word.writing) e ∙ fit.0, fit.1, subst (HasCells c) (sym e) fit.2)
 
-module _ (s : Ring.State) (t : State View (List ℕ)) (fits : Fits s t) (q : List ℕ) (seen : List (List ℕ)) (pre : IsPrefix seen t.log)
-    (within : s.publisher.phase ≡ publishing.Between) (open_ : s.publisher.closed ≡ false) where
+module _ {L : Limits} (s : Ring.State) (t : State View (List ℕ)) (fits : Fits L s t) (q : List ℕ) (seen : List (List ℕ)) (pre : IsPrefix seen t.log)
+    (within : s.publisher.phase ≡ publishing.Between) (open_ : s.publisher.closed ≡ false) (fit : IsSized L.1 q) where
   abbrev j : ℕ
   j = next_place s
 
@@ -87,12 +90,12 @@ module _ (s : Ring.State) (t : State View (List ℕ)) (fits : Fits s t) (q : Lis
   found = ap (λ (ws : List ℕ). get_or ws (suc j) 0) fits.words ∙ word_at s.slots j
 
   few_pins : w.pins < 65536
-  few_pins = let p = pins_fit s j fits.sound near in let f = fits.few in omega arith
+  few_pins = let p = pins_fit s j fits.sound near in let f = fits.few in let g = fits.many in omega arith
 
   sound_by : (c : Bool) → is_known s w ≡ c → Invariant (if c then begun s q else refused s).state
   sound_by c is = subst (λ (d : Bool). Invariant (if d then begun s q else refused s).state) is (begin_keeps s q fits.sound within open_)
 
-  begin_goes : (c : Bool) → is_known s w ≡ c → Goes Holds t 0 me (suc j) swap (Begins (suc j) s.log s.publisher q known me)
+  begin_goes : (c : Bool) → is_known s w ≡ c → Goes (Holds L) t 0 me (suc j) swap (Begins L.0 (suc j) s.log s.publisher q known me)
   begin_goes false is =
       let p' : Publisher = record s.publisher { failed = s.publisher.failed + 1; pins = w.pins } in let both = known_bits s w few_pins in
       let not : get_or t.words (suc j) 0 ≢ known = λ e. let t = both.1 (sym found ∙ e) in absurd (cc) in
@@ -111,6 +114,9 @@ module _ (s : Ring.State) (t : State View (List ℕ)) (fits : Fits s t) (q : Lis
           record {
             sound = sound;
             few = fits.few;
+            many = fits.many;
+            packets = fits.packets;
+            pending = fits.pending;
             short = fits.short;
             words = ap (set t.words (suc j)) kept ∙ set_same t.words (suc j) ∙ fits.words;
             views = ap (λ (vs : List View). set vs 0 (inl (s.log, p'))) fits.views;
@@ -118,7 +124,7 @@ module _ (s : Ring.State) (t : State View (List ℕ)) (fits : Fits s t) (q : Lis
             homes = λ k low. same_home s p' k (get_or t.homes (suc k) away) (fits.homes k low);
           },
         ),
-        record { word = w; bits = found; begun = λ e. absurd (not e); refused = λ e. (refl, refl, saw.some, (let most = saw.within in let few = fits.few in omega arith)); grows = pre },
+        record { word = w; bits = found; begun = λ e. absurd (not e); refused = λ e. (refl, refl, saw.some, (let most = saw.within in let few = fits.few in omega arith), fits.many); grows = pre },
       )
   begin_goes true is =
       let p' : Publisher = record s.publisher { phase = publishing.Begun; packet = q; written = 0 } in let b : Slot = record (slot s j) { word = record w { writing = true } } in let s' : Ring.State = with_publisher (with_slot s j b) p' in
@@ -140,19 +146,19 @@ module _ (s : Ring.State) (t : State View (List ℕ)) (fits : Fits s t) (q : Lis
         elem,
         prefix_refl t.log,
         prefix_refl t.log,
-        written_kept s t fits j p' b (swap (get_or t.words (suc j) 0)) no_right (begins (suc j) c) sound (swapped ∙ sym bits) homes',
+        written_kept s t fits j p' b (swap (get_or t.words (suc j) 0)) no_right (begins (suc j) c) fit sound (swapped ∙ sym bits) homes',
         record { word = w; bits = found; begun = λ f. (c, refl, refl); refused = λ f. absurd (f hit); grows = pre },
       )
 
-pub begin_allows : (units keep : ℕ) → keep + 2 ≡ units → (log : List (List ℕ)) (p : Publisher) (q : List ℕ) (seen : List (List ℕ)) → p.phase ≡ publishing.Between → p.closed ≡ false
+pub begin_allows : {L : Limits} (units keep : ℕ) → keep + 2 ≡ units → (log : List (List ℕ)) (p : Publisher) (q : List ℕ) (seen : List (List ℕ)) → p.phase ≡ publishing.Between → p.closed ≡ false → IsSized L.1 q
     → let me : Knows = record { view = inl (log, p); right = no_right; seen = seen } in let unit = suc (length log % (keep + 1)) in let known = 131072 * (length log - keep) in
-    Allows Holds units 0 me unit (λ m. either (eqb m known) (known + 2 ^ 16) m) (Begins unit log p q known me)
-begin_allows units keep size log p q seen within open_ t held long rooms at pre small =
-    let s : Ring.State = held.0 in let fits : Fits s t = held.1 in let many = units_of s t fits units long in let same : s.keep ≡ keep = omega arith in
+    Allows (Holds L) units 0 me unit (λ m. either (eqb m known) (known + 2 ^ 16) m) (Begins L.0 unit log p q known me)
+begin_allows {L = L} units keep size log p q seen within open_ fit t held long rooms at pre small =
+    let s : Ring.State = held.0 in let fits : Fits L s t = held.1 in let many = units_of s t fits units long in let same : s.keep ≡ keep = omega arith in
     let e = publisher_there s t fits log p (record { view = inl (log, p); right = no_right; seen = seen }) refl at in
     let Out : ℕ → ℕ → List (List ℕ) → Publisher → Type 0 = λ k known l r. let m : Knows = record { view = inl (l, r); right = no_right; seen = seen } in let unit = suc (length l % (k + 1)) in
-    Goes Holds t 0 m unit (λ n. either (eqb n known) (known + 2 ^ 16) n) (Begins unit l r q known m) in
-    let base = begin_goes s t fits q seen pre (ap (λ (r : Publisher). r.phase) e.1 ∙ within) (ap (λ (r : Publisher). r.closed) e.1 ∙ open_) (is_known s (word s (next_place s))) refl in
+    Goes (Holds L) t 0 m unit (λ n. either (eqb n known) (known + 2 ^ 16) n) (Begins L.0 unit l r q known m) in
+    let base = begin_goes s t fits q seen pre (ap (λ (r : Publisher). r.phase) e.1 ∙ within) (ap (λ (r : Publisher). r.closed) e.1 ∙ open_) fit (is_known s (word s (next_place s))) refl in
     let number : word_bits (known_word s) ≡ 131072 * (length log - keep) = let n : length s.log ≡ length log = ap length e.0 in omega arith in
     subst (λ (r : Publisher). Out keep (131072 * (length log - keep)) log r) e.1 (subst (λ (l : List (List ℕ)). Out keep (131072 * (length log - keep)) l s.publisher) e.0
     (subst (λ (k : ℕ). Out k (131072 * (length log - keep)) s.log s.publisher) same (subst (λ (n : ℕ). Out s.keep n s.log s.publisher) number base)))

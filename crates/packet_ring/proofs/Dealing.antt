@@ -170,9 +170,9 @@ module _ {M : Type 1} {𝓤 : Ura M} (𝓛 : Logic 𝓤) where
   bytes_of w us wide = widths (length us) w ∙ ap (λ (n : ℕ). n * 8) (sym (length_flat w us wide))
 
   module _ {V E : Type 0} (cv : Coded V) (ce : Coded E) (holds : State V E → Type 0) (p : Ptr) where
-    module _ (w : ℕ) (us : List (ℕ × List ℕ)) (vs : List V) (v₀ : V) where
+    module _ (w : ℕ) (L : ℕ × ℕ) (us : List (ℕ × List ℕ)) (vs : List V) (v₀ : V) where
       abbrev Size : BlockId → Type 0
-      Size z = (z.units ≡ length us) × (z.width ≡ w) × InBlock p
+      Size z = (z.units ≡ length us) × (z.width ≡ w) × InBlock p × (z.limits ≡ L)
 
       abbrev pub Dealt : BlockId → Pr
       Dealt z = guard 𝓤 (Size z) (⟦ block_owns cv.code ce holds p z ⟧ ∗ ⟦ waiting cv.code ce z 0 vs ⟧)
@@ -185,7 +185,7 @@ module _ {M : Type 1} {𝓤 : Ura M} (𝓛 : Logic 𝓤) where
           use2 𝓛 (later ((‵ (row (d a w b) b o (map (λ u. u.0) us)) ⊛ some (λ (ns : List (ℕ × ℕ)). ‵ (laid a w b us ns o))) ⊛ ‵ (flft κ' full_share))) (lends a w b full_share us o wide) $ await ! tt $ split ! $ split ! $ move ! (1 ∷ []) $ pick ! (λ ns.
           use0 𝓛 (later (some (λ (g : ℕ). ‵ (unused cv.code g 0 v₀)))) (via 𝓤 _ (entries_new halved 𝓛 0 (λ _. (full_share, cv.code v₀))) (basic 𝓛 (ex 𝓤 (λ (g : ℕ). ⟦ unused cv.code g 0 v₀ ⟧)))) $ await ! tt $ pick ! (λ g.
           use0 𝓛 (later (some (λ (l : ℕ). ‵ (latest (prefixes ce) full_share l [])))) (via 𝓤 _ (latest_new (prefixes ce) 𝓛 []) (basic 𝓛 (ex 𝓤 (λ (l : ℕ). ⟦ latest (prefixes ce) full_share l [] ⟧)))) $ await ! tt $ pick ! (λ l.
-          let z : BlockId = record { units = length us; width = w; views_name = g; log_name = l; atom = a; block = b; offset = o; names = ns } in let I : Fml = inner cv.code ce holds p z in
+          let z : BlockId = record { units = length us; width = w; limits = L; views_name = g; log_name = l; atom = a; block = b; offset = o; names = ns } in let I : Fml = inner cv.code ce holds p z in
           use1 𝓛 (‵ (latest (prefixes ce) full_share l []) ⊛ ‵ (none_seen cv ce z)) (latest_shows (prefixes ce) 𝓛 full_share l [] [] (prefix_refl [])) $ split ! $ move ! (2 ∷ []) $
           use1 𝓛 (later (‵ (roster cv.code g 0 vs) ⊛ ‵ (tokens cv ce z 0 vs))) (via 𝓤 _ (enrolls cv ce z vs 0 v₀) (basic 𝓛 (⟦ roster cv.code g 0 vs ⟧ ∗ ⟦ tokens cv ce z 0 vs ⟧))) $ await ! tt $ split ! $
           move ! (3 ∷ 1 ∷ []) $ use2 𝓛 (‵ (waiting cv.code ce z 0 vs)) (hands cv ce z vs 0) $ move ! (3 ∷ []) $
@@ -193,7 +193,7 @@ module _ {M : Type 1} {𝓤 : Ura M} (𝓛 : Logic 𝓤) where
           move ! (3 ∷ 4 ∷ []) $ fjoin ! $ move ! (1 ∷ 0 ∷ []) $ fjoin ! $ nothing ! $ fpack ! (Keeps cv.code ce holds p z s₀) (λ _. ftrue) (good, length-map us (λ u. u.0), length-map us (λ u. home 0 u.1)) $
           move ! (4 ∷ 1 ∷ 0 ∷ []) $ fjoin3 ! $ fpack ! (State V E) (standing cv.code ce holds p z) s₀ $ bor_new ! tt κ' $
           use1 𝓛 (later (‵ (finv (fbor κ' I)))) (𝓛.invs.inv_new (fbor κ' I)) $ await ! tt $ nothing ! $ fpack ! (Placed p z) (λ _. ftrue) (at_block p fit.0, subst (λ (n : ℕ). n < 2 ^ 63) (sym (bytes_of w us wide)) fit.1) $ fjoin ! $
-          move ! (1 ∷ 2 ∷ []) $ fjoin ! $ move ! (3 ∷ 1 ∷ 0 ∷ []) $ fjoin3 ! $ now ! $ show ! Dealt z $ check ! (refl, refl, fit.0) $ done !)))))
+          move ! (1 ∷ 2 ∷ []) $ fjoin ! $ move ! (3 ∷ 1 ∷ 0 ∷ []) $ fjoin3 ! $ now ! $ show ! Dealt z $ check ! (refl, refl, fit.0, refl) $ done !)))))
 
     module _ (z : BlockId) where
       abbrev pub size : ℕ

@@ -9,6 +9,7 @@ use Rattle.std.proofs.Math.Nat.{mod-eq_of_lt}
 use Rattle.std.proofs.lemmas.Bool.Decides.{eqb_tells}
 use lib.ListN.{get_elem?, take, drop}
 use Rattle.ring_steps.specs.declared.views.Publisher.{Publisher}
+use Rattle.ring_steps.specs.declared.views.PublisherPhase.{PublisherPhase}
 use Rattle.ring_steps.specs.declared.views.PublisherPhase.TheVariants as publishing
 use Rattle.ring_steps.specs.declared.views.Seat.{Seat}
 use Rattle.ring_steps.specs.declared.views.SeatPhase.{SeatPhase}
@@ -25,7 +26,7 @@ use Rattle.ring_steps.proofs.Moves.{write_all_keeps}
 use Rattle.ring_steps.proofs.Writing.{finish_keeps}
 use Rattle.ring_steps.proofs.Bits.{finish_bits, word_fits}
 use Rattle.packet_ring.specs.Table.{State, Home, away, home, may_end, finishes, Goes, Allows}
-use Rattle.packet_ring.specs.Rule.{View, Knows, Holds, Fits, HomeFits, HasCells, hold_of, holders}
+use Rattle.packet_ring.specs.Rule.{Limits, IsPending, View, Knows, Holds, Fits, HomeFits, HasCells, hold_of, holders}
 use Rattle.packet_ring.specs.Steps.{Finishes, HasPacket}
 use Rattle.packet_ring.proofs.Heads.{units_of, publisher_there}
 use Rattle.packet_ring.proofs.Pinned.{word_at, set_twice}
@@ -69,7 +70,7 @@ none_hold : (keep : ℕ) (xs : List Seat) (j : ℕ) → ((i : ℕ) (x : Seat) �
 none_hold keep [] j f = refl
 none_hold keep (x ∷ xs) j f = let a = f 0 x refl in let b = none_hold keep xs j (λ i y e. f (suc i) y e) in omega arith
 
-module _ (s : Ring.State) (t : State View (List ℕ)) (fits : Fits s t) (rooms : length t.homes ≡ s.keep + 2) (c : List ℕ) (seen : List (List ℕ)) (pre : IsPrefix seen t.log)
+module _ {L : Limits} (s : Ring.State) (t : State View (List ℕ)) (fits : Fits L s t) (rooms : length t.homes ≡ s.keep + 2) (c : List ℕ) (seen : List (List ℕ)) (pre : IsPrefix seen t.log)
     (within : s.publisher.phase ≡ publishing.Begun) (has : HasPacket c s.publisher.packet) (k : ℕ) (adds : k ≡ 131072 * (length s.log + 1 - floor s (length s.log)) - 65536) where
   abbrev j : ℕ
   j = next_place s
@@ -123,7 +124,7 @@ module _ (s : Ring.State) (t : State View (List ℕ)) (fits : Fits s t) (rooms :
       let a : word_bits (word (finish s₁).state j) ≡ word_bits (done_ full).word = ap (λ (u : Ring.State). word_bits (word u j)) arrives ∙ ap (λ (x : Slot). word_bits x.word) there in
       let b : word_bits (word s₁ j) ≡ word_bits (word s j) = ap (λ (x : Slot). word_bits x.word) filled in
       let sum : get_or t.words (suc j) 0 + k ≡ word_bits (done_ full).word = omega arith in
-      let small : word_bits (done_ full).word < 2 ^ 64 = subst (λ (x : Slot). word_bits x.word < 2 ^ 64) there (word_fits s' j sound fits.few fits.short near) in
+      let small : word_bits (done_ full).word < 2 ^ 64 = subst (λ (x : Slot). word_bits x.word < 2 ^ 64) there (word_fits s' j sound (let f = fits.few in let g = fits.many in omega arith) fits.short near) in
       ap (λ (m : ℕ). m % 2 ^ 64) sum ∙ mod-eq_of_lt small
 
   writes : (word s j).writing ≡ true
@@ -132,7 +133,7 @@ module _ (s : Ring.State) (t : State View (List ℕ)) (fits : Fits s t) (rooms :
   idle : 0 ≡ holders s.keep s.seats j
   idle = none_hold s.keep s.seats j (λ i x at. hold_else x.phase (cursor x % (s.keep + 1)) j (λ h e. let n = fits.sound.slots.held i x at h in let f : (word s j).writing ≡ false = subst (λ (l : ℕ). (word s l).writing ≡ false) e n.1 in let w : (word s j).writing ≡ true = writes in absurd (cc)))
 
-  pub finish_goes : Goes Holds t 0 me (suc j) (λ m. (m + k) % 2 ^ 64) (Finishes s.log s.publisher me)
+  pub finish_goes : Goes (Holds L) t 0 me (suc j) (λ m. (m + k) % 2 ^ 64) (Finishes s.log s.publisher me)
   finish_goes =
       let elem = away_there t.homes (suc j) (let n = near in omega arith) (is_away s j (get_or t.homes (suc j) away) (fits.homes j near) writes) in
       let now : HomeFits s' j (home 0 c) = (ap (λ (x : Slot). x.word.writing) there, idle, subst (HasCells c) (sym there) (sym has.size, take_front q (drop (length q) (slot s j).bytes) ∙ sym has.bytes)) in
@@ -147,18 +148,18 @@ module _ (s : Ring.State) (t : State View (List ℕ)) (fits : Fits s t) (rooms :
         elem,
         prefix_refl t.log,
         prefix_refl t.log,
-        written_kept s t fits j p' (done_ full) ((get_or t.words (suc j) 0 + k) % 2 ^ 64) (may_end (suc j) c) finishes sound bits homes',
+        written_kept s t fits j p' (done_ full) ((get_or t.words (suc j) 0 + k) % 2 ^ 64) (may_end (suc j) c) finishes (subst (λ (φ : PublisherPhase). IsPending L.1 φ q) within fits.pending) sound bits homes',
         record { view = refl; right = refl; grows = pre },
       )
 
-pub finish_allows : (units keep : ℕ) → keep + 2 ≡ units → (log : List (List ℕ)) (p : Publisher) (c : List ℕ) (seen : List (List ℕ)) (k : ℕ) → p.phase ≡ publishing.Begun → HasPacket c p.packet
+pub finish_allows : {L : Limits} (units keep : ℕ) → keep + 2 ≡ units → (log : List (List ℕ)) (p : Publisher) (c : List ℕ) (seen : List (List ℕ)) (k : ℕ) → p.phase ≡ publishing.Begun → HasPacket c p.packet
     → k ≡ 131072 * (length log + 1 - (length log - keep)) - 65536
-    → let unit = suc (length log % (keep + 1)) in let me : Knows = record { view = inl (log, p); right = may_end unit c; seen = seen } in Allows Holds units 0 me unit (λ m. (m + k) % 2 ^ 64) (Finishes log p me)
-finish_allows units keep size log p c seen k within has adds t held long rooms at pre small =
-    let s : Ring.State = held.0 in let fits : Fits s t = held.1 in let many = units_of s t fits units long in let same : s.keep ≡ keep = omega arith in
+    → let unit = suc (length log % (keep + 1)) in let me : Knows = record { view = inl (log, p); right = may_end unit c; seen = seen } in Allows (Holds L) units 0 me unit (λ m. (m + k) % 2 ^ 64) (Finishes log p me)
+finish_allows {L = L} units keep size log p c seen k within has adds t held long rooms at pre small =
+    let s : Ring.State = held.0 in let fits : Fits L s t = held.1 in let many = units_of s t fits units long in let same : s.keep ≡ keep = omega arith in
     let e = publisher_there s t fits log p (record { view = inl (log, p); right = may_end (suc (length log % (keep + 1))) c; seen = seen }) refl at in
     let Out : ℕ → List (List ℕ) → Publisher → Type 0 = λ m l r. let unit = suc (length l % (m + 1)) in let me : Knows = record { view = inl (l, r); right = may_end unit c; seen = seen } in
-    Goes Holds t 0 me unit (λ n. (n + k) % 2 ^ 64) (Finishes l r me) in
+    Goes (Holds L) t 0 me unit (λ n. (n + k) % 2 ^ 64) (Finishes l r me) in
     let base = finish_goes s t fits (rooms ∙ sym many) c seen pre (ap (λ (r : Publisher). r.phase) e.1 ∙ within) (subst (λ (r : Publisher). HasPacket c r.packet) (sym e.1) has) k
     (let n : length s.log ≡ length log = ap length e.0 in omega arith) in
     subst (λ (r : Publisher). Out keep log r) e.1 (subst (λ (l : List (List ℕ)). Out keep l s.publisher) e.0 (subst (λ (m : ℕ). Out m s.log s.publisher) same base))

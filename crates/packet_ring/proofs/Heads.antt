@@ -9,6 +9,7 @@ use base.Growing.{prefix_refl}
 use lib.ListN.{get_elem?, length-map}
 use Rattle.ring_steps.specs.declared.words.Head.{Head}
 use Rattle.ring_steps.specs.declared.views.Publisher.{Publisher}
+use Rattle.ring_steps.specs.declared.views.PublisherPhase.{PublisherPhase}
 use Rattle.ring_steps.specs.declared.views.PublisherPhase.TheVariants as publishing
 use Rattle.ring_steps.specs.declared.views.Seat.{Seat}
 use Rattle.ring_steps.specs.declared.views.SeatPhase.{SeatPhase}
@@ -26,7 +27,7 @@ use Rattle.ring_steps.proofs.Loads.{attach_keeps, detach_keeps, first_load_keeps
 use Rattle.ring_steps.proofs.Writing.{append_keeps}
 use Rattle.ring_steps.proofs.Writing.{close_keeps}
 use Rattle.packet_ring.specs.Table.{State, Home, away, home, Right, keeps, stepped, Allows}
-use Rattle.packet_ring.specs.Rule.{View, Knows, Holds, Fits, HomeFits, hold_of, holders, words_of, publisher_view, seat_view}
+use Rattle.packet_ring.specs.Rule.{Limits, IsSized, IsPending, View, Knows, Holds, Fits, HomeFits, hold_of, holders, words_of, publisher_view, seat_view}
 use Rattle.packet_ring.specs.Steps.{looked, attached, detached, lost_to, first_seen, second_seen, Loads, Appends, Closes}
 
 -- ---- lists
@@ -72,14 +73,17 @@ homes_kept s i x y at same j away fit = fit
 homes_kept s i x y at same j (home m c) fit = (fit.0, fit.1 ∙ same_holders s.keep s.seats i x y j at (same j), fit.2)
 
 -- a step that leaves the words and the slots, and changes this seat's view, in which it holds no more and no less than before
-seat_kept : (s : Ring.State) (t : State View (List ℕ)) → Fits s t → (i : ℕ) (x y : Seat) (r : Right) → slice_get s.seats i ≡ Some x → Invariant (with_seat s i y)
+seat_kept : {L : Limits} (s : Ring.State) (t : State View (List ℕ)) → Fits L s t → (i : ℕ) (x y : Seat) (r : Right) → slice_get s.seats i ≡ Some x → Invariant (with_seat s i y)
     → ((j : ℕ) → hold_of x.phase (cursor x % (s.keep + 1)) j ≡ hold_of y.phase (cursor y % (s.keep + 1)) j)
-    → Holds (stepped t 0 (get_or t.words 0 0) (suc i) r (inr y) keeps t.log)
+    → Holds L (stepped t 0 (get_or t.words 0 0) (suc i) r (inr y) keeps t.log)
 seat_kept s t fits i x y r at sound same = (
   with_seat s i y,
   record {
     sound = sound;
-    few = subst (λ (n : ℕ). n ≤ 1024) (sym (length-set s.seats i y)) fits.few;
+    few = length-set s.seats i y ∙ fits.few;
+    many = fits.many;
+    packets = fits.packets;
+    pending = fits.pending;
     short = fits.short;
     words = set_same t.words 0 ∙ fits.words;
     views = ap (λ (vs : List View). set vs (suc i) (inr y)) fits.views ∙ ap (λ (vs : List View). publisher_view s ∷ vs) (map_set seat_view s.seats i y);
@@ -89,16 +93,16 @@ seat_kept s t fits i x y r at sound same = (
 )
 
 -- a block of a ring that keeps K packets has K + 2 units
-pub units_of : (s : Ring.State) (t : State View (List ℕ)) → Fits s t → (units : ℕ) → length t.words ≡ units → s.keep + 2 ≡ units
+pub units_of : {L : Limits} (s : Ring.State) (t : State View (List ℕ)) → Fits L s t → (units : ℕ) → length t.words ≡ units → s.keep + 2 ≡ units
 units_of s t fits units long = let n : length (words_of s) ≡ units = ap length (sym fits.words) ∙ long in let m : length (map (λ (x : Slot). word_bits x.word) s.slots) ≡ length s.slots = length-map s.slots (λ x. word_bits x.word) in
     let w : length s.slots ≡ s.keep + 1 = fits.sound.phases.width in omega arith
 
 module _ (phase : SeatPhase) (f : Head → Seat → Seat) (units : ℕ) (idle : (at j : ℕ) → 0 ≡ hold_of phase at j) (then_idle : (h : Head) (x : Seat) → x.phase ≡ phase → (at j : ℕ) → 0 ≡ hold_of (f h x).phase at j)
     (law : (s : Ring.State) (i : ℕ) (x : Seat) → s.keep + 2 ≡ units → Invariant s → slice_get s.seats i ≡ Some x → x.phase ≡ phase → Invariant (with_seat s i (f s.head x))) where
   -- a load of the head by a seat, where the core's law says that its new view keeps the invariant
-  pub loads_allow : (i : ℕ) (x : Seat) (me : Knows) → me.view ≡ inr x → x.phase ≡ phase → Allows Holds units (suc i) me 0 (λ n. n) (Loads f x me)
-  loads_allow i x me is within t held long rooms at pre small =
-      let s : Ring.State = held.0 in let fits : Fits s t = held.1 in let y : Seat = f s.head x in
+  pub loads_allow : {L : Limits} (i : ℕ) (x : Seat) (me : Knows) → me.view ≡ inr x → x.phase ≡ phase → Allows (Holds L) units (suc i) me 0 (λ n. n) (Loads f x me)
+  loads_allow {L = L} i x me is within t held long rooms at pre small =
+      let s : Ring.State = held.0 in let fits : Fits L s t = held.1 in let y : Seat = f s.head x in
       let there = seat_there s.seats i x (ap (λ (vs : List View). get_elem? vs (suc i)) (sym fits.views) ∙ at ∙ ap (λ (v : View). maybe.some v) is) in
       let same : (j : ℕ) → hold_of x.phase (cursor x % (s.keep + 1)) j ≡ hold_of y.phase (cursor y % (s.keep + 1)) j = λ j.
       sym (subst (λ (φ : SeatPhase). 0 ≡ hold_of φ (cursor x % (s.keep + 1)) j) (sym within) (idle (cursor x % (s.keep + 1)) j)) ∙ then_idle s.head x within (cursor y % (s.keep + 1)) j in (
@@ -114,14 +118,14 @@ module _ (phase : SeatPhase) (f : Head → Seat → Seat) (units : ℕ) (idle : 
       )
 
 -- an attachment and a detachment
-pub attaches : (units i : ℕ) (x : Seat) (me : Knows) → me.view ≡ inr x → x.phase ≡ seating.Out → Allows Holds units (suc i) me 0 (λ n. n) (Loads attached x me)
+pub attaches : {L : Limits} (units i : ℕ) (x : Seat) (me : Knows) → me.view ≡ inr x → x.phase ≡ seating.Out → Allows (Holds L) units (suc i) me 0 (λ n. n) (Loads attached x me)
 attaches units = loads_allow seating.Out attached units (λ at j. refl) (λ h x w at j. refl) (λ s i x k sound there within. attach_keeps s i x sound there within)
 
-pub detaches : (units i : ℕ) (x : Seat) (me : Knows) → me.view ≡ inr x → x.phase ≡ seating.Between → Allows Holds units (suc i) me 0 (λ n. n) (Loads detached x me)
+pub detaches : {L : Limits} (units i : ℕ) (x : Seat) (me : Knows) → me.view ≡ inr x → x.phase ≡ seating.Between → Allows (Holds L) units (suc i) me 0 (λ n. n) (Loads detached x me)
 detaches units = loads_allow seating.Between detached units (λ at j. refl) (λ h x w at j. refl) (λ s i x k sound there within. detach_keeps s i x sound there within)
 
 -- ---- the publisher
-pub publisher_there : (s : Ring.State) (t : State View (List ℕ)) → Fits s t → (log : List (List ℕ)) (p : Publisher) (me : Knows) → me.view ≡ inl (log, p) → get_elem? t.views 0 ≡ maybe.some me.view → (s.log ≡ log) × (s.publisher ≡ p)
+pub publisher_there : {L : Limits} (s : Ring.State) (t : State View (List ℕ)) → Fits L s t → (log : List (List ℕ)) (p : Publisher) (me : Knows) → me.view ≡ inl (log, p) → get_elem? t.views 0 ≡ maybe.some me.view → (s.log ≡ log) × (s.publisher ≡ p)
 publisher_there s t fits log p me is at = let e : publisher_view s ≡ inl (log, p) = some-injective (publisher_view s) (inl (log, p)) (ap (λ (vs : List View). get_elem? vs 0) (sym fits.views) ∙ at ∙ ap (λ (v : View). maybe.some v) is) in
     let known = λ (v : View). or_known log p v in (ap (λ (v : View). (known v).0) e, ap (λ (v : View). (known v).1) e)
 
@@ -130,13 +134,16 @@ homes_same s head log p j away fit = fit
 homes_same s head log p j (home m c) fit = fit
 
 -- a step that stores the head, and changes the publisher's view and the log, and leaves the slots and the seats
-publisher_kept : (s : Ring.State) (t : State View (List ℕ)) → Fits s t → (head : Head) (log : List (List ℕ)) (p : Publisher) (new : ℕ) (w : View) (r : Right) → Invariant (record s { head = head; log = log; publisher = p })
-    → length log ≤ 2 ^ 46 → new ≡ head_bits head → w ≡ inl (log, p) → Holds (stepped t 0 new 0 r w keeps log)
-publisher_kept s t fits head log p new w r sound short bits is = (
+publisher_kept : {L : Limits} (s : Ring.State) (t : State View (List ℕ)) → Fits L s t → (head : Head) (log : List (List ℕ)) (p : Publisher) (new : ℕ) (w : View) (r : Right) → Invariant (record s { head = head; log = log; publisher = p })
+    → length log ≤ 2 ^ 46 → ((n : ℕ) → n < length log → IsSized L.1 (get_or log n [])) → IsPending L.1 p.phase p.packet → new ≡ head_bits head → w ≡ inl (log, p) → Holds L (stepped t 0 new 0 r w keeps log)
+publisher_kept s t fits head log p new w r sound short packets pending bits is = (
   record s { head = head; log = log; publisher = p },
   record {
     sound = sound;
     few = fits.few;
+    many = fits.many;
+    packets = packets;
+    pending = pending;
     short = short;
     words = ap (λ (ws : List ℕ). set ws 0 new) fits.words ∙ ap (λ (n : ℕ). n ∷ map (λ (x : Slot). word_bits x.word) s.slots) bits;
     views = ap (λ (vs : List View). set vs 0 w) fits.views ∙ ap (λ (v : View). v ∷ map seat_view s.seats) is;
@@ -145,11 +152,18 @@ publisher_kept s t fits head log p new w r sound short bits is = (
   },
 )
 
+-- with this packet more each packet of the log is sized
+more_sized : (most : ℕ) (log : List (List ℕ)) (p : List ℕ) → ((n : ℕ) → n < length log → IsSized most (get_or log n [])) → IsSized most p → (n : ℕ) → n < length (log ++ p ∷ []) → IsSized most (get_or (log ++ p ∷ []) n [])
+more_sized most [] p h last zero l = last
+more_sized most [] p h last (suc n) l = absurd (omega arith)
+more_sized most (q ∷ log) p h last zero l = h 0 (omega arith)
+more_sized most (q ∷ log) p h last (suc n) l = more_sized most log p (λ k m. h (suc k) (omega arith)) last n (omega arith)
+
 -- an append
-pub appends : (units : ℕ) (log : List (List ℕ)) (p : Publisher) (me : Knows) (new : ℕ) → me.view ≡ inl (log, p) → p.phase ≡ publishing.Finished → length log < 2 ^ 46 → new ≡ 2 * (length log + 1)
-    → Allows Holds units 0 me 0 (λ _. new) (λ _. Appends log p me new)
-appends units log p me new is within short stored t held long rooms at pre small =
-    let s : Ring.State = held.0 in let fits : Fits s t = held.1 in let e = publisher_there s t fits log p me is at in let more : List (List ℕ) = s.log ++ s.publisher.packet ∷ [] in
+pub appends : {L : Limits} (units : ℕ) (log : List (List ℕ)) (p : Publisher) (me : Knows) (new : ℕ) → me.view ≡ inl (log, p) → p.phase ≡ publishing.Finished → length log < 2 ^ 46 → new ≡ 2 * (length log + 1)
+    → Allows (Holds L) units 0 me 0 (λ _. new) (λ _. Appends log p me new)
+appends {L = L} units log p me new is within short stored t held long rooms at pre small =
+    let s : Ring.State = held.0 in let fits : Fits L s t = held.1 in let e = publisher_there s t fits log p me is at in let more : List (List ℕ) = s.log ++ s.publisher.packet ∷ [] in
     let n : length s.log ≡ length log = ap length e.0 in let longer : length more ≡ length s.log + 1 = length-append s.log (s.publisher.packet ∷ []) in let all : t.log ≡ s.log = fits.log in
     let same : log ++ p.packet ∷ [] ≡ more = ap (λ (u : List (List ℕ) × Publisher). u.0 ++ u.1.packet ∷ []) {x = (log, p)} {y = (s.log, s.publisher)} (λ i. (sym e.0 i, sym e.1 i)) in
     let w : View = inl (log ++ p.packet ∷ [], record p { phase = publishing.Between; packet = [] }) in (
@@ -160,16 +174,16 @@ appends units log p me new is within short stored t held long rooms at pre small
       tt,
       (s.publisher.packet ∷ [], ap (λ (l : List (List ℕ)). l ++ s.publisher.packet ∷ []) all),
       prefix_refl more,
-      publisher_kept s t fits (append s).state.head more (append s).state.publisher new w me.right (append_keeps s fits.sound (ap (λ (q : Publisher). q.phase) e.1 ∙ within)) (omega arith) (stored ∙ (let r : 2 * (length log + 1) ≡ 0 + 2 * (length s.log + 1) = omega arith in r))
+      publisher_kept s t fits (append s).state.head more (append s).state.publisher new w me.right (append_keeps s fits.sound (ap (λ (q : Publisher). q.phase) e.1 ∙ within)) (omega arith) (more_sized L.1 s.log s.publisher.packet fits.packets (subst (λ (φ : PublisherPhase). IsPending L.1 φ s.publisher.packet) (ap (λ (q : Publisher). q.phase) e.1 ∙ within) fits.pending)) tt (stored ∙ (let r : 2 * (length log + 1) ≡ 0 + 2 * (length s.log + 1) = omega arith in r))
           (λ i. inl (same i, record (sym e.1 i) { phase = publishing.Between; packet = [] })),
       record { view = refl; right = refl; seen = sym same },
     )
 
 -- a close
-pub closes : (units : ℕ) (log : List (List ℕ)) (p : Publisher) (me : Knows) (new : ℕ) → me.view ≡ inl (log, p) → p.phase ≡ publishing.Between → new ≡ 2 * length log + 1
-    → Allows Holds units 0 me 0 (λ _. new) (λ _. Closes log p me new)
-closes units log p me new is within stored t held long rooms at pre small =
-    let s : Ring.State = held.0 in let fits : Fits s t = held.1 in let e = publisher_there s t fits log p me is at in let n : length s.log ≡ length log = ap length e.0 in
+pub closes : {L : Limits} (units : ℕ) (log : List (List ℕ)) (p : Publisher) (me : Knows) (new : ℕ) → me.view ≡ inl (log, p) → p.phase ≡ publishing.Between → new ≡ 2 * length log + 1
+    → Allows (Holds L) units 0 me 0 (λ _. new) (λ _. Closes log p me new)
+closes {L = L} units log p me new is within stored t held long rooms at pre small =
+    let s : Ring.State = held.0 in let fits : Fits L s t = held.1 in let e = publisher_there s t fits log p me is at in let n : length s.log ≡ length log = ap length e.0 in
     let w : View = inl (log, record p { closed = true }) in (
       w,
       keeps,
@@ -178,7 +192,7 @@ closes units log p me new is within stored t held long rooms at pre small =
       tt,
       subst (λ (l : List (List ℕ)). IsPrefix l s.log) (sym fits.log) (prefix_refl s.log),
       prefix_refl s.log,
-      publisher_kept s t fits (close s).state.head s.log (close s).state.publisher new w me.right (close_keeps s fits.sound (ap (λ (q : Publisher). q.phase) e.1 ∙ within)) fits.short (stored ∙ (let r : 2 * length log + 1 ≡ 1 + 2 * length s.log = omega arith in r))
+      publisher_kept s t fits (close s).state.head s.log (close s).state.publisher new w me.right (close_keeps s fits.sound (ap (λ (q : Publisher). q.phase) e.1 ∙ within)) fits.short fits.packets fits.pending (stored ∙ (let r : 2 * length log + 1 ≡ 1 + 2 * length s.log = omega arith in r))
           (λ i. inl (sym e.0 i, record (sym e.1 i) { closed = true })),
       record { view = refl; right = refl; seen = e.0 },
     )
@@ -204,21 +218,21 @@ module _ (keep units : ℕ) (size : keep + 2 ≡ units) where
       subst Invariant (first_state s i x (s.head.length == cursor x) (nat_lt (cursor x) (s.head.length - s.keep)) e ∙ ap (λ (m : ℕ). with_seat s i (by_tests (s.head.length == cursor x) (nat_lt (cursor x) (s.head.length - m)) s.head x)) e)
       (first_load_keeps s i x sound there within)
 
-  pub first_loads : (i : ℕ) (x : Seat) (me : Knows) → me.view ≡ inr x → x.phase ≡ seating.Between → Allows Holds units (suc i) me 0 (λ n. n) (Loads (first_seen keep) x me)
+  pub first_loads : {L : Limits} (i : ℕ) (x : Seat) (me : Knows) → me.view ≡ inr x → x.phase ≡ seating.Between → Allows (Holds L) units (suc i) me 0 (λ n. n) (Loads (first_seen keep) x me)
   first_loads = loads_allow seating.Between (first_seen keep) units (λ at j. refl) (λ h x w at j. first_idle h x (h.length == cursor x) (nat_lt (cursor x) (h.length - keep)) w at j) first_keeps
 
   second_keeps : (s : Ring.State) (i : ℕ) (x : Seat) → s.keep + 2 ≡ units → Invariant s → slice_get s.seats i ≡ Some x → x.phase ≡ seating.Missed → Invariant (with_seat s i (second_seen keep s.head x))
   second_keeps s i x k sound there within = let e : s.keep ≡ keep = omega arith in subst (λ (m : ℕ). Invariant (with_seat s i (second_seen m s.head x))) e (second_load_keeps s i x sound there within)
 
-  pub second_loads : (i : ℕ) (x : Seat) (me : Knows) → me.view ≡ inr x → x.phase ≡ seating.Missed → Allows Holds units (suc i) me 0 (λ n. n) (Loads (second_seen keep) x me)
+  pub second_loads : {L : Limits} (i : ℕ) (x : Seat) (me : Knows) → me.view ≡ inr x → x.phase ≡ seating.Missed → Allows (Holds L) units (suc i) me 0 (λ n. n) (Loads (second_seen keep) x me)
   second_loads = loads_allow seating.Missed (second_seen keep) units (λ at j. refl) (λ h x w at j. refl) second_keeps
 
 look_keeps : (s : Ring.State) (i : ℕ) (x : Seat) (φ : SeatPhase) → IsIdle φ → Invariant s → slice_get s.seats i ≡ Some x → x.phase ≡ φ → Invariant (with_seat s i (looked s.head x))
 look_keeps s i x φ idle sound there within = let o : Outcome = record { state = with_seat s i (looked s.head x); saw = saw.Load s.head; answer = None } in
     ring_step_keeps s (by_look i) o (record { view = x; there = there; idle = subst IsIdle (sym within) idle; acts = refl }) sound
 
-pub looks_out : (units i : ℕ) (x : Seat) (me : Knows) → me.view ≡ inr x → x.phase ≡ seating.Out → Allows Holds units (suc i) me 0 (λ n. n) (Loads looked x me)
+pub looks_out : {L : Limits} (units i : ℕ) (x : Seat) (me : Knows) → me.view ≡ inr x → x.phase ≡ seating.Out → Allows (Holds L) units (suc i) me 0 (λ n. n) (Loads looked x me)
 looks_out units = loads_allow seating.Out looked units (λ at j. refl) (λ h x w at j. subst (λ (φ : SeatPhase). 0 ≡ hold_of φ at j) (sym w) refl) (λ s i x k sound there within. look_keeps s i x seating.Out tt sound there within)
 
-pub looks_in : (units i : ℕ) (x : Seat) (me : Knows) → me.view ≡ inr x → x.phase ≡ seating.Between → Allows Holds units (suc i) me 0 (λ n. n) (Loads looked x me)
+pub looks_in : {L : Limits} (units i : ℕ) (x : Seat) (me : Knows) → me.view ≡ inr x → x.phase ≡ seating.Between → Allows (Holds L) units (suc i) me 0 (λ n. n) (Loads looked x me)
 looks_in units = loads_allow seating.Between looked units (λ at j. refl) (λ h x w at j. subst (λ (φ : SeatPhase). 0 ≡ hold_of φ at j) (sym w) refl) (λ s i x k sound there within. look_keeps s i x seating.Between tt sound there within)

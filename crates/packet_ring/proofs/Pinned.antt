@@ -1,5 +1,5 @@
 -- The pins of the running ring keep the block's rule: by the core's law of each kind.
-use Rattle.std.proofs.Common.{◌≡◌, ◌≢◌, ℕ, zero, suc, ◌+◌, ◌-◌, ◌%◌, ◌==◌, ◌≤◌, ◌<◌, ◌^◌, Bool, false, true, List, [], ◌∷◌, ◌++◌, map, length, get_or, set, sym, refl, ap, ◌∙◌, subst, length-set, arith, Some, get_or-set_same, if◌then◌else◌}
+use Rattle.std.proofs.Common.{Option, None, ◌≡◌, ◌≢◌, ℕ, zero, suc, ◌+◌, ◌-◌, ◌%◌, ◌==◌, ◌≤◌, ◌<◌, ◌^◌, Bool, false, true, List, [], ◌∷◌, ◌++◌, map, length, get_or, set, sym, refl, ap, ◌∙◌, subst, length-set, arith, Some, get_or-set_same, if◌then◌else◌}
 use Rattle.std.specs.Prelude.{slice_get}
 use mathlib.Core.Logic.{inl, inr}
 use mathlib.Core.Option as maybe
@@ -28,7 +28,7 @@ use Rattle.ring_steps.proofs.Reading.{own_packet}
 use Rattle.ring_steps.specs.declared.words.Word.{Word}
 use Rattle.packet_ring.specs.Steps.{Pins, Unpins, missed, took}
 use Rattle.packet_ring.specs.Table.{State, Home, away, home, Right, no_right, may_read, Act, keeps, pins, unpins, homes_after, stepped, Goes, Allows}
-use Rattle.packet_ring.specs.Rule.{View, Knows, Holds, bytes_of, Fits, HomeFits, HasCells, hold_of, holders, publisher_view, seat_view}
+use Rattle.packet_ring.specs.Rule.{Limits, IsSized, View, Knows, Holds, bytes_of, Fits, HomeFits, HasCells, hold_of, holders, publisher_view, seat_view}
 use Rattle.packet_ring.proofs.Heads.{map_set, same_holders, or_given, units_of, seat_there}
 
 -- with another view of this seat as many more hold as it holds more
@@ -42,14 +42,27 @@ moved_holders : (keep : ℕ) (xs : List Seat) (i : ℕ) (x y : Seat) (j m m' : �
     → hold_of x.phase (cursor x % (keep + 1)) j + m' ≡ hold_of y.phase (cursor y % (keep + 1)) j + m → m ≡ holders keep xs j → m' ≡ holders keep (set xs i y) j
 moved_holders keep xs i x y j m m' at e is = let h = count_moved keep xs i x y j at in omega arith
 
+abbrev or_packet : List ℕ → Option (List ℕ) → List ℕ
+or_packet d None = d
+or_packet d (Some p) = p
+
+-- a packet of the log is sized
+sized : (most : ℕ) (log : List (List ℕ)) (k : ℕ) (p : List ℕ) → ((n : ℕ) → n < length log → IsSized most (get_or log n [])) → slice_get log k ≡ Some p → IsSized most p
+sized most [] k p h at = absurd (cc)
+sized most (q ∷ log) zero p h at = subst (IsSized most) (ap (or_packet q) at) (h 0 (omega arith))
+sized most (q ∷ log) (suc k) p h at = sized most log k p (λ n l. h (suc n) (omega arith)) at
+
 -- a step by a seat on the word of the slot at place j, which changes the slot's word and the seat's view
-pub slot_kept : (s : Ring.State) (t : State View (List ℕ)) → Fits s t → (i j : ℕ) (y : Seat) (b : Slot) (v : ℕ) (r : Right) (a : Act) → Invariant (with_seat (with_slot s j b) i y) → v ≡ word_bits b.word
-    → ((k : ℕ) → k ≤ s.keep → HomeFits (with_seat (with_slot s j b) i y) k (get_or (homes_after t.homes r a) (suc k) away)) → Holds (stepped t (suc j) v (suc i) r (inr y) a t.log)
+pub slot_kept : {L : Limits} (s : Ring.State) (t : State View (List ℕ)) → Fits L s t → (i j : ℕ) (y : Seat) (b : Slot) (v : ℕ) (r : Right) (a : Act) → Invariant (with_seat (with_slot s j b) i y) → v ≡ word_bits b.word
+    → ((k : ℕ) → k ≤ s.keep → HomeFits (with_seat (with_slot s j b) i y) k (get_or (homes_after t.homes r a) (suc k) away)) → Holds L (stepped t (suc j) v (suc i) r (inr y) a t.log)
 slot_kept s t fits i j y b v r a sound bits homes = (
   with_seat (with_slot s j b) i y,
   record {
     sound = sound;
-    few = subst (λ (n : ℕ). n ≤ 1024) (sym (length-set s.seats i y)) fits.few;
+    few = length-set s.seats i y ∙ fits.few;
+    many = fits.many;
+    packets = fits.packets;
+    pending = fits.pending;
     short = fits.short;
     words = ap (λ (ws : List ℕ). set ws (suc j) v) fits.words ∙ ap (λ (ws : List ℕ). head_bits s.head ∷ ws) (ap (set (map (λ (x : Slot). word_bits x.word) s.slots) j) bits ∙ map_set (λ (x : Slot). word_bits x.word) s.slots j b);
     views = ap (λ (vs : List View). set vs (suc i) (inr y)) fits.views ∙ ap (λ (vs : List View). publisher_view s ∷ vs) (map_set seat_view s.seats i y);
@@ -155,7 +168,7 @@ module _ (i : ℕ) (x : Seat) (seen : List (List ℕ)) where
   abbrev phased : Bool → Seat
   phased b = record x { phase = if b then seating.Holding else seating.Failed }
 
-  module _ (s : Ring.State) (t : State View (List ℕ)) (fits : Fits s t) (there : slice_get s.seats i ≡ Some x) (within : x.phase ≡ seating.Found) (pre : IsPrefix seen t.log) where
+  module _ {L : Limits} (s : Ring.State) (t : State View (List ℕ)) (fits : Fits L s t) (there : slice_get s.seats i ≡ Some x) (within : x.phase ≡ seating.Found) (pre : IsPrefix seen t.log) where
     abbrev j : ℕ
     j = place s (cursor x)
 
@@ -172,7 +185,7 @@ module _ (i : ℕ) (x : Seat) (seen : List (List ℕ)) where
     found = ap (λ (ws : List ℕ). get_or ws (suc j) 0) fits.words ∙ word_at s.slots j
 
     few' : (y : Seat) → length (set s.seats i y) ≤ 1024
-    few' y = subst (λ (m : ℕ). m ≤ 1024) (sym (length-set s.seats i y)) fits.few
+    few' y = let m = fits.many in let f = fits.few in let e = length-set s.seats i y in omega arith
 
     one_more : word_bits b.word ≡ word_bits (word s j) + 1
     one_more = bits_more b.word (word s j) refl refl refl
@@ -190,7 +203,7 @@ module _ (i : ℕ) (x : Seat) (seen : List (List ℕ)) where
     was_idle : (k : ℕ) → 0 ≡ hold_of x.phase (cursor x % (s.keep + 1)) k
     was_idle k = subst (λ (φ : SeatPhase). 0 ≡ hold_of φ (cursor x % (s.keep + 1)) k) (sym within) refl
 
-    goes : (c : Bool) → holds (word s j) (cursor x) ≡ c → Goes Holds t (suc i) me (suc j) (λ m. (m + 1) % 2 ^ 64) (Pins (suc j) x me)
+    goes : (c : Bool) → holds (word s j) (cursor x) ≡ c → Goes (Holds L) t (suc i) me (suc j) (λ m. (m + 1) % 2 ^ 64) (Pins L.1 (suc j) x me)
     goes false is = let sound = sound_by false is in (
       inr (phased false),
       keeps,
@@ -206,7 +219,7 @@ module _ (i : ℕ) (x : Seat) (seen : List (List ℕ)) where
     goes true is =
         let y : Seat = phased true in let sound = sound_by true is in let m' : ℕ = (word s j).pins + 1 in let s' : Ring.State = pinned_to s i j m' x y there in
         let H = at_home s j (get_or t.homes (suc j) away) (fits.homes j near) (not_writing ((word s j).number == cursor x + 1) (word s j).writing is) in let m : ℕ = H.parts in let c : List ℕ = H.cells in
-        let elem = home_there t.homes (suc j) m c H.is in let few = few_hold s.keep s.seats j in let count : m ≡ holders s.keep s.seats j = H.fits.1 in let seats = fits.few in
+        let elem = home_there t.homes (suc j) m c H.is in let few = few_hold s.keep s.seats j in let count : m ≡ holders s.keep s.seats j = H.fits.1 in let seats = fits.few in let many = fits.many in
         let homes' : (k : ℕ) → k ≤ s.keep → HomeFits s' k (get_or (set t.homes (suc j) (home (suc m) c)) (suc k) away) = λ k low. elim (at_set t.homes (suc j) (suc k) (home (suc m) c) away (elem_within t.homes (suc j) (home m c) elem)) [
           | inl e ↦ let same : k ≡ j = let f = e.0 in omega arith in subst (HomeFits s' k) (sym e.1) (subst (λ (l : ℕ). HomeFits s' l (home (suc m) c)) (sym same) (home_moved s i j m' x y there j m (suc m) c (let z = was_idle j in let o = own_hold j in omega arith) H.fits))
           | inr e ↦ let other : j ≢ k = λ f. e.0 (ap suc (sym f)) in subst (HomeFits s' k) (sym e.1) (home_kept s i j m' x y there k (sym (was_idle k) ∙ other_hold j k other) (get_or t.homes (suc k) away) (fits.homes k low))
@@ -233,16 +246,17 @@ module _ (i : ℕ) (x : Seat) (seen : List (List ℕ)) where
                 size = sym has.0 ∙ own.len;
                 bytes = ap (λ (l : ℕ). take l B) (sym own.len) ∙ sym has.1 ∙ ap (λ (l : ℕ). take l (slot s' j).bytes) own.len ∙ own.bytes;
               },
+              sized L.1 s.log (cursor x) own.packet fits.packets own.there,
             );
             failed = λ e. absurd (cc);
             grows = pre;
           },
         )
 
-  pub pin_allows : (units keep : ℕ) → keep + 2 ≡ units → x.phase ≡ seating.Found → let unit = suc (cursor x % (keep + 1)) in Allows Holds units (suc i) me unit (λ m. (m + 1) % 2 ^ 64) (Pins unit x me)
-  pin_allows units keep size within t held long rooms at pre small = let s : Ring.State = held.0 in let fits : Fits s t = held.1 in let many = units_of s t fits units long in let same : s.keep ≡ keep = omega arith in
+  pub pin_allows : {L : Limits} (units keep : ℕ) → keep + 2 ≡ units → x.phase ≡ seating.Found → let unit = suc (cursor x % (keep + 1)) in Allows (Holds L) units (suc i) me unit (λ m. (m + 1) % 2 ^ 64) (Pins L.1 unit x me)
+  pin_allows {L = L} units keep size within t held long rooms at pre small = let s : Ring.State = held.0 in let fits : Fits L s t = held.1 in let many = units_of s t fits units long in let same : s.keep ≡ keep = omega arith in
       let there = seat_there s.seats i x (ap (λ (vs : List View). get_elem? vs (suc i)) (sym fits.views) ∙ at) in
-      subst (λ (k : ℕ). let unit = suc (cursor x % (k + 1)) in Goes Holds t (suc i) me unit (λ m. (m + 1) % 2 ^ 64) (Pins unit x me)) same (goes s t fits there within pre (holds (word s (place s (cursor x))) (cursor x)) refl)
+      subst (λ (k : ℕ). let unit = suc (cursor x % (k + 1)) in Goes (Holds L) t (suc i) me unit (λ m. (m + 1) % 2 ^ 64) (Pins L.1 unit x me)) same (goes s t fits there within pre (holds (word s (place s (cursor x))) (cursor x)) refl)
 
 -- ---- UNPIN
 pub set_twice : {X : Type 0} (xs : List X) (i : ℕ) (x y : X) → set (set xs i x) i y ≡ set xs i y
@@ -250,7 +264,7 @@ set_twice [] i x y = refl
 set_twice (z ∷ xs) zero x y = refl
 set_twice (z ∷ xs) (suc i) x y = ap (λ (ys : List _). z ∷ ys) (set_twice xs i x y)
 
-module _ (i : ℕ) (x : Seat) (s : Ring.State) (t : State View (List ℕ)) (fits : Fits s t) (there : slice_get s.seats i ≡ Some x) where
+module _ (i : ℕ) (x : Seat) {L : Limits} (s : Ring.State) (t : State View (List ℕ)) (fits : Fits L s t) (there : slice_get s.seats i ≡ Some x) where
   abbrev spot_of : ℕ
   spot_of = place s (cursor x)
 
@@ -271,7 +285,7 @@ module _ (i : ℕ) (x : Seat) (s : Ring.State) (t : State View (List ℕ)) (fits
 
   -- the unpin of a pin that failed
   pub unpin_failed_goes : (seen : List (List ℕ)) → x.phase ≡ seating.Failed → IsPrefix seen t.log → get_or t.words (suc spot_of) 0 < 2 ^ 64
-      → Goes Holds t (suc i) (record { view = inr x; right = no_right; seen = seen }) (suc spot_of) minus (Unpins (missed x) (record { view = inr x; right = no_right; seen = seen }))
+      → Goes (Holds L) t (suc i) (record { view = inr x; right = no_right; seen = seen }) (suc spot_of) minus (Unpins (missed x) (record { view = inr x; right = no_right; seen = seen }))
   unpin_failed_goes seen within pre small =
       let sound = unpin_failed_keeps s i x fits.sound there within in let e = failed_bits s i x (record { sound = fits.sound; there = there; within = within }) in
       let bits : word_bits fewer.word + 1 ≡ word_bits (word s spot_of) = ap (λ (w : Word). word_bits w + 1) (sym (new_word (missed x))) ∙ e in
@@ -290,7 +304,7 @@ module _ (i : ℕ) (x : Seat) (s : Ring.State) (t : State View (List ℕ)) (fits
 
   -- the unpin after the packet was read
   pub unpin_goes : (seen : List (List ℕ)) (cells p : List ℕ) → x.phase ≡ seating.Holding → slice_get s.log (cursor x) ≡ Some p → IsPrefix seen t.log → get_or t.words (suc spot_of) 0 < 2 ^ 64
-      → let me : Knows = record { view = inr x; right = may_read (suc spot_of) cells; seen = seen } in Goes Holds t (suc i) me (suc spot_of) minus (Unpins (took x p) me)
+      → let me : Knows = record { view = inr x; right = may_read (suc spot_of) cells; seen = seen } in Goes (Holds L) t (suc i) me (suc spot_of) minus (Unpins (took x p) me)
   unpin_goes seen cells p within next pre small =
       let j : ℕ = spot_of in let x₁ : Seat = record x { phase = seating.Reading; length = length p; read = p } in let y : Seat = took x p in let s₁ : Ring.State = read_all s i x p in
       let inv₁ = read_all_keeps s i x p (record { sound = fits.sound; there = there; within = within }) next in let there₁ = read_place s.seats i x x₁ there in
@@ -301,7 +315,7 @@ module _ (i : ℕ) (x : Seat) (s : Ring.State) (t : State View (List ℕ)) (fits
       let number = fits.sound.slots.held i x there (subst IsHolding (sym within) tt) in let H = at_home s j (get_or t.homes (suc j) away) (fits.homes j near) number.1 in let c : List ℕ = H.cells in
       let m : ℕ = holders s.keep (set s.seats i y) j in let here : 1 ≡ hold_of x.phase j j = subst (λ (φ : SeatPhase). 1 ≡ hold_of φ j j) (sym within) (own_hold j) in
       let more : H.parts ≡ suc m = let cm = count_moved s.keep s.seats i x y j there in let f : H.parts ≡ holders s.keep s.seats j = H.fits.1 in omega arith in
-      let elem = home_there t.homes (suc j) (suc m) c (H.is ∙ ap (λ (k : ℕ). home k c) more) in let few = few_hold s.keep s.seats j in let count : H.parts ≡ holders s.keep s.seats j = H.fits.1 in let seats = fits.few in
+      let elem = home_there t.homes (suc j) (suc m) c (H.is ∙ ap (λ (k : ℕ). home k c) more) in let few = few_hold s.keep s.seats j in let count : H.parts ≡ holders s.keep s.seats j = H.fits.1 in let seats = fits.few in let many = fits.many in
       let homes' : (k : ℕ) → k ≤ s.keep → HomeFits s' k (get_or (set t.homes (suc j) (home m c)) (suc k) away) = λ k low. elim (at_set t.homes (suc j) (suc k) (home m c) away (elem_within t.homes (suc j) (home (suc m) c) elem)) [
         | inl f ↦ let same : k ≡ j = let g = f.0 in omega arith in subst (HomeFits s' k) (sym f.1) (subst (λ (l : ℕ). HomeFits s' l (home m c)) (sym same) (home_moved s i j m' x y there j H.parts m c (omega arith) H.fits))
         | inr f ↦ let other : j ≢ k = λ g. f.0 (ap suc (sym g)) in let none : hold_of x.phase j k ≡ 0 = subst (λ (φ : SeatPhase). hold_of φ j k ≡ 0) (sym within) (sym (other_hold j k other)) in
@@ -328,15 +342,15 @@ module _ (units keep i : ℕ) (size : keep + 2 ≡ units) (x : Seat) (seen : Lis
   abbrev its_unit : ℕ
   its_unit = suc (cursor x % (keep + 1))
 
-  pub unpin_failed_allows : x.phase ≡ seating.Failed → let me : Knows = record { view = inr x; right = no_right; seen = seen } in Allows Holds units (suc i) me its_unit (λ m. (m + (2 ^ 64 - 1)) % 2 ^ 64) (Unpins (missed x) me)
-  unpin_failed_allows within t held long rooms at pre small = let s : Ring.State = held.0 in let fits : Fits s t = held.1 in let many = units_of s t fits units long in let same : s.keep ≡ keep = omega arith in
+  pub unpin_failed_allows : {L : Limits} → x.phase ≡ seating.Failed → let me : Knows = record { view = inr x; right = no_right; seen = seen } in Allows (Holds L) units (suc i) me its_unit (λ m. (m + (2 ^ 64 - 1)) % 2 ^ 64) (Unpins (missed x) me)
+  unpin_failed_allows {L = L} within t held long rooms at pre small = let s : Ring.State = held.0 in let fits : Fits L s t = held.1 in let many = units_of s t fits units long in let same : s.keep ≡ keep = omega arith in
       let there = seat_there s.seats i x (ap (λ (vs : List View). get_elem? vs (suc i)) (sym fits.views) ∙ at) in let me : Knows = record { view = inr x; right = no_right; seen = seen } in
-      subst (λ (k : ℕ). let unit = suc (cursor x % (k + 1)) in get_or t.words unit 0 < 2 ^ 64 → Goes Holds t (suc i) me unit (λ m. (m + (2 ^ 64 - 1)) % 2 ^ 64) (Unpins (missed x) me)) same (λ low. unpin_failed_goes i x s t fits there seen within pre low) small
+      subst (λ (k : ℕ). let unit = suc (cursor x % (k + 1)) in get_or t.words unit 0 < 2 ^ 64 → Goes (Holds L) t (suc i) me unit (λ m. (m + (2 ^ 64 - 1)) % 2 ^ 64) (Unpins (missed x) me)) same (λ low. unpin_failed_goes i x s t fits there seen within pre low) small
 
-  pub unpin_allows : (cells p : List ℕ) → x.phase ≡ seating.Holding → slice_get seen (cursor x) ≡ Some p
-      → let me : Knows = record { view = inr x; right = may_read its_unit cells; seen = seen } in Allows Holds units (suc i) me its_unit (λ m. (m + (2 ^ 64 - 1)) % 2 ^ 64) (Unpins (took x p) me)
-  unpin_allows cells p within known t held long rooms at pre small = let s : Ring.State = held.0 in let fits : Fits s t = held.1 in let many = units_of s t fits units long in let same : s.keep ≡ keep = omega arith in
+  pub unpin_allows : {L : Limits} (cells p : List ℕ) → x.phase ≡ seating.Holding → slice_get seen (cursor x) ≡ Some p
+      → let me : Knows = record { view = inr x; right = may_read its_unit cells; seen = seen } in Allows (Holds L) units (suc i) me its_unit (λ m. (m + (2 ^ 64 - 1)) % 2 ^ 64) (Unpins (took x p) me)
+  unpin_allows {L = L} cells p within known t held long rooms at pre small = let s : Ring.State = held.0 in let fits : Fits L s t = held.1 in let many = units_of s t fits units long in let same : s.keep ≡ keep = omega arith in
       let there = seat_there s.seats i x (ap (λ (vs : List View). get_elem? vs (suc i)) (sym fits.views) ∙ at) in
       let next = subst (λ (l : List (List ℕ)). slice_get l (cursor x) ≡ Some p) fits.log (prefix_get seen t.log (cursor x) p pre known) in
-      subst (λ (k : ℕ). let unit = suc (cursor x % (k + 1)) in let me : Knows = record { view = inr x; right = may_read unit cells; seen = seen } in get_or t.words unit 0 < 2 ^ 64 → Goes Holds t (suc i) me unit (λ m. (m + (2 ^ 64 - 1)) % 2 ^ 64) (Unpins (took x p) me)) same
+      subst (λ (k : ℕ). let unit = suc (cursor x % (k + 1)) in let me : Knows = record { view = inr x; right = may_read unit cells; seen = seen } in get_or t.words unit 0 < 2 ^ 64 → Goes (Holds L) t (suc i) me unit (λ m. (m + (2 ^ 64 - 1)) % 2 ^ 64) (Unpins (took x p) me)) same
       (λ low. unpin_goes i x s t fits there seen cells p within next pre low) small

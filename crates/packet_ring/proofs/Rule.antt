@@ -28,12 +28,15 @@ fresh_homes : (keep seats width j : ℕ) → j ≤ keep → HomeFits (empty_ring
 fresh_homes keep seats width j near = let cells : List ℕ = replicate width 0 in
     subst (HomeFits (empty_ring keep seats) j) (sym (ap (λ (hs : List Home). get_or hs j away) (map_same (λ u. home 0 u.1) (keep + 1) (0, cells)) ∙ get_or-replicate (keep + 1) j (home 0 cells) away (omega arith))) (fresh_fits keep seats width j)
 
-pub fresh_holds : (keep seats width : ℕ) → 1 ≤ keep → seats ≤ 1024 → Holds (opening (fresh_units keep width) (fresh_views seats))
-fresh_holds keep seats width some few = (
+pub fresh_holds : (keep seats width most : ℕ) → 1 ≤ keep → seats ≤ 1024 → Holds (seats, most) (opening (fresh_units keep width) (fresh_views seats))
+fresh_holds keep seats width most some few = (
   empty_ring keep seats,
   record {
     sound = empty_keeps keep seats some;
-    few = subst (λ (n : ℕ). n ≤ 1024) (sym (length-replicate seats new_seat)) few;
+    few = length-replicate seats new_seat;
+    many = few;
+    packets = λ n l. absurd (omega arith);
+    pending = tt;
     short = omega arith;
     words = ap (λ (ns : List ℕ). 0 ∷ ns) (map_same (λ u. u.0) (keep + 1) (0, replicate width 0) ∙ sym (map_same (λ (x : Slot). word_bits x.word) (keep + 1) fresh_slot));
     views = ap (λ (vs : List View). publisher_view (empty_ring keep seats) ∷ vs) (sym (map_same seat_view seats new_seat));

@@ -19,11 +19,12 @@ use Rattle.atomic_table.specs.Seated.{word, fact, seen, roster}
 use Rattle.counted_slot.specs.Counting.{parts, idle}
 use Rattle.packet_ring.specs.Table.{Home, away, home, Right, no_right, may_read, may_end, may_write, State, Me}
 
--- which block it is: how many units it has, how many cells a unit, and what no other block shares with
--- it; `names` has the names of each unit's rounds and of its cells' value
+-- which block it is: how many units it has, how many cells a unit, how many seats the ring and bytes a
+-- packet at most, and what no other block shares with it; `names` has the names of each unit's rounds and of its cells' value
 pub record BlockId : Type 0 where
   pub units : ℕ
   pub width : ℕ
+  pub limits : ℕ × ℕ
   pub views_name : ℕ
   pub log_name : ℕ
   pub atom : ℕ
@@ -32,9 +33,9 @@ pub record BlockId : Type 0 where
   pub names : List (ℕ × ℕ)
 
 abbrev pub block_id_coded : Coded BlockId
-block_id_coded = coded_via (coded× coded_ℕ (coded× coded_ℕ (coded× coded_ℕ (coded× coded_ℕ (coded× coded_ℕ (coded× coded_ℕ (coded× coded_ℕ (coded_list (coded× coded_ℕ coded_ℕ)))))))))
-    (λ (z : BlockId). (z.units, (z.width, (z.views_name, (z.log_name, (z.atom, (z.block, (z.offset, z.names))))))))
-    (λ x y e i. record { units = (e i).0; width = (e i).1.0; views_name = (e i).1.1.0; log_name = (e i).1.1.1.0; atom = (e i).1.1.1.1.0; block = (e i).1.1.1.1.1.0; offset = (e i).1.1.1.1.1.1.0; names = (e i).1.1.1.1.1.1.1 })
+block_id_coded = coded_via (coded× coded_ℕ (coded× coded_ℕ (coded× (coded× coded_ℕ coded_ℕ) (coded× coded_ℕ (coded× coded_ℕ (coded× coded_ℕ (coded× coded_ℕ (coded× coded_ℕ (coded_list (coded× coded_ℕ coded_ℕ))))))))))
+    (λ (z : BlockId). (z.units, (z.width, (z.limits, (z.views_name, (z.log_name, (z.atom, (z.block, (z.offset, z.names)))))))))
+    (λ x y e i. record { units = (e i).0; width = (e i).1.0; limits = (e i).1.1.0; views_name = (e i).1.1.1.0; log_name = (e i).1.1.1.1.0; atom = (e i).1.1.1.1.1.0; block = (e i).1.1.1.1.1.1.0; offset = (e i).1.1.1.1.1.1.1.0; names = (e i).1.1.1.1.1.1.1.1 })
 
 -- the lifetime for which the block lends its memory
 abbrev pub age : BlockId → Lft

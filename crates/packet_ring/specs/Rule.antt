@@ -1,9 +1,11 @@
 -- What holds of the block between any two steps: its words, and the views of its tokens, are those of a
 -- state of the ring that has the invariant.
-use Rattle.std.specs.Prelude.{◌≡◌, ◌⊎◌, ℕ, ◌+◌, ◌/◌, ◌%◌, ◌^◌, ◌==◌, ◌≤◌, true, false, List, [], ◌∷◌, ◌++◌, map, length, take, drop, slice_index_or, replicate, if◌then◌else◌}
+use Rattle.std.specs.Prelude.{◌≡◌, ◌⊎◌, ℕ, ◌+◌, ◌/◌, ◌%◌, ◌^◌, ◌==◌, ◌<◌, ◌≤◌, true, false, List, [], ◌∷◌, ◌++◌, map, length, take, drop, slice_index_or, replicate, if◌then◌else◌}
 use mathlib.Core.Logic.{inl, inr}
 use base.Stored.{Coded, coded×, coded⊎, coded_ℕ, coded_list, coded_via}
 use Rattle.ring_steps.specs.declared.views.Publisher.{Publisher}
+use Rattle.ring_steps.specs.declared.views.PublisherPhase.{PublisherPhase}
+use Rattle.ring_steps.specs.declared.views.PublisherPhase.TheVariants as publishing
 use Rattle.ring_steps.specs.declared.views.Seat.{Seat}
 use Rattle.ring_steps.specs.declared.views.SeatPhase.{SeatPhase}
 use Rattle.ring_steps.specs.declared.views.SeatPhase.TheVariants as seating
@@ -76,18 +78,34 @@ abbrev pub HomeFits : Ring.State → (place : ℕ) → Home → Type 0
 HomeFits s j away = (word s j).writing ≡ true
 HomeFits s j (home m x) = ((word s j).writing ≡ false) × (m ≡ holders s.keep s.seats j) × HasCells x (slot s j)
 
+-- a packet has at least its tag, and with it at most so many bytes
+abbrev pub IsSized : (most : ℕ) → List ℕ → Type 0
+IsSized m p = (1 ≤ length p) × (length p ≤ m)
+
+-- so has the packet that a publisher in this phase publishes
+abbrev pub IsPending : (most : ℕ) → PublisherPhase → List ℕ → Type 0
+IsPending m publishing.Between p = Unit {0}
+IsPending m φ p = IsSized m p
+
+-- how many seats a ring has, and how many bytes a packet has at most, with its tag
+abbrev pub Limits : Type 0
+Limits = ℕ × ℕ
+
 -- the block is in this state of the ring
-pub record Fits (s : Ring.State) (t : State View (List ℕ)) : Type 0 where
+pub record Fits (L : Limits) (s : Ring.State) (t : State View (List ℕ)) : Type 0 where
   pub sound : Invariant s
-  pub few : length s.seats ≤ 1024
+  pub few : length s.seats ≡ L.0
+  pub many : L.0 ≤ 1024
+  pub packets : (n : ℕ) → n < length s.log → IsSized L.1 (slice_index_or s.log n [])
+  pub pending : IsPending L.1 s.publisher.phase s.publisher.packet
   pub short : length s.log ≤ 2 ^ 46
   pub words : t.words ≡ words_of s
   pub views : t.views ≡ views_of s
   pub log : t.log ≡ s.log
   pub homes : (j : ℕ) → j ≤ s.keep → HomeFits s j (slice_index_or t.homes (Prim.Native.Nat.suc j) away)
 
-abbrev pub Holds : State View (List ℕ) → Type 0
-Holds t = (s : Ring.State) × Fits s t
+abbrev pub Holds : Limits → State View (List ℕ) → Type 0
+Holds L t = (s : Ring.State) × Fits L s t
 
 -- a block of fresh units, and the views of a publisher and of seats that did nothing yet
 abbrev pub fresh_units : (keep width : ℕ) → List (ℕ × List ℕ)

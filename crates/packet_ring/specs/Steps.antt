@@ -14,7 +14,7 @@ use Rattle.ring_steps.specs.Bits.{head_bits, word_bits}
 use Rattle.ring_steps.specs.Ring.{cursor, new_publisher, new_seat}
 use Rattle.ring_steps.specs.Step.{holds}
 use Rattle.packet_ring.specs.Table.{Right, no_right, may_read, may_end, may_write}
-use Rattle.packet_ring.specs.Rule.{Knows, View, bytes_of}
+use Rattle.packet_ring.specs.Rule.{IsSized, Knows, Limits, View, bytes_of}
 
 -- a seat's view once it loaded this head
 abbrev pub looked : Head → Seat → Seat
@@ -55,11 +55,11 @@ pub record HasPacket (cells packet : List ℕ) : Type 0 where
 
 -- a pin by a seat: it saw this word, and where its pin holds it may read the cells, which hold the packet
 -- at its cursor
-pub record Pins (unit : ℕ) (x : Seat) (me : Knows) (found : ℕ) (next : Knows) : Type 0 where
+pub record Pins (most unit : ℕ) (x : Seat) (me : Knows) (found : ℕ) (next : Knows) : Type 0 where
   pub word : Word
   pub bits : found ≡ word_bits word
   pub view : next.view ≡ inr (record x { phase = if holds word (cursor x) then seating.Holding else seating.Failed })
-  pub held : holds word (cursor x) ≡ true → (cells : List ℕ) × (packet : List ℕ) × (next.right ≡ may_read unit cells) × (slice_get next.seen (cursor x) ≡ Some packet) × HasPacket cells packet
+  pub held : holds word (cursor x) ≡ true → (cells : List ℕ) × (packet : List ℕ) × (next.right ≡ may_read unit cells) × (slice_get next.seen (cursor x) ≡ Some packet) × HasPacket cells packet × IsSized most packet
   pub failed : holds word (cursor x) ≡ false → next.right ≡ no_right
   pub grows : IsPrefix me.seen next.seen
 
@@ -103,11 +103,11 @@ pub record Unpins (y : Seat) (me : Knows) (found : ℕ) (next : Knows) : Type 0 
 
 -- a begin by the publisher, of this packet: it saw this word. Where it was the word that the publisher
 -- knows, it may end the cells' round; else it keeps the pins that it saw, and that it was refused
-pub record Begins (unit : ℕ) (log : List (List ℕ)) (p : Publisher) (packet : List ℕ) (known : ℕ) (me : Knows) (found : ℕ) (next : Knows) : Type 0 where
+pub record Begins (seats unit : ℕ) (log : List (List ℕ)) (p : Publisher) (packet : List ℕ) (known : ℕ) (me : Knows) (found : ℕ) (next : Knows) : Type 0 where
   pub word : Word
   pub bits : found ≡ word_bits word
   pub begun : found ≡ known → (cells : List ℕ) × (next.view ≡ inl (log, record p { phase = publishing.Begun; packet = packet; written = 0 })) × (next.right ≡ may_end unit cells)
-  pub refused : found ≢ known → (next.view ≡ inl (log, record p { failed = p.failed + 1; pins = word.pins })) × (next.right ≡ no_right) × (1 ≤ word.pins) × (word.pins ≤ 1024)
+  pub refused : found ≢ known → (next.view ≡ inl (log, record p { failed = p.failed + 1; pins = word.pins })) × (next.right ≡ no_right) × (1 ≤ word.pins) × (word.pins ≤ seats) × (seats ≤ 1024)
   pub grows : IsPrefix me.seen next.seen
 
 -- a finish by the publisher
@@ -129,15 +129,16 @@ first_seen keep h x =
 abbrev pub second_seen : (keep : ℕ) → Head → Seat → Seat
 second_seen keep h x = lost_to h x (h.length - keep - cursor x)
 
--- a step on a word: how many units the block has, which unit's word it is, and the step's operands
+-- a step on a word: the ring's limits, how many units the block has, which unit's word it is, and the step's operands
 pub record Step : Type 0 where
+  pub limits : Limits
   pub units : ℕ
   pub unit : ℕ
   pub first : ℕ
   pub second : ℕ
 
-abbrev pub step : (units unit first second : ℕ) → Step
-step n i a b = record { units = n; unit = i; first = a; second = b }
+abbrev pub step : Limits → (units unit first second : ℕ) → Step
+step L n i a b = record { limits = L; units = n; unit = i; first = a; second = b }
 
 -- a token may read the cells of this unit
 abbrev pub MayRead : Right → (unit : ℕ) → Type 0

@@ -14,9 +14,9 @@ pub record Published (packet : List ℕ) (me next : Knows) : Type 0 where
   pub seen : next.seen ≡ log_of me.view ++ packet ∷ []
 
 -- a publish that was refused for so many pins: the log is the same, and one begin more failed
-pub record Pinned (pins : ℕ) (me next : Knows) : Type 0 where
+pub record Pinned (seats pins : ℕ) (me next : Knows) : Type 0 where
   pub view : next.view ≡ inl (log_of me.view, record (publisher_of me.view) { failed = (publisher_of me.view).failed + 1; pins = pins })
   pub right : next.right ≡ no_right
   pub some : 1 ≤ pins
-  pub few : pins ≤ 1024
+  pub few : pins ≤ seats
   pub grows : IsPrefix me.seen next.seen

@@ -34,22 +34,23 @@ fn fill(row: &mut Slots<u64>, words: &[u64])
 impl Block {
     #[tactic(auto, using(crate::proofs::Rule::fresh_flat))]
     /// A block for a ring that keeps `keep` packets, with a token for its publisher and one for each
-    /// seat. A slot has `width` cells.
+    /// seat. A slot has `width` cells, and a packet at most `most` bytes with its tag.
     pub(crate) fn new(
         alloc: Global,
         keep: usize,
         seats: usize,
         width: usize,
+        most: usize,
     ) -> Result<(Block, Spares), AllocError>
         requires { (1 ≤ keep) × (keep ≤ 4095) × (seats ≤ 1024) × (width ≤ 16384) }
-        ensures block { IfOk result (λ r. (r.0.shared.id.units ≡ keep + 2) × (r.0.shared.id.width ≡ width)) }
+        ensures block { IfOk result (λ r. (r.0.shared.id.units ≡ keep + 2) × (r.0.shared.id.width ≡ width) × (r.0.shared.id.limits ≡ (seats, most))) }
         ensures spares { IfOk result (λ r. (r.1.id ≡ r.0.shared.id) × (r.1.next ≡ 0) × (r.1.views ≡ fresh_views seats)) }
     {
         let words = (keep + 2) * (width + 1);
         let zeros = Vec::from_elem(alloc, 0u64, words)?;
         let (mut row, lease) = (unsafe { reserve(&alloc, zeros.as_slice()) })?;
         fill(&mut row, zeros.as_slice());
-        let (shared, spares) = Shared::deal(Strip::of(row), keep, seats, width);
+        let (shared, spares) = Shared::deal(Strip::of(row), keep, seats, width, most);
         let block = Block {
             shared,
             words,

@@ -20,9 +20,9 @@ pub(crate) struct Shared {
 }
 
 impl Model for Shared {
-    ghost also_owns = { λ b. block_owns view_coded.code packet_coded Holds b.base b.id };
+    ghost also_owns = { λ b. block_owns view_coded.code packet_coded (Holds b.id.limits) b.base b.id };
 
-    ghost also_shares = { λ b _ κ. block_shares view_coded.code packet_coded Holds b.base b.id κ };
+    ghost also_shares = { λ b _ κ. block_shares view_coded.code packet_coded (Holds b.id.limits) b.base b.id κ };
 }
 
 /// The right to step as the publisher or as one seat. It has no bytes.
@@ -62,10 +62,11 @@ impl Shared {
         keep: usize,
         seats: usize,
         width: usize,
+        most: usize,
     ) -> (Shared, Spares)
         requires sizes { (1 ≤ keep) × (seats ≤ 1024) }
         requires zeros { words.items ≡ flat (fresh_units keep width) }
-        ensures block { (result.0.base ≡ words.ptr) × (result.0.id.units ≡ keep + 2) × (result.0.id.width ≡ width) }
+        ensures block { (result.0.base ≡ words.ptr) × (result.0.id.units ≡ keep + 2) × (result.0.id.width ≡ width) × (result.0.id.limits ≡ (seats, most)) }
         ensures spares { (result.1.id ≡ result.0.id) × (result.1.next ≡ 0) × (result.1.views ≡ fresh_views seats) }
     {
         let Strip { ptr } = words;
@@ -89,8 +90,8 @@ impl Shared {
 impl Shared {
     /// One load of a unit's word, which lies `at` words from the first.
     pub(crate) fn load<M: Play>(&self, token: &mut Token, unit: usize, at: usize) -> u64
-        requires { (token.old.id ≡ self.now.id) × (unit < self.now.id.units) × (at ≡ unit * (self.now.id.width + 1)) × Allows Holds self.now.id.units token.old.number token.old.me unit (λ n. n) (M.then (step self.now.id.units unit 0 0) token.old.me) }
-        ensures { (token.new.id ≡ token.old.id) × (token.new.number ≡ token.old.number) × M.then (step self.now.id.units unit 0 0) token.old.me result token.new.me }
+        requires { (token.old.id ≡ self.now.id) × (unit < self.now.id.units) × (at ≡ unit * (self.now.id.width + 1)) × Allows (Holds self.now.id.limits) self.now.id.units token.old.number token.old.me unit (λ n. n) (M.then (step self.now.id.limits self.now.id.units unit 0 0) token.old.me) }
+        ensures { (token.new.id ≡ token.old.id) × (token.new.number ≡ token.old.number) × M.then (step self.now.id.limits self.now.id.units unit 0 0) token.old.me result token.new.me }
     {
         let _ = unit;
         unsafe { raw::load::<Brand>(self.base.add(at), SeqCst) }
@@ -98,8 +99,8 @@ impl Shared {
 
     /// One store of a unit's word.
     pub(crate) fn store<M: Play>(&self, token: &mut Token, unit: usize, at: usize, new: u64)
-        requires { (token.old.id ≡ self.now.id) × (unit < self.now.id.units) × (at ≡ unit * (self.now.id.width + 1)) × Allows Holds self.now.id.units token.old.number token.old.me unit (λ _. new) (λ _. M.then (step self.now.id.units unit new 0) token.old.me new) }
-        ensures { (token.new.id ≡ token.old.id) × (token.new.number ≡ token.old.number) × M.then (step self.now.id.units unit new 0) token.old.me new token.new.me }
+        requires { (token.old.id ≡ self.now.id) × (unit < self.now.id.units) × (at ≡ unit * (self.now.id.width + 1)) × Allows (Holds self.now.id.limits) self.now.id.units token.old.number token.old.me unit (λ _. new) (λ _. M.then (step self.now.id.limits self.now.id.units unit new 0) token.old.me new) }
+        ensures { (token.new.id ≡ token.old.id) × (token.new.number ≡ token.old.number) × M.then (step self.now.id.limits self.now.id.units unit new 0) token.old.me new token.new.me }
     {
         let _ = unit;
         unsafe { raw::store::<Brand>(self.base.add(at), new, SeqCst) }
@@ -113,8 +114,8 @@ impl Shared {
         at: usize,
         k: u64,
     ) -> u64
-        requires { (token.old.id ≡ self.now.id) × (unit < self.now.id.units) × (at ≡ unit * (self.now.id.width + 1)) × Allows Holds self.now.id.units token.old.number token.old.me unit (λ n. (n + k) % 2 ^ 64) (M.then (step self.now.id.units unit k 0) token.old.me) }
-        ensures { (token.new.id ≡ token.old.id) × (token.new.number ≡ token.old.number) × M.then (step self.now.id.units unit k 0) token.old.me result token.new.me }
+        requires { (token.old.id ≡ self.now.id) × (unit < self.now.id.units) × (at ≡ unit * (self.now.id.width + 1)) × Allows (Holds self.now.id.limits) self.now.id.units token.old.number token.old.me unit (λ n. (n + k) % 2 ^ 64) (M.then (step self.now.id.limits self.now.id.units unit k 0) token.old.me) }
+        ensures { (token.new.id ≡ token.old.id) × (token.new.number ≡ token.old.number) × M.then (step self.now.id.limits self.now.id.units unit k 0) token.old.me result token.new.me }
     {
         let _ = unit;
         unsafe { raw::fetch_add::<Brand>(self.base.add(at), k, SeqCst) }
@@ -128,8 +129,8 @@ impl Shared {
         at: usize,
         k: u64,
     ) -> u64
-        requires { (token.old.id ≡ self.now.id) × (unit < self.now.id.units) × (at ≡ unit * (self.now.id.width + 1)) × Allows Holds self.now.id.units token.old.number token.old.me unit (λ n. (n + (2 ^ 64 - k)) % 2 ^ 64) (M.then (step self.now.id.units unit k 0) token.old.me) }
-        ensures { (token.new.id ≡ token.old.id) × (token.new.number ≡ token.old.number) × M.then (step self.now.id.units unit k 0) token.old.me result token.new.me }
+        requires { (token.old.id ≡ self.now.id) × (unit < self.now.id.units) × (at ≡ unit * (self.now.id.width + 1)) × Allows (Holds self.now.id.limits) self.now.id.units token.old.number token.old.me unit (λ n. (n + (2 ^ 64 - k)) % 2 ^ 64) (M.then (step self.now.id.limits self.now.id.units unit k 0) token.old.me) }
+        ensures { (token.new.id ≡ token.old.id) × (token.new.number ≡ token.old.number) × M.then (step self.now.id.limits self.now.id.units unit k 0) token.old.me result token.new.me }
     {
         let _ = unit;
         unsafe { raw::fetch_sub::<Brand>(self.base.add(at), k, SeqCst) }
@@ -144,8 +145,8 @@ impl Shared {
         old: u64,
         new: u64,
     ) -> u64
-        requires { (token.old.id ≡ self.now.id) × (unit < self.now.id.units) × (at ≡ unit * (self.now.id.width + 1)) × Allows Holds self.now.id.units token.old.number token.old.me unit (λ n. either (n == old) new n) (M.then (step self.now.id.units unit old new) token.old.me) }
-        ensures { (token.new.id ≡ token.old.id) × (token.new.number ≡ token.old.number) × M.then (step self.now.id.units unit old new) token.old.me result token.new.me }
+        requires { (token.old.id ≡ self.now.id) × (unit < self.now.id.units) × (at ≡ unit * (self.now.id.width + 1)) × Allows (Holds self.now.id.limits) self.now.id.units token.old.number token.old.me unit (λ n. either (n == old) new n) (M.then (step self.now.id.limits self.now.id.units unit old new) token.old.me) }
+        ensures { (token.new.id ≡ token.old.id) × (token.new.number ≡ token.old.number) × M.then (step self.now.id.limits self.now.id.units unit old new) token.old.me result token.new.me }
     {
         let _ = unit;
         unsafe { exchange::<Brand>(self.base.add(at), old, new) }

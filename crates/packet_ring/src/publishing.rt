@@ -23,12 +23,12 @@ pub(crate) fn publish(
     bytes: &[u8],
 ) -> Result<(), u64>
     requires same { (token.old.id ≡ block.now.id) × (block.now.id.units ≡ keep + 2) × (block.now.id.width ≡ width) }
-    requires sizes { (keep ≤ 4095) × (width ≤ 16384) × (length bytes.now + 9 ≤ 8 * width) }
+    requires sizes { (keep ≤ 4095) × (width ≤ 16384) × (length bytes.now + 9 ≤ 8 * width) × (length bytes.now + 1 ≤ block.now.id.limits.1) }
     requires publisher { IsPublisher token.old.number token.old.me publishing.Between × (token.old.me.right ≡ no_right) × ((publisher_of token.old.me.view).closed ≡ false) }
     requires count { (count ≡ length (log_of token.old.me.view)) × (count < 2 ^ 46) }
     ensures same { (token.new.id ≡ token.old.id) × (token.new.number ≡ token.old.number) }
     ensures published { IfOk result (λ _. Published (tag ∷ bytes.now) token.old.me token.new.me) }
-    ensures pinned { IfErr result (λ pins. Pinned pins token.old.me token.new.me) }
+    ensures pinned { IfErr result (λ pins. Pinned block.now.id.limits.0 pins token.old.me token.new.me) }
 {
     let unit = (count % (keep as u64 + 1)) as usize + 1;
     let at = unit * (width + 1);

@@ -2,6 +2,7 @@
 ghost use Rattle.std.specs.Prelude.{◌≡◌, ◌+◌, ◌-◌, ◌*◌, ◌%◌, ◌^◌, ◌<◌, ℕ, List, [], false, length};
 ghost use Rattle.ring_steps.specs.declared.views.PublisherPhase.TheVariants as publishing;
 ghost use Rattle.packet_ring.specs.Steps.{Begins, Finishes, IsPublisher, MayEnd, log_of, publisher_of};
+ghost use Rattle.packet_ring.specs.Rule.{IsSized};
 ghost use Rattle.packet_ring.specs.Table.{no_right};
 
 use crate::block::{Play, Shared, Token};
@@ -21,7 +22,7 @@ struct Beginning<N: Sends> {
 }
 
 impl<N: Sends> Play for Beginning<N> {
-    ghost then = { λ at me found next. Begins at.unit (log_of me.view) (publisher_of me.view) N.packet at.first me found next };
+    ghost then = { λ at me found next. Begins at.limits.0 at.unit (log_of me.view) (publisher_of me.view) N.packet at.first me found next };
 }
 
 struct Finishing;
@@ -44,9 +45,10 @@ pub(crate) fn begin<N: Sends>(
     requires same { (token.old.id ≡ block.now.id) × (1 < block.now.id.units) }
     requires publisher { IsPublisher token.old.number token.old.me publishing.Between × (token.old.me.right ≡ no_right) × ((publisher_of token.old.me.view).closed ≡ false) }
     requires unit { (unit ≡ length (log_of token.old.me.view) % (block.now.id.units - 2 + 1) + 1) × (unit < block.now.id.units) × (at ≡ unit * (block.now.id.width + 1)) }
+    requires packet { IsSized block.now.id.limits.1 N.packet }
     requires known { (known ≡ 131072 * (length (log_of token.old.me.view) - (block.now.id.units - 2))) × (known < 2 ^ 63) }
     ensures same { (token.new.id ≡ token.old.id) × (token.new.number ≡ token.old.number) }
-    ensures step { Begins unit (log_of token.old.me.view) (publisher_of token.old.me.view) N.packet known token.old.me result token.new.me }
+    ensures step { Begins block.now.id.limits.0 unit (log_of token.old.me.view) (publisher_of token.old.me.view) N.packet known token.old.me result token.new.me }
 {
     let _ = tag;
     let _ = bytes;

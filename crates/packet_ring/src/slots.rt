@@ -10,7 +10,7 @@ use crate::block::{Play, Shared, Token};
 struct Pinning;
 
 impl Play for Pinning {
-    ghost then = { λ at me found next. Pins at.unit (seat_of me.view) me found next };
+    ghost then = { λ at me found next. Pins at.limits.1 at.unit (seat_of me.view) me found next };
 }
 
 struct Missing;
@@ -31,7 +31,7 @@ pub(crate) fn pin(block: &Shared, token: &mut Token, unit: usize, at: usize) -> 
     requires seat { IsSeat token.old.number token.old.me seating.Found × (token.old.me.right ≡ no_right) }
     requires unit { (unit ≡ cursor (seat_of token.old.me.view) % (block.now.id.units - 2 + 1) + 1) × (unit < block.now.id.units) × (at ≡ unit * (block.now.id.width + 1)) }
     ensures same { (token.new.id ≡ token.old.id) × (token.new.number ≡ token.old.number) }
-    ensures step { Pins unit (seat_of token.old.me.view) token.old.me result token.new.me }
+    ensures step { Pins block.now.id.limits.1 unit (seat_of token.old.me.view) token.old.me result token.new.me }
 {
     block.fetch_add::<Pinning>(token, unit, at, 1)
 }

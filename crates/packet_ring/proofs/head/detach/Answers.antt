@@ -10,5 +10,5 @@ load-requires c = let z = c.args.block.now.id in let me = c.args.token.now.me in
   c.requires.same.0,
   c.requires.same.1,
   sym (zero-mul (z.width + 1)),
-  subst (λ (n : ℕ). Allows Holds z.units n me 0 (λ m. m) (Loads detached x me)) (sym is.at) (detaches z.units is.place x me is.seat is.within),
+  subst (λ (n : ℕ). Allows (Holds z.limits) z.units n me 0 (λ m. m) (Loads detached x me)) (sym is.at) (detaches z.units is.place x me is.seat is.within),
 )

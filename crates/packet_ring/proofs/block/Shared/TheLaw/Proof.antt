@@ -10,6 +10,6 @@ use Rattle.packet_ring.proofs.Shown.{shown_laws, lends_shown}
 
 pub shares : statement
 shares = of_Lends C.struct C.the_codes C.the_heap C.the_lent
-    (λ d p. shown_laws view_coded packet_coded Holds d.base d.id)
+    (λ d p. shown_laws view_coded packet_coded (Holds d.id.limits) d.base d.id)
     (copy_shared RawPtr-field RawPtr-copy, tt)
-    (λ M 𝓤 𝓛 d p. lends_shown view_coded packet_coded Holds d.base d.id 𝓛 C.the_row.lives)
+    (λ M 𝓤 𝓛 d p. lends_shown view_coded packet_coded (Holds d.id.limits) d.base d.id 𝓛 C.the_row.lives)

@@ -4,4 +4,4 @@ use Rattle.packet_ring.specs.contracts.block.Shared.{the_row}
 use Rattle.packet_ring.proofs.Sent.{owns_keyless}
 
 pub send : IsSend the_row
-send = record { owned = λ d vs. ((λ vss. (tt, (tt, tt))), owns_keyless d.id view_coded.code packet_coded Holds d.base); leaving = λ k f vs. tt }
+send = record { owned = λ d vs. ((λ vss. (tt, (tt, tt))), owns_keyless d.id view_coded.code packet_coded (Holds d.id.limits) d.base); leaving = λ k f vs. tt }

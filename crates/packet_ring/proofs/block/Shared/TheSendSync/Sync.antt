@@ -7,4 +7,4 @@ use Rattle.packet_ring.proofs.Sent.{shares_keyless}
 
 pub sync : IsSync the_row
 sync = let fields : IsSync (Struct (shape the_type)) = search sendable depth 20 in
-    record { shared = λ d b o ν. (fields.shared (d.base, tt) b o ν, shares_keyless d.id view_coded.code packet_coded Holds d.base ν) }
+    record { shared = λ d b o ν. (fields.shared (d.base, tt) b o ν, shares_keyless d.id view_coded.code packet_coded (Holds d.id.limits) d.base ν) }

@@ -18,13 +18,13 @@ gather_spec 𝓤 𝓛 𝓜 𝓡 wired =
     let hs : Stays En.signature.params En.kept = (stay_dropped (plain (λ _. Row)) yes, tt) in
     proved 𝓛 En hs c 𝓜 𝓡 (Goes-dropped 𝓛 0 (plain (λ _. Row)) yes (λ κs x f. refl), tt) f.Key.name fn (code.unfolded 𝓤 H 𝓜 𝓡 wired)
     (λ κs. ((λ x. strip_of x.base ∷ []), tt)) (λ κs. ((λ x vs so. block_told x.base vs so.0), tt)) (λ κs qs bounds a gh are.
-    let p : Ptr = a.0.base in let z : BlockId = a.0.id in let Owns : Fml = block_owns view_coded.code packet_coded Holds p z in
+    let p : Ptr = a.0.base in let z : BlockId = a.0.id in let Owns : Fml = block_owns view_coded.code packet_coded (Holds z.limits) p z in
     let y : (walk_of 𝓛 En hs c).Ghost = ((κs, qs, bounds, a, (strip_of p ∷ [], tt)), gh) in let Post : Val → SProp 𝓤 = (walk_of 𝓛 En hs c).post y in
     qed 𝓛 ((raw (alive 𝓛 En.signature κs qs) ⊛ ‵ (owns (types_at En.signature.params κs) a y.0.4)) ∷ raw ((c κs a).requires gh) ∷ []) ∵
     split ! $ move ! (1 ∷ []) $ fsplit ! $ fsplit ! $ keep ! (1 ∷ 3 ∷ []) $
-    use1 𝓛 (given (InBlock p) (‵ Owns)) (owns_lies 𝓛 view_coded packet_coded Holds p z) $ learn ! (λ at.
+    use1 𝓛 (given (InBlock p) (‵ Owns)) (owns_lies 𝓛 view_coded packet_coded (Holds z.limits) p z) $ learn ! (λ at.
     enter ! 𝓣.C 𝓣.Λ fn (strip_of p ∷ []) Post $ alloc_all ! (λ l. pass_all ! refl (strip_good p at, tt) $
-    use1 𝓛 (later (some (λ (xs : List ℕ). given ((length xs ≡ size 𝓛 view_coded packet_coded Holds p z) × InBlock p) (‵ (strip u64 p xs))))) (gathers 𝓛 view_coded packet_coded Holds p z) $ await ! tt $ pick ! (λ xs. learn ! (λ so.
+    use1 𝓛 (later (some (λ (xs : List ℕ). given ((length xs ≡ size 𝓛 view_coded packet_coded (Holds z.limits) p z) × InBlock p) (‵ (strip u64 p xs))))) (gathers 𝓛 view_coded packet_coded (Holds z.limits) p z) $ await ! tt $ pick ! (λ xs. learn ! (λ so.
     let r : Ss.Denot = record { ptr = p; items = xs } in let Told : Type 0 = (p ≡ p) × (length xs ≡ z.units * (z.width + 1)) in
     use0 𝓛 (‵ ((StripData u64).own_val (p, tt) (strip_of p ∷ []))) (strip_made u64 𝓛 p) $ fjoin ! $
     sets ! (of_opd ! (get_in ! (fld ! refl (stop !)) (sub ! 0 refl (whole !)))) refl (Ptr-Good p at) $ sets ! (agg ! (and_then ! (get ! refl) (no_more !))) refl (strip_good p at) $
