@@ -17,3 +17,4 @@ pub mod Settling
 pub mod Unpacking
 pub mod Putting
 pub mod Getting
+pub mod Holding

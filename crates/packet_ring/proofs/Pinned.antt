@@ -22,7 +22,7 @@ use Rattle.ring_steps.specs.Moves.{read_all}
 use Rattle.ring_steps.specs.Step.{with_pins, holds}
 use Rattle.ring_steps.proofs.Places.{at_set, pins_alone, place_within}
 use Rattle.ring_steps.proofs.Pinning.{pin_keeps, unpin_keeps, unpin_failed_keeps}
-use Rattle.ring_steps.proofs.Bits.{bits_more, word_fits, failed_bits, unpin_bits}
+use Rattle.ring_steps.proofs.Bits.{bits_more, word_fits, failed_bits, unpin_bits, pins_fit}
 use Rattle.ring_steps.proofs.Moves.{read_all_keeps}
 use Rattle.ring_steps.proofs.Reading.{own_packet}
 use Rattle.ring_steps.specs.declared.words.Word.{Word}
@@ -42,7 +42,7 @@ moved_holders : (keep : ℕ) (xs : List Seat) (i : ℕ) (x y : Seat) (j m m' : �
     → hold_of x.phase (cursor x % (keep + 1)) j + m' ≡ hold_of y.phase (cursor y % (keep + 1)) j + m → m ≡ holders keep xs j → m' ≡ holders keep (set xs i y) j
 moved_holders keep xs i x y j m m' at e is = let h = count_moved keep xs i x y j at in omega arith
 
-abbrev or_packet : List ℕ → Option (List ℕ) → List ℕ
+abbrev pub or_packet : List ℕ → Option (List ℕ) → List ℕ
 or_packet d None = d
 or_packet d (Some p) = p
 
@@ -187,6 +187,9 @@ module _ (i : ℕ) (x : Seat) (seen : List (List ℕ)) where
     few' : (y : Seat) → length (set s.seats i y) ≤ 1024
     few' y = let m = fits.many in let f = fits.few in let e = length-set s.seats i y in omega arith
 
+    few_pins : (word s j).pins ≤ 1024
+    few_pins = let p = pins_fit s j fits.sound near in let f = fits.few in let g = fits.many in omega arith
+
     one_more : word_bits b.word ≡ word_bits (word s j) + 1
     one_more = bits_more b.word (word s j) refl refl refl
 
@@ -214,7 +217,7 @@ module _ (i : ℕ) (x : Seat) (seen : List (List ℕ)) where
       prefix_refl t.log,
       slot_kept s t fits i j (phased false) b ((get_or t.words (suc j) 0 + 1) % 2 ^ 64) no_right keeps sound (bits_now (phased false) sound)
           (λ k low. home_kept s i j ((word s j).pins + 1) x (phased false) there k (sym (was_idle k)) (get_or t.homes (suc k) away) (fits.homes k low)),
-      record { word = word s j; bits = found; view = ap (λ (d : Bool). inr (phased d)) (sym is); held = λ e. absurd (cc); failed = λ e. refl; grows = pre },
+      record { word = word s j; bits = found; view = ap (λ (d : Bool). inr (phased d)) (sym is); held = λ e. absurd (cc); failed = λ e. refl; few = few_pins; grows = pre },
     )
     goes true is =
         let y : Seat = phased true in let sound = sound_by true is in let m' : ℕ = (word s j).pins + 1 in let s' : Ring.State = pinned_to s i j m' x y there in
@@ -249,6 +252,7 @@ module _ (i : ℕ) (x : Seat) (seen : List (List ℕ)) where
               sized L.1 s.log (cursor x) own.packet fits.packets own.there,
             );
             failed = λ e. absurd (cc);
+            few = few_pins;
             grows = pre;
           },
         )
@@ -332,7 +336,7 @@ module _ (i : ℕ) (x : Seat) {L : Limits} (s : Ring.State) (t : State View (Lis
         record { view = refl; right = refl; grows = pre },
       )
 
-prefix_get : {X : Type 0} (xs ys : List X) (k : ℕ) (x : X) → IsPrefix xs ys → slice_get xs k ≡ Some x → slice_get ys k ≡ Some x
+pub prefix_get : {X : Type 0} (xs ys : List X) (k : ℕ) (x : X) → IsPrefix xs ys → slice_get xs k ≡ Some x → slice_get ys k ≡ Some x
 prefix_get [] ys k x pre at = absurd (cc)
 prefix_get (a ∷ xs) [] k x pre at = absurd (mathlib.Core.List.cons≢nil pre.1)
 prefix_get (a ∷ xs) (b ∷ ys) zero x pre at = ap (λ (zs : List _). slice_get zs 0) (sym pre.1) ∙ at

@@ -61,6 +61,7 @@ pub record Pins (most unit : ℕ) (x : Seat) (me : Knows) (found : ℕ) (next : 
   pub view : next.view ≡ inr (record x { phase = if holds word (cursor x) then seating.Holding else seating.Failed })
   pub held : holds word (cursor x) ≡ true → (cells : List ℕ) × (packet : List ℕ) × (next.right ≡ may_read unit cells) × (slice_get next.seen (cursor x) ≡ Some packet) × HasPacket cells packet × IsSized most packet
   pub failed : holds word (cursor x) ≡ false → next.right ≡ no_right
+  pub few : word.pins ≤ 1024
   pub grows : IsPrefix me.seen next.seen
 
 -- a seat's view, and a publisher's log and view

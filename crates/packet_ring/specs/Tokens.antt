@@ -1,11 +1,16 @@
 -- What a call leaves its token with.
-use Rattle.std.specs.Prelude.{◌≡◌, ℕ, ◌+◌, ◌≤◌, List, [], ◌∷◌, ◌++◌, length}
-use mathlib.Core.Logic.{inl}
+use Rattle.std.specs.Prelude.{◌≡◌, ◌⊎◌, ℕ, ◌+◌, ◌-◌, ◌<◌, ◌≤◌, Bool, true, false, List, [], ◌∷◌, ◌++◌, length, take, Some, slice_get}
+use mathlib.Core.Logic.{inl, inr}
 use mathlib.Core.List.{IsPrefix}
+use Rattle.cursor.specs.declared.takes.Taken.{Taken}
+use Rattle.cursor.specs.declared.takes.Taken.TheVariants as taken
+use Rattle.ring_steps.specs.declared.words.Head.{Head}
+use Rattle.ring_steps.specs.declared.views.Seat.{Seat}
+use Rattle.ring_steps.specs.Ring.{cursor}
 use Rattle.ring_steps.specs.declared.views.PublisherPhase.TheVariants as publishing
 use Rattle.packet_ring.specs.Table.{no_right}
 use Rattle.packet_ring.specs.Rule.{Knows}
-use Rattle.packet_ring.specs.Steps.{log_of, publisher_of}
+use Rattle.packet_ring.specs.Steps.{log_of, publisher_of, seat_of, looked, lost_to, took}
 
 -- a publish: the publisher's log has this packet more, of which it wrote each byte, and it is between calls
 pub record Published (packet : List ℕ) (me next : Knows) : Type 0 where
@@ -20,3 +25,37 @@ pub record Pinned (seats pins : ℕ) (me next : Knows) : Type 0 where
   pub some : 1 ≤ pins
   pub few : pins ≤ seats
   pub grows : IsPrefix me.seen next.seen
+
+-- a take that gave this packet, of which the take's one load saw that it is there and is kept
+pub record GotPacket (keep : ℕ) (x : Seat) (packet : List ℕ) (me next : Knows) : Type 0 where
+  pub head : Head
+  pub kept : head.length - keep ≤ cursor x
+  pub there : cursor x < head.length
+  pub at : slice_get next.seen (cursor x) ≡ Some packet
+  pub view : next.view ≡ inr (took (looked head x) packet)
+  pub right : next.right ≡ no_right
+  pub grows : IsPrefix me.seen next.seen
+
+-- a take that found no further packet in a log that was closed, or open
+pub record FoundNone (closed : Bool) (x : Seat) (me next : Knows) : Type 0 where
+  pub head : Head
+  pub ends : head.length ≡ cursor x
+  pub mark : head.closed ≡ closed
+  pub view : next.view ≡ inr (looked head x)
+  pub right : next.right ≡ no_right
+  pub grows : IsPrefix me.seen next.seen
+
+-- a take that lost so many packets: by its one load, or by its second one after a pin that failed
+pub record LostSome (keep count : ℕ) (x : Seat) (me next : Knows) : Type 0 where
+  pub head : Head
+  pub lost : count ≡ head.length - keep - cursor x
+  pub view : (next.view ≡ inr (lost_to head x count)) ⊎ (next.view ≡ inr (lost_to head (record x { loads = x.loads + 1 }) count))
+  pub right : next.right ≡ no_right
+  pub grows : IsPrefix me.seen next.seen
+
+-- what a take answers, with the packet's bytes in front of the buffer
+abbrev pub Takes : (keep : ℕ) → Taken → (buf : List ℕ) → (me next : Knows) → Type 0
+Takes keep (taken.Packet n tag len) buf me next = (n ≡ cursor (seat_of me.view)) × GotPacket keep (seat_of me.view) (tag ∷ take len buf) me next
+Takes keep (taken.Lost k) buf me next = LostSome keep k (seat_of me.view) me next
+Takes keep taken.Empty buf me next = FoundNone false (seat_of me.view) me next
+Takes keep taken.Ended buf me next = FoundNone true (seat_of me.view) me next

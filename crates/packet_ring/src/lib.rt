@@ -10,3 +10,4 @@ mod send_lease;
 mod sending;
 mod slots;
 mod strip;
+mod taking;

@@ -1,0 +1,60 @@
+//! A seat's take, a row of its steps.
+ghost use Rattle.std.specs.Prelude.{◌≡◌, ◌+◌, ◌^◌, ◌<◌, ◌≤◌, length};
+ghost use Rattle.ring_steps.specs.declared.views.SeatPhase.TheVariants as seating;
+ghost use Rattle.ring_steps.specs.Ring.{cursor};
+ghost use Rattle.packet_ring.specs.Steps.{IsSeat, seat_of};
+ghost use Rattle.packet_ring.specs.Table.{no_right};
+ghost use Rattle.packet_ring.specs.Tokens.{Takes};
+
+use crate::block::{Shared, Token};
+use crate::head::{load_first, load_second};
+use crate::packets::get;
+use crate::slots::{pin, unpin, unpin_failed};
+use cursor::Taken;
+
+/// The next packet of a seat whose next number is `next`, in a ring that keeps `keep`, or why there is
+/// none now. A packet's bytes are the first of the buffer.
+pub(crate) fn take(
+    block: &Shared,
+    token: &mut Token,
+    keep: usize,
+    width: usize,
+    next: u64,
+    buf: &mut [u8],
+) -> Taken
+    requires same { (token.old.id ≡ block.now.id) × (block.now.id.units ≡ keep + 2) × (block.now.id.width ≡ width) }
+    requires sizes { (keep ≤ 4095) × (1 < width) × (width ≤ 16384) × (block.now.id.limits.1 ≤ length buf.old + 1) }
+    requires seat { IsSeat token.old.number token.old.me seating.Between × (token.old.me.right ≡ no_right) }
+    requires next { (next ≡ cursor (seat_of token.old.me.view)) × (next ≤ length token.old.me.seen) × (next < 2 ^ 62) }
+    ensures same { (token.new.id ≡ token.old.id) × (token.new.number ≡ token.old.number) × (length buf.new ≡ length buf.old) }
+    ensures takes { Takes keep result buf.new token.old.me token.new.me }
+{
+    let head = load_first(block, token);
+    let count = head / 2;
+    if count == next {
+        return if head % 2 == 1 {
+            Taken::Ended
+        } else {
+            Taken::Empty
+        };
+    }
+    let oldest = count.saturating_sub(keep as u64);
+    if next < oldest {
+        return Taken::Lost(oldest - next);
+    }
+    let unit = (next % (keep as u64 + 1)) as usize + 1;
+    let at = unit * (width + 1);
+    let word = pin(block, token, unit, at);
+    if word / 65536 == 2 * (next + 1) {
+        let (tag, len) = get(block, token, unit, at + 1, buf);
+        unpin(block, token, unit, at);
+        return Taken::Packet {
+            number: next,
+            tag,
+            len,
+        };
+    }
+    unpin_failed(block, token, unit, at);
+    let later = load_second(block, token);
+    Taken::Lost((later / 2).saturating_sub(keep as u64).saturating_sub(next))
+}
