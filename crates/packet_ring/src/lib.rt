@@ -11,3 +11,5 @@ mod sending;
 mod slots;
 mod strip;
 mod taking;
+#[cfg(test)]
+mod tests;
