@@ -1,5 +1,5 @@
 use crate::allocated::Block;
-use crate::head::{attach, close};
+use crate::head::{attach, close, detach};
 use crate::publishing::publish;
 use crate::taking::take;
 use cursor::Taken;
@@ -29,5 +29,28 @@ fn calls_in_turn(rt: HostRuntime) -> Result<(), AllocError> {
     close(ring, &mut publisher, 1);
     let ended = take(ring, &mut seat, 1, 7, 1, &mut buf);
     assert!(rt; ended == Taken::Ended);
+    Ok(())
+}
+
+/// A ring that keeps one packet loses the first of two.
+#[test]
+fn ring_loses_one(rt: HostRuntime) -> Result<(), AllocError> {
+    let (block, spares) = Block::new(rt.alloc(), 1, 1, 7, 48)?;
+    let ring = &block.shared;
+    let (mut publisher, spares) = spares.take();
+    let (mut seat, _rest) = spares.take();
+    let mut buf = [0; 47];
+    let start = attach(ring, &mut seat) / 2;
+    assert!(rt; start == 0);
+    let empty = take(ring, &mut seat, 1, 7, 0, &mut buf);
+    assert!(rt; empty == Taken::Empty);
+    let first = publish(ring, &mut publisher, 1, 7, 0, 4, b"");
+    assert!(rt; first.is_ok());
+    let second = publish(ring, &mut publisher, 1, 7, 1, 5, b"x");
+    assert!(rt; second.is_ok());
+    let lost = take(ring, &mut seat, 1, 7, 0, &mut buf);
+    assert!(rt; lost == Taken::Lost(1));
+    let end = detach(ring, &mut seat);
+    assert!(rt; end == 4);
     Ok(())
 }
