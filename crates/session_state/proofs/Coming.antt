@@ -9,7 +9,7 @@ use Rattle.session_state.specs.History.{History}
 use Rattle.session_state.specs.Legal.{Comes, IsLegal}
 use Rattle.session_state.specs.Lookups.{IsSessionOf, beginning, is_open}
 use Rattle.session_state.specs.Stands.{Stands, Tables, kept_of}
-use Rattle.session_state.specs.Streams.{AreLive, IsLive, ends_mount_of}
+use Rattle.session_state.specs.Streams.{AreLive, IsLive, ends_of}
 use Rattle.session_state.proofs.Kept.{IsKeptFor, kept_same}
 use Rattle.session_state.proofs.Living.{each_of, mounts_still}
 use Rattle.session_state.proofs.Parts.{session_still}
@@ -65,7 +65,7 @@ pub come : (history : History) (old new : Tables) (conn : ℕ) → IsLegal old.m
 come history old new conn legal stands h = record {
   sound = subst IsSound (sym h.mounts) stands.sound;
   mounts = subst (λ table. AreLive table.seats (Connect conn ∷ history) table.mounts) (sym h.mounts)
-      (mounts_still old.mounts.seats history (Connect conn) old.mounts.mounts (record { plain = refl; seats = λ mount seat. refl }) (each_of (λ mount. ends_mount_of mount.owner (Connect conn) ≡ false) old.mounts.mounts (λ mount. refl)) stands.mounts);
+      (mounts_still old.mounts.seats history (Connect conn) old.mounts.mounts (record { plain = refl; seats = λ mount seat. refl }) (each_of (λ mount. ends_of mount.owner (Connect conn) ≡ false) old.mounts.mounts (λ mount. refl)) stands.mounts);
   next = ap (λ table. table.next) h.mounts ∙ stands.next;
   are_open = opened;
   sessions = kept;

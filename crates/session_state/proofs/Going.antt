@@ -19,7 +19,7 @@ use Rattle.session_state.specs.Stands.{Stands, Tables, kept_of}
 use Rattle.session_state.specs.Streams.{AreLive}
 use Rattle.session_state.proofs.Kept.{IsKeptFor, kept_same}
 use Rattle.session_state.proofs.Living.{LeavesMounts, mount_ends, mounts_still}
-use Rattle.session_state.proofs.Parts.{session_still}
+use Rattle.session_state.proofs.Parts.{part_still, session_still}
 use Rattle.session_state.proofs.Strangers.{after}
 
 -- the table of mounts without that of a connection
@@ -131,7 +131,7 @@ gone history old new conn act stands h = record {
         by : (is : Bool) → (conn == other) ≡ is → IsSessionOf old.mounts.seats other (HangUp conn act ∷ history) session
         by true same = let none = kept_same conn other None old.connections new.connections h.kept true same in absurd (cc)
         by false apart =
-            session_still old.mounts.seats other history (HangUp conn act ∷ history) session refl
+            session_still old.mounts.seats other history (HangUp conn act ∷ history) session (part_still other (HangUp conn act) history apart refl)
             (stands.sessions other session (sym (kept_same conn other None old.connections new.connections h.kept false apart) ∙ there))
 
 -- the act that a connection is told

@@ -8,11 +8,12 @@ use Rattle.std.proofs.lemmas.List.Folds.{find-append}
 use Rattle.session_state.specs.declared.entry.Entry.{Entry}
 use Rattle.session_state.specs.declared.method.Method.{Method}
 use Rattle.session_state.specs.declared.session.Session.{Session}
-use Rattle.session_state.specs.Methods.{is_setup, is_teardown, moves}
+use Rattle.session_state.specs.Methods.{is_setup, moves}
 use Rattle.session_state.specs.History.{History, Moment, accepted, accepts_from, since_last}
 use Rattle.session_state.specs.Lookups.{IsSession, beginning, begins, has_session, session_part, sessions_begun}
+use Rattle.session_state.specs.Streams.{ends_of}
 use Rattle.session_state.proofs.Nth.{RisesTo, one_rise}
-use Rattle.session_state.proofs.Parts.{part_still}
+use Rattle.session_state.proofs.Parts.{part_ends, part_still}
 
 -- A moment of a history at which a connection's session begins.
 pub record IsBeginning (conn : ℕ) (history : History) (moment : Moment) : Type 0 where
@@ -40,7 +41,7 @@ extended conn entry before moment is = record { later = entry ∷ is.later; cut 
 
 is_beginning : (conn : ℕ) (history : History) (moment : Moment) → beginning conn (session_part conn history) ≡ Some moment → IsBeginning conn history moment
 is_beginning conn [] moment at = absurd (cc)
-is_beginning conn (entry ∷ before) moment at = by (accepts_from conn is_teardown entry) refl (accepts_from conn moves entry) refl (is_beginning conn before moment)
+is_beginning conn (entry ∷ before) moment at = by (ends_of conn entry) refl (accepts_from conn moves entry) refl (is_beginning conn before moment)
   where
     here : Moment
     here = record { entry = entry; before = before }
@@ -61,16 +62,16 @@ is_beginning conn (entry ∷ before) moment at = by (accepts_from conn is_teardo
         subst (IsBeginning conn (entry ∷ before)) same (record { later = []; cut = refl; sets_up = sets; begins_it = begins_one conn here sets (ap is_some none) })
     newest None none false sets at earlier = absurd (cc)
 
-    by : (ends : Bool) → accepts_from conn is_teardown entry ≡ ends → (moved : Bool) → accepts_from conn moves entry ≡ moved → (found ≡ Some moment → IsBeginning conn before moment) → IsBeginning conn (entry ∷ before) moment
+    by : (ends : Bool) → ends_of conn entry ≡ ends → (moved : Bool) → accepts_from conn moves entry ≡ moved → (found ≡ Some moment → IsBeginning conn before moment) → IsBeginning conn (entry ∷ before) moment
     by true ends moved moving earlier =
-        let none : session_part conn (entry ∷ before) ≡ [] = ap (λ b. filter (λ one. accepts_from conn moves one.entry) (cond b [] (here ∷ since_last (accepts_from conn is_teardown) before))) ends in
+        let none = part_ends conn entry before ends in
         let nothing : beginning conn [] ≡ Some moment = sym (ap (beginning conn) none) ∙ at in
         absurd (cc)
     by false ends false moving earlier =
         extended conn entry before moment (earlier (sym (ap (beginning conn) (part_still conn entry before ends moving)) ∙ at))
     by false ends true moving earlier =
         let more : session_part conn (entry ∷ before) ≡ here ∷ session_part conn before =
-        ap (λ b. filter (λ one. accepts_from conn moves one.entry) (cond b [] (here ∷ since_last (accepts_from conn is_teardown) before))) ends
+        ap (λ b. filter (λ one. accepts_from conn moves one.entry) (cond b [] (here ∷ since_last (ends_of conn) before))) ends
         ∙ cond-true (accepts_from conn moves entry) (here ∷ session_part conn before) (session_part conn before) moving in
         newest found refl (setup here) refl (sym joined ∙ sym (ap (beginning conn) more) ∙ at) earlier
 

@@ -21,7 +21,7 @@ use Rattle.session_state.specs.declared.entry.Entry.TheVariants.{Connect, Reques
 use Rattle.session_state.specs.Methods.{is_announce}
 use Rattle.session_state.specs.History.{History, IsNth, accepts, accepts_from, how_many}
 use Rattle.session_state.specs.Legal.{Follows, IsLegal, IsReplyOf}
-use Rattle.session_state.specs.Streams.{Announces, IsLive, IsLiveMount, ends_mount_of}
+use Rattle.session_state.specs.Streams.{Announces, IsLive, IsLiveMount, ends_of}
 use Rattle.session_state.proofs.Announced.{is_announce_of, passed}
 use Rattle.session_state.proofs.Coming.{none_lives}
 use Rattle.session_state.proofs.Nth.{one_nth}
@@ -76,7 +76,7 @@ record IsNewName (before : History) (entry : Entry) (number owner : ℕ) (name :
 new_or_earlier : (before : History) (entry : Entry) (number owner : ℕ) (name : List ℕ) → HasName (entry ∷ before) number owner name → IsNewName before entry number owner name ⊎ HasName before number owner name
 new_or_earlier before entry number owner name has = by has.live.later has.live.nth.cut has.live.unended
   where
-    by : (later : History) → entry ∷ before ≡ later ++ has.live.moment.entry ∷ has.live.moment.before → AllByRecursion (λ e. ends_mount_of owner e ≡ false) later
+    by : (later : History) → entry ∷ before ≡ later ++ has.live.moment.entry ∷ has.live.moment.before → AllByRecursion (λ e. ends_of owner e ≡ false) later
         → IsNewName before entry number owner name ⊎ HasName before number owner name
     by [] cut none =
         let same : has.live.moment.entry ≡ entry = cc in

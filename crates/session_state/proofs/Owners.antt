@@ -6,7 +6,7 @@ use Rattle.session_state.specs.declared.entry.Entry.TheVariants.{Connect, Reques
 use Rattle.session_state.specs.Methods.{is_announce}
 use Rattle.session_state.specs.History.{History, accepts, accepts_from, how_many}
 use Rattle.session_state.specs.Legal.{Follows, IsLegal}
-use Rattle.session_state.specs.Streams.{IsLive, ends_mount_of}
+use Rattle.session_state.specs.Streams.{IsLive, ends_of}
 use Rattle.session_state.proofs.Announced.{owned_none}
 use Rattle.session_state.proofs.Coming.{none_lives}
 
@@ -18,7 +18,7 @@ pub record IsNewest (before : History) (entry : Entry) (number owner : ℕ) : Ty
 pub newest_or_earlier : (before : History) (entry : Entry) (number owner : ℕ) → IsLive (entry ∷ before) number owner → IsNewest before entry number owner ⊎ IsLive before number owner
 newest_or_earlier before entry number owner live = by live.later live.nth.cut live.unended
   where
-    by : (later : History) → entry ∷ before ≡ later ++ live.moment.entry ∷ live.moment.before → AllByRecursion (λ e. ends_mount_of owner e ≡ false) later → IsNewest before entry number owner ⊎ IsLive before number owner
+    by : (later : History) → entry ∷ before ≡ later ++ live.moment.entry ∷ live.moment.before → AllByRecursion (λ e. ends_of owner e ≡ false) later → IsNewest before entry number owner ⊎ IsLive before number owner
     by [] cut none =
         let same : live.moment.entry ≡ entry = cc in
         let rest : live.moment.before ≡ before = cc in

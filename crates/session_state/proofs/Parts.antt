@@ -13,18 +13,25 @@ use Rattle.session_state.specs.declared.entry.Entry.TheVariants.{Request}
 use Rattle.transport_header.specs.Tracks.{pair_at}
 use Rattle.session_state.specs.declared.method.Method.{Method}
 use Rattle.session_state.specs.declared.session.Session.{Session}
-use Rattle.session_state.specs.Methods.{method_of, is_teardown, moves}
+use Rattle.session_state.specs.Methods.{method_of, moves}
 use Rattle.session_state.specs.History.{History, Moment, accepts_from, since_last}
 use Rattle.session_state.specs.Lookups.{AreChannels, IsSessionOf, beginning, session_part, state_of}
+use Rattle.session_state.specs.Streams.{ends_of}
 
 -- an entry that neither moves a session nor ends it leaves it as it was
-pub part_still : (conn : ℕ) (entry : Entry) (history : History) → accepts_from conn is_teardown entry ≡ false → accepts_from conn moves entry ≡ false
+pub part_still : (conn : ℕ) (entry : Entry) (history : History) → ends_of conn entry ≡ false → accepts_from conn moves entry ≡ false
     → session_part conn (entry ∷ history) ≡ session_part conn history
 part_still conn entry history no_end no_move =
     let moment : Moment = record { entry = entry; before = history } in
-    let rest : List Moment = since_last (accepts_from conn is_teardown) history in
+    let rest : List Moment = since_last (ends_of conn) history in
     let mine : Moment → Bool = λ one. accepts_from conn moves one.entry in
     ap (λ ends. filter mine (cond ends [] (moment ∷ rest))) no_end ∙ cond-false (mine moment) (moment ∷ filter mine rest) (filter mine rest) no_move
+
+-- an entry that ends a session leaves nothing of it
+pub part_ends : (conn : ℕ) (entry : Entry) (history : History) → ends_of conn entry ≡ true → session_part conn (entry ∷ history) ≡ []
+part_ends conn entry history ends =
+    let rest : List Moment = since_last (ends_of conn) history in
+    ap (λ is. filter (λ one. accepts_from conn moves one.entry) (cond is [] (record { entry = entry; before = history } ∷ rest))) ends
 
 -- the request of another connection is none of this one's
 pub of_another : (who conn : ℕ) (such : Method → Bool) (request : messages.Request) (given : Given) (reply : Reply) (act : Act) → (who == conn) ≡ false

@@ -8,7 +8,7 @@ use Rattle.session_state.specs.Methods.{is_teardown, moves}
 use Rattle.session_state.specs.History.{History, connects, last_of}
 use Rattle.session_state.specs.Legal.{IsLegal}
 use Rattle.session_state.specs.Lookups.{came, comes_or_goes, is_open, session_part}
-use Rattle.session_state.proofs.Parts.{of_another, part_still}
+use Rattle.session_state.proofs.Parts.{of_another, part_ends, part_still}
 
 -- whether a connection is open after an entry that is of it, or isn't
 abbrev pub after : (is : Bool) → Entry → (conn : ℕ) → History → Bool
@@ -44,5 +44,9 @@ strangers seats (Request who request given reply act ∷ before) conn legal less
     let other = differs who conn (came before) (open_came seats before who legal.0 legal.1.is_there) less in
     part_still conn (Request who request given reply act) before (of_another who conn is_teardown request given reply act other) (of_another who conn moves request given reply act other)
     ∙ strangers seats before conn legal.0 less
-strangers seats (HangUp who act ∷ before) conn legal less = strangers seats before conn legal.0 less
+strangers seats (HangUp who act ∷ before) conn legal less = by (who == conn) refl (strangers seats before conn legal.0 less)
+  where
+    by : (is : Bool) → (who == conn) ≡ is → session_part conn before ≡ [] → session_part conn (HangUp who act ∷ before) ≡ []
+    by true same earlier = part_ends conn (HangUp who act) before same
+    by false apart earlier = part_still conn (HangUp who act) before apart refl ∙ earlier
 strangers seats (Back mount seat ∷ before) conn legal less = strangers seats before conn legal.0 less

@@ -17,9 +17,9 @@ use Rattle.session_state.specs.declared.method.Method.TheVariants as methods
 use Rattle.session_state.specs.declared.session.Session.{Session}
 use Rattle.session_state.specs.declared.session.State.{State}
 use Rattle.session_state.specs.declared.session.State.TheVariants.{Ready, Playing, Recording}
-use Rattle.session_state.specs.Methods.{is_setup, is_teardown, moves}
+use Rattle.session_state.specs.Methods.{is_setup, moves}
 use Rattle.session_state.specs.History.{History, Moment, IsLast, last_of, how_many, since_last, accepted, accepts_from, connects, is_connect, is_hang_up, act_of, seat_of}
-use Rattle.session_state.specs.Streams.{AreLive, SetsUp}
+use Rattle.session_state.specs.Streams.{AreLive, SetsUp, ends_of}
 
 -- whether a connection is open: the last of its coming and its hanging up was its coming
 abbrev pub comes_or_goes : ℕ → Entry → Bool
@@ -37,9 +37,10 @@ came history = how_many is_connect history
 abbrev pub open_count : History → ℕ
 open_count history = came history - how_many is_hang_up history
 
--- what a connection's session goes by: the accepted SETUP, PLAY, RECORD and PAUSE since its last TEARDOWN, newest first
+-- what a connection's session goes by: the accepted SETUP, PLAY, RECORD and PAUSE since its last TEARDOWN or hang-up, newest
+-- first
 abbrev pub session_part : (conn : ℕ) → History → List Moment
-session_part conn history = filter (λ moment. accepts_from conn moves moment.entry) (since_last (accepts_from conn is_teardown) history)
+session_part conn history = filter (λ moment. accepts_from conn moves moment.entry) (since_last (ends_of conn) history)
 
 -- the first SETUP among some moments, with which a session begins
 abbrev pub beginning : (conn : ℕ) → List Moment → Option Moment

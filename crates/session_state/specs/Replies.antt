@@ -14,7 +14,7 @@ use Rattle.transport_header.specs.declared.spec.ChannelPair.{ChannelPair}
 use Rattle.transport_header.specs.Chosen.{IsChosen, transport_text}
 use Rattle.transport_header.specs.RtpInfo.{rtp_info_text}
 use Rattle.transport_header.specs.Session.{identifier_text}
-use Rattle.transport_header.specs.Tracks.{IsFreeFor, pair_at}
+use Rattle.transport_header.specs.Tracks.{IsOfOther, pair_at}
 use Rattle.transport_header.specs.Transport.{specs_of}
 use Rattle.mounts.specs.declared.mount.Mount.{Mount}
 use Rattle.mounts.specs.declared.target.Target.{Target}
@@ -137,7 +137,7 @@ module _ (asked : Asked) where
     pub text : List ℕ
     pub transport : field asked (codes "Transport") ≡ Some text
     pub used : List ℕ
-    pub others : (channel : ℕ) → Contains used channel ↔ (IsFreeFor (channels_in asked.session) track channel → ⊥)
+    pub others : (channel : ℕ) → Contains used channel ↔ IsOfOther (channels_in asked.session) track channel
     pub chosen : Chosen
     pub is_chosen : IsChosen (specs_of text) used (Some chosen)
     pub is : reply ≡ accepting (record no_fields { session = Some (identifier_told given); transport = Some (transport_text (record chosen { recording = mount.owner == asked.conn })) }) []

@@ -39,10 +39,10 @@ pub record Announces (entry : Entry) (owner : ℕ) (name : List ℕ) (descriptio
   pub path : target.path ≡ name
   pub body : Reads asks.request.body description
 
--- A connection's mount ends when it hangs up, and at its accepted TEARDOWN.
-abbrev pub ends_mount_of : ℕ → Entry → Bool
-ends_mount_of owner (HangUp who act) = who == owner
-ends_mount_of owner entry = accepts_from owner is_teardown entry
+-- A connection's mount and its session end when it hangs up, and at its accepted TEARDOWN.
+abbrev pub ends_of : ℕ → Entry → Bool
+ends_of owner (HangUp who act) = who == owner
+ends_of owner entry = accepts_from owner is_teardown entry
 
 -- The mount of a number lives: it is the accepted ANNOUNCE with so many up to it, of this connection, and nothing later has
 -- ended it.
@@ -51,7 +51,7 @@ pub record IsLive (history : History) (number owner : ℕ) : Type 0 where
   pub moment : Moment
   pub nth : IsNth (accepts is_announce) number history later moment
   pub owned : accepts_from owner is_announce moment.entry ≡ true
-  pub unended : AllByRecursion (λ entry. ends_mount_of owner entry ≡ false) later
+  pub unended : AllByRecursion (λ entry. ends_of owner entry ≡ false) later
 
 -- whether a seat of a mount is out: the last that took it or gave it back took it
 abbrev pub takes_or_gives_back : (mount seat : ℕ) → Entry → Bool

@@ -10,11 +10,11 @@ ghost use Rattle.session_state.specs.declared.entry.Entry.{Entry};
 ghost use Rattle.session_state.specs.declared.entry.Entry.TheVariants.{Request, Back};
 ghost use Rattle.session_state.specs.declared.given.Given.{Given};
 ghost use Rattle.session_state.specs.declared.session.Session.{Session};
-ghost use Rattle.session_state.specs.History.{History, accepts_from};
+ghost use Rattle.session_state.specs.History.{History, accepts, accepts_from, how_many};
 ghost use Rattle.session_state.specs.Legal.{IsLegal};
-ghost use Rattle.session_state.specs.Lookups.{IsSession, IsSessionOf, came, is_open, sessions_begun};
-ghost use Rattle.session_state.specs.Methods.{is_teardown, moves};
-ghost use Rattle.session_state.specs.Streams.{AreLive, IsLiveMount, is_out};
+ghost use Rattle.session_state.specs.Lookups.{IsSession, IsSessionOf, came, has_session, is_open, sessions_begun};
+ghost use Rattle.session_state.specs.Methods.{is_announce, moves};
+ghost use Rattle.session_state.specs.Streams.{AreLive, IsLiveMount, ends_of, is_out};
 
 /// In a legal history a PLAY takes a seat below the number of seats, and a free one; a seat is given back only while it is
 /// out. So no seat is out twice.
@@ -27,8 +27,8 @@ pub fn seats_are_taken_free()
     ensures out { (seats : ℕ) (history : History) (mount seat : ℕ) → IsLegal seats history → is_out mount seat history ≡ true → seat < seats }
 {}
 
-/// A request that isn't answered 200 asks for nothing, and changes no look-up: not the mounts that live nor their seats, no
-/// session, and not how many have begun.
+/// A request that isn't answered 200 asks for nothing, and leaves what lives, who is open and all that is counted: the mounts
+/// and their seats, the sessions, and how many mounts, sessions and connections there have been.
 pub fn refusals_change_nothing()
     ensures act { (seats : ℕ) (before : History) (conn : ℕ) (request : messages.Request) (given : Given) (reply : Reply) (act : Act)
         → IsLegal seats (Request conn request given reply act ∷ before) → code_of reply.status ≢ 200 → act ≡ acts.None }
@@ -38,20 +38,26 @@ pub fn refusals_change_nothing()
         → IsLegal seats (Request conn request given reply act ∷ before) → code_of reply.status ≢ 200 → IsSessionOf seats who before session → IsSessionOf seats who (Request conn request given reply act ∷ before) session }
     ensures seats { (seats : ℕ) (before : History) (conn : ℕ) (request : messages.Request) (given : Given) (reply : Reply) (act : Act) (mount seat : ℕ)
         → IsLegal seats (Request conn request given reply act ∷ before) → code_of reply.status ≢ 200 → is_out mount seat (Request conn request given reply act ∷ before) ≡ is_out mount seat before }
+    ensures open { (before : History) (conn : ℕ) (request : messages.Request) (given : Given) (reply : Reply) (act : Act) (who : ℕ)
+        → is_open who (Request conn request given reply act ∷ before) ≡ is_open who before }
+    ensures came { (before : History) (conn : ℕ) (request : messages.Request) (given : Given) (reply : Reply) (act : Act) → came (Request conn request given reply act ∷ before) ≡ came before }
+    ensures announced { (seats : ℕ) (before : History) (conn : ℕ) (request : messages.Request) (given : Given) (reply : Reply) (act : Act)
+        → IsLegal seats (Request conn request given reply act ∷ before) → code_of reply.status ≢ 200 → how_many (accepts is_announce) (Request conn request given reply act ∷ before) ≡ how_many (accepts is_announce) before }
     ensures begun { (seats : ℕ) (before : History) (conn : ℕ) (request : messages.Request) (given : Given) (reply : Reply) (act : Act)
         → IsLegal seats (Request conn request given reply act ∷ before) → code_of reply.status ≢ 200 → sessions_begun (Request conn request given reply act ∷ before) ≡ sessions_begun before }
 {}
 
-/// A connection's session, and with it its state, changes only by its own accepted SETUP, PLAY, RECORD, PAUSE and TEARDOWN
-/// (RFC 2326, A.2).
+/// A connection's session, and with it its state, changes only by its own accepted SETUP, PLAY, RECORD, PAUSE and TEARDOWN,
+/// and by its hang-up (RFC 2326, A.2).
 pub fn sessions_change_by_their_own()
-    ensures { (seats conn : ℕ) (before : History) (entry : Entry) (session : Option Session) → accepts_from conn is_teardown entry ≡ false → accepts_from conn moves entry ≡ false
+    ensures { (seats conn : ℕ) (before : History) (entry : Entry) (session : Option Session) → ends_of conn entry ≡ false → accepts_from conn moves entry ≡ false
         → IsSessionOf seats conn before session → IsSessionOf seats conn (entry ∷ before) session }
 {}
 
-/// A connection that is open has come, and one that hasn't come has no session: numbers aren't used again.
+/// A connection that is open has come, and one that hasn't come has no session.
 pub fn connections_come_first()
-    ensures { (seats conn : ℕ) (history : History) → IsLegal seats history → is_open conn history ≡ true → conn < came history + 1 }
+    ensures stranger { (seats conn : ℕ) (history : History) → IsLegal seats history → came history < conn → has_session conn history ≡ false }
+    ensures open { (seats conn : ℕ) (history : History) → IsLegal seats history → is_open conn history ≡ true → conn < came history + 1 }
 {}
 
 /// In a legal history a connection owns at most one mount that lives, and no two mounts that live have one name.
@@ -62,7 +68,7 @@ pub fn mounts_differ()
         → one.name ≡ other.name → one.number ≡ other.number }
 {}
 
-/// No two connections' sessions have one number, and so none have one identifier (RFC 2326, 3.4).
+/// No two connections' sessions have one number (RFC 2326, 3.4: the identifier, whose first eight digits it is).
 pub fn sessions_differ()
     ensures { (seats conn other : ℕ) (history : History) (session second : Session) → IsSession seats conn history session → IsSession seats other history second
         → session.number ≡ second.number → conn ≡ other }

@@ -1,5 +1,5 @@
-//! What a server decides about a request (RFC 2326, 10 to 12 and A.2), and what it remembers to decide it. What a
-//! decision has to be is said over the history of all that was asked and answered, in `specs/`.
+//! What a server has to answer a request (RFC 2326, 10 to 12 and A.2), said over the history of all that was asked and
+//! answered (`specs/`), and what it remembers to decide it.
 #![tactic(auto)]
 
 mod act;

@@ -54,7 +54,7 @@ impl World {
         }
     }
 
-    /// Whether a connection is open. Looks at so many connections as their count has binary digits.
+    /// Whether a connection is open. Looks it up by its number, in a B-tree.
     pub fn is_open(&self, conn: u64) -> bool
         ensures { (history : History) → Stands history self.now → result ≡ is_open conn history }
     {
@@ -62,12 +62,15 @@ impl World {
     }
 
     /// Lets a connection come, and tells its number: from 1 on, and never used again. `Full` comes exactly where
-    /// `MAX_CONNECTIONS` are open or the numbers are used up; after an error nothing has changed.
+    /// `MAX_CONNECTIONS` are open or the numbers are used up, and want of memory only where they aren't; after an error
+    /// nothing has changed.
     pub fn connect(&mut self) -> Result<u64, ConnectFault>
         ensures ok { IfOk result (λ conn. (history : History) → IsLegal self.old.mounts.seats history → Stands history self.old
             → Comes history conn × Stands (Connect conn ∷ history) self.new) }
         ensures full { result ≡ Err Full → (history : History) → Stands history self.old → Comes history (came history + 1) → ⊥ }
+        ensures memory { result ≡ Err OutOfMemory → (history : History) → Stands history self.old → Comes history (came history + 1) }
         ensures err { OnErr result (self.new ≡ self.old) }
+        ensures seats { self.new.mounts.seats ≡ self.old.mounts.seats }
     {
         if self.connections.len() >= MAX_CONNECTIONS || self.came >= 1 << 63 {
             return Err(ConnectFault::Full);
@@ -84,6 +87,7 @@ impl World {
         ensures ok { (history : History) → IsLegal self.old.mounts.seats history → Stands history self.old → is_open conn history ≡ true
             → IsHangUp self.old.mounts.seats history conn result × Stands (HangUp conn result ∷ history) self.new }
         ensures unknown { (history : History) → Stands history self.old → is_open conn history ≡ false → (result ≡ acts.None) × (self.new ≡ self.old) }
+        ensures seats { self.new.mounts.seats ≡ self.old.mounts.seats }
     {
         let Some(session) = self.connections.remove(&conn) else {
             return Act::None;
@@ -101,6 +105,7 @@ impl World {
     pub fn back(&mut self, mount: u64, seat: usize) -> bool
         ensures yes { (history : History) → Stands history self.old → result ≡ true → IsBack history mount seat × Stands (Back mount seat ∷ history) self.new }
         ensures no { (history : History) → IsLegal self.old.mounts.seats history → Stands history self.old → result ≡ false → (IsBack history mount seat → ⊥) × (self.new ≡ self.old) }
+        ensures seats { self.new.mounts.seats ≡ self.old.mounts.seats }
     {
         self.mounts.give_back(mount, seat)
     }
