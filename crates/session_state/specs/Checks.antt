@@ -21,6 +21,8 @@ use Rattle.mounts.specs.Mounts.{named, numbered, owned_by}
 use Rattle.mounts.specs.Names.{EndsInTrack, GoesOn, IsName}
 use Rattle.mounts.specs.Tracks.{IsNamedBy, IsNamedByOwner}
 use Rattle.mounts.specs.Uri.{IsUri}
+use Rattle.session_state.specs.declared.check.Check.{Check}
+use Rattle.session_state.specs.declared.check.Check.TheVariants.{HasCSeq, HasVersion, HasMethod, RequiresNothing, HasUri, HasItsSession, NamesAStream, FitsState, HasNoBody, AcceptsSdp, MayAnnounce, HasSdpType, IsDescription, HasFewTracks, HasRoomForMount, OwnsNoOther, NamesATrack, HasTransport, MayRecord, HasRoomForSession, IsForPlaying, IsForRecording, IsAggregate, HasFreeSeat}
 use Rattle.session_state.specs.declared.method.Method.{Method}
 use Rattle.session_state.specs.declared.method.Method.TheVariants.{Options, Describe, Announce, Setup, Play, Pause, Record, Teardown, GetParameter}
 use Rattle.session_state.specs.declared.session.Session.{Session}
@@ -44,32 +46,6 @@ pub record Asked : Type 0 where
 pub record LooksUp (asked : Asked) : Type 0 where
   pub mounts : AreLive asked.seats asked.history asked.mounts
   pub session : IsSessionOf asked.seats asked.conn asked.history asked.session
-
-pub data Check : Type 0 where
-  HasCSeq : Check
-  HasVersion : Check
-  HasMethod : Check
-  RequiresNothing : Check
-  HasUri : Method → Check
-  HasItsSession : Method → Check
-  NamesAStream : Method → Check
-  FitsState : Method → Check
-  HasNoBody : Check
-  AcceptsSdp : Check
-  MayAnnounce : Check
-  HasSdpType : Check
-  IsDescription : Check
-  HasFewTracks : Check
-  HasRoomForMount : Check
-  OwnsNoOther : Check
-  NamesATrack : Check
-  HasTransport : Check
-  MayRecord : Check
-  HasRoomForSession : Check
-  IsForPlaying : Check
-  IsForRecording : Check
-  IsAggregate : Check
-  HasFreeSeat : Check
 
 -- a method's own checks
 abbrev pub own_checks : Method → List Check

@@ -9,13 +9,14 @@ use Rattle.session_state.specs.declared.act.Act.TheVariants as acts
 use Rattle.session_state.specs.declared.given.Given.{Given}
 use Rattle.session_state.specs.declared.entry.Entry.{Entry}
 use Rattle.session_state.specs.declared.entry.Entry.TheVariants.{Connect, Request, HangUp, Back}
+use Rattle.session_state.specs.declared.check.Check.{Check}
 use Rattle.session_state.specs.declared.method.Method.{Method}
 use Rattle.session_state.specs.declared.session.Session.{Session}
 use Rattle.session_state.specs.Methods.{method_of}
 use Rattle.session_state.specs.History.{History}
 use Rattle.session_state.specs.Lookups.{IsSessionOf, came, is_open, open_count}
 use Rattle.session_state.specs.Streams.{AreLive, IsLive, is_out}
-use Rattle.session_state.specs.Checks.{Asked, Check, FailsFirst, LooksUp, PassesAll, checks_of}
+use Rattle.session_state.specs.Checks.{Asked, FailsFirst, LooksUp, PassesAll, checks_of}
 use Rattle.session_state.specs.Replies.{IsAccepted, pause_act, refusal}
 
 -- The reply to a request: the first check that it doesn't pass decides; where it passes all, it is accepted.

@@ -7,3 +7,4 @@ pub mod Checks
 pub mod Replies
 pub mod Legal
 pub mod Stands
+pub mod Judged

@@ -22,6 +22,8 @@ use Rattle.mounts.specs.Uri.{resource_text}
 use Rattle.session_state.specs.declared.act.Act.{Act}
 use Rattle.session_state.specs.declared.act.Act.TheVariants as acts
 use Rattle.session_state.specs.declared.given.Given.{Given}
+use Rattle.session_state.specs.declared.check.Check.{Check}
+use Rattle.session_state.specs.declared.check.Check.TheVariants.{HasCSeq, HasVersion, HasMethod, RequiresNothing, HasUri, HasItsSession, NamesAStream, FitsState, HasNoBody, AcceptsSdp, MayAnnounce, HasSdpType, IsDescription, HasFewTracks, HasRoomForMount, OwnsNoOther, NamesATrack, HasTransport, MayRecord, HasRoomForSession, IsForPlaying, IsForRecording, IsAggregate, HasFreeSeat}
 use Rattle.session_state.specs.declared.method.Method.{Method}
 use Rattle.session_state.specs.declared.method.Method.TheVariants as methods
 use Rattle.session_state.specs.declared.session.Session.{Session}
@@ -31,7 +33,7 @@ use Rattle.session_state.specs.Methods.{public_methods}
 use Rattle.session_state.specs.Fields.{sdp_type}
 use Rattle.session_state.specs.Lookups.{sessions_begun}
 use Rattle.session_state.specs.Streams.{SetsUp, is_out}
-use Rattle.session_state.specs.Checks.{Asked, Check, NamesInSession, NamesMount, field, state_in, HasCSeq, HasVersion, HasMethod, RequiresNothing, HasUri, HasItsSession, NamesAStream, FitsState, HasNoBody, AcceptsSdp, MayAnnounce, HasSdpType, IsDescription, HasFewTracks, HasRoomForMount, OwnsNoOther, NamesATrack, HasTransport, MayRecord, HasRoomForSession, IsForPlaying, IsForRecording, IsAggregate, HasFreeSeat}
+use Rattle.session_state.specs.Checks.{Asked, NamesInSession, NamesMount, field, state_in}
 
 -- the status that a check which isn't passed gives
 abbrev pub status_of : Check → Status

@@ -2,18 +2,23 @@
 //! answered (`specs/`), and what it remembers to decide it.
 #![tactic(auto)]
 
+mod accepted;
 mod act;
+mod change;
+mod check;
 mod entry;
 mod fault;
 mod given;
 pub mod laws;
 mod method;
+mod refusal;
 mod session;
 #[cfg(test)]
 mod tests;
 mod world;
 
 pub use act::Act;
+pub use check::Check;
 pub use entry::Entry;
 pub use fault::ConnectFault;
 pub use given::Given;

@@ -3,8 +3,10 @@ ghost use Rattle.std.specs.Prelude.{◌≡◌, ◌≤◌, ◌+◌, ◌∷◌, []
 
 use crate::act::Act;
 use crate::fault::ConnectFault;
+use crate::given::Given;
 use crate::session::{Session, State};
 use mounts::Mounts;
+use rtsp_message::{Reply, Request};
 use std::alloc::{AllocError, Global};
 use std::collections::BTreeMap;
 use std::collections::hash_map::RandomState;
@@ -34,11 +36,15 @@ impl Model for World {
 impl World {
     ghost use Rattle.session_state.specs.declared.act.Act.TheVariants as acts;
     ghost use Rattle.session_state.specs.declared.entry.Entry.TheVariants.{Connect, HangUp, Back};
+    ghost use Rattle.session_state.specs.declared.entry.Entry.TheVariants as entries;
+    ghost use Rattle.session_state.specs.Judged.{IsReplyIn, session_kept};
+    ghost use Rattle.std.specs.Option.{option_map};
+    ghost use Rattle.std.specs.Prelude.{IsSome};
     ghost use Rattle.session_state.specs.declared.fault.ConnectFault.TheVariants.{Full, OutOfMemory};
     ghost use Rattle.session_state.specs.History.{History};
-    ghost use Rattle.session_state.specs.Legal.{Comes, IsBack, IsHangUp, IsLegal};
+    ghost use Rattle.session_state.specs.Legal.{Comes, IsBack, IsHangUp, IsLegal, IsReplyOf};
     ghost use Rattle.session_state.specs.Lookups.{came, is_open};
-    ghost use Rattle.session_state.specs.Stands.{Stands};
+    ghost use Rattle.session_state.specs.Stands.{Stands, kept_of};
 
     /// The opening world: nobody has come yet. Each mount that is announced has so many seats. Takes no memory.
     pub fn new(alloc: Global, seats: usize, hasher: RandomState) -> World
@@ -56,7 +62,8 @@ impl World {
 
     /// Whether a connection is open. Looks it up by its number, in a B-tree.
     pub fn is_open(&self, conn: u64) -> bool
-        ensures { (history : History) → Stands history self.now → result ≡ is_open conn history }
+        ensures open { (history : History) → Stands history self.now → result ≡ is_open conn history }
+        ensures kept { MatchBool result (IsSome (kept_of conn self.now.connections)) (kept_of conn self.now.connections ≡ None) }
     {
         self.connections.contains_key(&conn)
     }
@@ -79,6 +86,50 @@ impl World {
         self.connections.insert(number, None)?;
         self.came = number;
         Ok(number)
+    }
+
+    /// Decides a request of an open connection: what it is answered, and what its connection has to do. Looks at the request,
+    /// at the connection's session and at its mount: up to `MAX_MOUNTS` of them by number, and never at other connections. The
+    /// only error is want of memory, and then nothing has changed.
+    pub fn decide(
+        &mut self,
+        alloc: Global,
+        conn: u64,
+        request: &Request,
+        given: &Given,
+    ) -> Result<(Reply, Act), AllocError>
+        requires open { IsSome (kept_of conn self.old.connections) }
+        ensures ok { IfOk result (λ r. (history : History) → IsLegal self.old.mounts.seats history → Stands history self.old
+            → IsReplyOf self.old.mounts.seats history conn request.now given.now r.0 r.1 × Stands (entries.Request conn request.now given.now r.0 r.1 ∷ history) self.new) }
+        ensures reply { IfOk result (λ r. (history : History) → IsLegal self.old.mounts.seats history → Stands history self.old → IsReplyIn self.old history conn request.now given.now r.0) }
+        ensures err { OnErr result (self.new ≡ self.old) }
+        ensures seats { self.new.mounts.seats ≡ self.old.mounts.seats }
+    {
+        Err(AllocError)
+    }
+
+    /// The reply that `decide` would give here.
+    pub fn reply_of(
+        &self,
+        alloc: Global,
+        conn: u64,
+        request: &Request,
+        given: &Given,
+    ) -> Result<Reply, AllocError>
+        requires open { IsSome (kept_of conn self.now.connections) }
+        ensures { IfOk result (λ reply. (history : History) → IsLegal self.now.mounts.seats history → Stands history self.now → IsReplyIn self.now history conn request.now given.now reply) }
+    {
+        Err(AllocError)
+    }
+
+    /// The number of the mount of a connection's session.
+    pub fn mount_of(&self, conn: u64) -> Option<u64>
+        ensures { result ≡ option_map (λ session. session.mount) (session_kept self.now conn) }
+    {
+        match self.connections.get(&conn)? {
+            Some(session) => Some(session.mount),
+            None => None,
+        }
     }
 
     /// Hangs a connection up: its session ends, and so does the mount that it owns. Tells what it has to do. Where it isn't
