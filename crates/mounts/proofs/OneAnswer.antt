@@ -53,7 +53,7 @@ one_uri text (At a) Star g h = absurd (star_is_no_target text a h g)
 one_uri text (At a) (At b) g h = ap At (one_target text a b g h)
 
 -- a path goes on after a name of one length in one way
-shorter : (path a b : List ℕ) (rest behind : Option (List ℕ)) → GoesOn path a rest → GoesOn path b behind → length a ≡ length b → (a ≡ b) × (rest ≡ behind)
+pub shorter : (path a b : List ℕ) (rest behind : Option (List ℕ)) → GoesOn path a rest → GoesOn path b behind → length a ≡ length b → (a ≡ b) × (rest ≡ behind)
 shorter path a b None None g h e = (sym g ∙ h, refl)
 shorter path a b None (Some r) g h e = let long = ap length (sym g ∙ h) in absurd (omega (arith, long, e, length-append b (slash ∷ r)))
 shorter path a b (Some r) None g h e = let long = ap length (sym h ∙ g) in absurd (omega (arith, long, e, length-append a (slash ∷ r)))
@@ -100,7 +100,7 @@ one_numbered rest tracks m n a b few at there g h =
     let high = slice_get_within tracks n b there in
     control_injective m n (omega arith) (omega arith) (sym g ∙ h)
 
-named_once : (owns : Bool) (target : Target) (rest : List ℕ) (tracks : List Track) (m n : ℕ) → length tracks ≤ 16 → IsNamedBy owns target rest tracks m → IsNamedBy owns target rest tracks n → m ≡ n
+pub named_once : (owns : Bool) (target : Target) (rest : List ℕ) (tracks : List Track) (m n : ℕ) → length tracks ≤ 16 → IsNamedBy owns target rest tracks m → IsNamedBy owns target rest tracks n → m ≡ n
 named_once false target rest tracks m n few g h = one_numbered rest tracks m n g.track h.track few g.there h.there g.named h.named
 named_once true target rest tracks m n few (inl g) (inl h) =
     let a = not_before target rest tracks m n g h in

@@ -5,27 +5,23 @@ use Rattle.std.proofs.lemmas.Bool.{eqb-true, eq-eqb}
 use Rattle.std.proofs.lemmas.List.Folds.{find_at}
 use Rattle.mounts.specs.declared.mount.Mount.{Mount}
 use Rattle.mounts.specs.Different.{AreDifferent}
-use Rattle.mounts.specs.Mounts.{IsSound, Table, ended, owned_by}
+use Rattle.mounts.specs.Mounts.{IsSound, Table, owned_by}
 use Rattle.mounts.proofs.Differing.{find_one, none_has, unequal}
 use Rattle.mounts.proofs.Firsts.{found_passes}
 use Rattle.mounts.proofs.Sound.{sound_ended}
 use Rattle.session_state.specs.declared.act.Act.{Act}
+use Rattle.session_state.specs.declared.entry.Entry.{Entry}
 use Rattle.session_state.specs.declared.entry.Entry.TheVariants.{HangUp}
 use Rattle.session_state.specs.declared.session.Session.{Session}
 use Rattle.session_state.specs.History.{History}
 use Rattle.session_state.specs.Legal.{IsHangUp, act_at_end}
 use Rattle.session_state.specs.Lookups.{IsSessionOf, is_open}
-use Rattle.session_state.specs.Stands.{Stands, Tables, kept_of}
-use Rattle.session_state.specs.Streams.{AreLive}
+use Rattle.session_state.specs.Stands.{Stands, Tables, kept_of, without_owned}
+use Rattle.session_state.specs.Streams.{AreLive, ends_of}
 use Rattle.session_state.proofs.Kept.{IsKeptFor, kept_same}
 use Rattle.session_state.proofs.Living.{LeavesMounts, mount_ends, mounts_still}
 use Rattle.session_state.proofs.Parts.{part_still, session_still}
 use Rattle.session_state.proofs.Strangers.{after}
-
--- the table of mounts without that of a connection
-abbrev pub without_owned : (owned : Option Mount) → Table → Table
-without_owned None table = table
-without_owned (Some own) table = ended own.number table
 
 -- The tables without a connection, and without its mount.
 pub record HasGone (conn : ℕ) (old new : Tables) : Type 0 where
@@ -37,6 +33,11 @@ pub record HasGone (conn : ℕ) (old new : Tables) : Type 0 where
 
 leaves : (conn : ℕ) (act : Act) → LeavesMounts (HangUp conn act)
 leaves conn act = record { plain = refl; seats = λ mount seat. refl }
+
+-- what follows for each element
+every : {X : Type 0} (P Q : X → Type 0) (xs : List X) → ((x : X) → P x → Q x) → AllByRecursion P xs → AllByRecursion Q xs
+every P Q [] step all = tt
+every P Q (x ∷ xs) step all = (step x all.0, every P Q xs step all.1)
 
 -- who owns nothing ends nothing
 ends_none : (conn : ℕ) (mounts : List Mount) → AllByRecursion (λ owner. owner ≢ conn) (map (λ mount. mount.owner) mounts)
@@ -69,28 +70,32 @@ ends_one conn own (mount ∷ mounts) once owns = by (mount.owner == conn) refl o
         differ : mount.owner ≡ conn → ⊥
         differ is = let same_owner = eq-eqb mount.owner conn is in absurd (cc)
 
-mounts_after : (seats : ℕ) (history : History) (conn : ℕ) (act : Act) (table : Table) (owned : Option Mount) → IsSound table → owned_by conn table.mounts ≡ owned
-    → AreLive seats history table.mounts → AreLive seats (HangUp conn act ∷ history) (without_owned owned table).mounts
-mounts_after seats history conn act table None sound owns are =
-    mounts_still seats history (HangUp conn act) table.mounts (leaves conn act) (ends_none conn table.mounts (none_has (λ mount. mount.owner) conn table.mounts owns)) are
-mounts_after seats history conn act table (Some own) sound owns are =
-    mount_ends seats history (HangUp conn act) own table.mounts (leaves conn act)
+-- after an entry that ends the mount of a connection, and no other
+pub mounts_after : (seats : ℕ) (history : History) (conn : ℕ) (entry : Entry) (table : Table) (owned : Option Mount) → LeavesMounts entry → ((owner : ℕ) → ends_of owner entry ≡ (conn == owner))
+    → IsSound table → owned_by conn table.mounts ≡ owned → AreLive seats history table.mounts → AreLive seats (entry ∷ history) (without_owned owned table).mounts
+mounts_after seats history conn entry table None leaves ends sound owns are =
+    mounts_still seats history entry table.mounts leaves
+    (every (λ mount. (conn == mount.owner) ≡ false) (λ mount. ends_of mount.owner entry ≡ false) table.mounts (λ mount apart. ends mount.owner ∙ apart)
+    (ends_none conn table.mounts (none_has (λ mount. mount.owner) conn table.mounts owns))) are
+mounts_after seats history conn entry table (Some own) leaves ends sound owns are =
+    mount_ends seats history entry own table.mounts leaves
     (record {
-      owner = let mine = found_passes (λ mount. mount.owner == conn) table.mounts own owns in eq-eqb conn own.owner (sym (eqb-true own.owner conn mine));
+      owner = ends own.owner ∙ (let mine = found_passes (λ mount. mount.owner == conn) table.mounts own owns in eq-eqb conn own.owner (sym (eqb-true own.owner conn mine)));
       there = find_one (λ mount. mount.number) (λ mount. mount.number == own.number) table.mounts (position_or_len (λ mount. mount.owner == conn) table.mounts) own sound.numbers
           (sym (find_at (λ mount. mount.owner == conn) table.mounts) ∙ owns) (eq-eqb own.number own.number refl) (λ other apart. unequal other.number own.number apart);
-      others = ends_one conn own table.mounts sound.owners owns;
+      others = every (λ mount. (mount.number == own.number) ≡ false → (conn == mount.owner) ≡ false) (λ mount. (mount.number == own.number) ≡ false → ends_of mount.owner entry ≡ false) table.mounts
+          (λ mount apart other. ends mount.owner ∙ apart other) (ends_one conn own table.mounts sound.owners owns);
     }) are
 
-sound_after : (table : Table) (owned : Option Mount) → IsSound table → IsSound (without_owned owned table)
+pub sound_after : (table : Table) (owned : Option Mount) → IsSound table → IsSound (without_owned owned table)
 sound_after table None sound = sound
 sound_after table (Some own) sound = sound_ended own.number table sound
 
-same_seats : (table : Table) (owned : Option Mount) → (without_owned owned table).seats ≡ table.seats
+pub same_seats : (table : Table) (owned : Option Mount) → (without_owned owned table).seats ≡ table.seats
 same_seats table None = refl
 same_seats table (Some own) = refl
 
-same_next : (table : Table) (owned : Option Mount) → (without_owned owned table).next ≡ table.next
+pub same_next : (table : Table) (owned : Option Mount) → (without_owned owned table).next ≡ table.next
 same_next table None = refl
 same_next table (Some own) = refl
 
@@ -99,7 +104,7 @@ gone history old new conn act stands h = record {
   sound = subst IsSound (sym h.mounts) (sound_after old.mounts owned stands.sound);
   mounts = subst (λ table. AreLive table.seats (HangUp conn act ∷ history) table.mounts) (sym h.mounts)
       (subst (λ seats. AreLive seats (HangUp conn act ∷ history) (without_owned owned old.mounts).mounts) (sym (same_seats old.mounts owned))
-      (mounts_after old.mounts.seats history conn act old.mounts owned stands.sound refl stands.mounts));
+      (mounts_after old.mounts.seats history conn (HangUp conn act) old.mounts owned (leaves conn act) (λ owner. refl) stands.sound refl stands.mounts));
   next = ap (λ table. table.next) h.mounts ∙ same_next old.mounts owned ∙ stands.next;
   are_open = opened;
   sessions = kept;

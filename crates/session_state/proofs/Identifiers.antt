@@ -1,10 +1,8 @@
 -- No two sessions of a history have one number.
-use Rattle.std.proofs.Common.{◌≡◌, ℕ, suc, ◌≤◌, ◌==◌, ◌&&◌, Bool, true, false, cond, not, [], ◌∷◌, ◌++◌, reverse, is_some, Option, None, Some, refl, ap, sym, ◌∙◌, subst, arith}
-use Rattle.std.specs.List.{filter, find}
+use Rattle.std.proofs.Common.{◌≡◌, ℕ, suc, ◌≤◌, ◌==◌, ◌&&◌, Bool, true, false, cond, not, [], ◌∷◌, ◌++◌, is_some, Option, None, Some, refl, ap, sym, ◌∙◌, subst, arith}
+use Rattle.std.specs.List.{filter}
 use Rattle.std.specs.Option.{option_map_or, option_or}
 use Rattle.std.proofs.lemmas.Bool.{cond-true, eqb-true}
-use Rattle.std.proofs.lemmas.List.{reverse-append}
-use Rattle.std.proofs.lemmas.List.Folds.{find-append}
 use Rattle.session_state.specs.declared.entry.Entry.{Entry}
 use Rattle.session_state.specs.declared.method.Method.{Method}
 use Rattle.session_state.specs.declared.session.Session.{Session}
@@ -13,7 +11,7 @@ use Rattle.session_state.specs.History.{History, Moment, accepted, accepts_from,
 use Rattle.session_state.specs.Lookups.{IsSession, beginning, begins, has_session, session_part, sessions_begun}
 use Rattle.session_state.specs.Streams.{ends_of}
 use Rattle.session_state.proofs.Nth.{RisesTo, one_rise}
-use Rattle.session_state.proofs.Parts.{part_ends, part_still}
+use Rattle.session_state.proofs.Parts.{beginning_on, part_ends, part_still}
 
 -- A moment of a history at which a connection's session begins.
 pub record IsBeginning (conn : ℕ) (history : History) (moment : Moment) : Type 0 where
@@ -52,9 +50,6 @@ is_beginning conn (entry ∷ before) moment at = by (ends_of conn entry) refl (a
     found : Option Moment
     found = beginning conn (session_part conn before)
 
-    joined : beginning conn (here ∷ session_part conn before) ≡ option_or found (cond (setup here) (Some here) None)
-    joined = ap (find setup) (reverse-append (here ∷ []) (session_part conn before)) ∙ find-append setup (reverse (session_part conn before)) (here ∷ [])
-
     newest : (first : Option Moment) → found ≡ first → (is : Bool) → setup here ≡ is → option_or first (cond is (Some here) None) ≡ Some moment → (found ≡ Some moment → IsBeginning conn before moment) → IsBeginning conn (entry ∷ before) moment
     newest (Some first) none is sets at earlier = extended conn entry before moment (earlier (none ∙ at))
     newest None none true sets at earlier =
@@ -73,7 +68,7 @@ is_beginning conn (entry ∷ before) moment at = by (ends_of conn entry) refl (a
         let more : session_part conn (entry ∷ before) ≡ here ∷ session_part conn before =
         ap (λ b. filter (λ one. accepts_from conn moves one.entry) (cond b [] (here ∷ since_last (ends_of conn) before))) ends
         ∙ cond-true (accepts_from conn moves entry) (here ∷ session_part conn before) (session_part conn before) moving in
-        newest found refl (setup here) refl (sym joined ∙ sym (ap (beginning conn) more) ∙ at) earlier
+        newest found refl (setup here) refl (sym (beginning_on conn here (session_part conn before)) ∙ sym (ap (beginning conn) more) ∙ at) earlier
 
 begun_more : (entry : Entry) (before : History) → sessions_begun before ≤ sessions_begun (entry ∷ before)
 begun_more entry before = by (begins (record { entry = entry; before = before }))

@@ -12,3 +12,9 @@ pub mod Owners
 pub mod Nth
 pub mod Namesakes
 pub mod Identifiers
+pub mod Accepting
+pub mod OneAnswer
+pub mod Moving
+pub mod Sessioning
+pub mod Announcing
+pub mod After

@@ -15,7 +15,7 @@ module _ (count : History → ℕ) (more : (entry : Entry) (before : History) �
     pub rises : count (moment.entry ∷ moment.before) ≡ count moment.before + 1
     pub counted : n ≡ count (moment.entry ∷ moment.before)
 
-  within : (later history : History) → count history ≤ count (later ++ history)
+  pub within : (later history : History) → count history ≤ count (later ++ history)
   within [] history = omega arith
   within (x ∷ later) history = let so = within later history in let more = more x (later ++ history) in omega (arith, so, more)
 
@@ -44,7 +44,7 @@ module _ (count : History → ℕ) (more : (entry : Entry) (before : History) �
       one_rise n (later ++ one.entry ∷ one.before) later other one two (record { cut = refl; rises = a.rises; counted = a.counted }) (record { cut = rest; rises = b.rises; counted = b.counted })
 
 module _ (that : Entry → Bool) where
-  counts_more : (entry : Entry) (before : History) → how_many that before ≤ how_many that (entry ∷ before)
+  pub counts_more : (entry : Entry) (before : History) → how_many that before ≤ how_many that (entry ∷ before)
   counts_more entry before = by (that entry)
     where
       by : (is : Bool) → how_many that before ≤ cond is (suc (how_many that before)) (how_many that before)

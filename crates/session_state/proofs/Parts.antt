@@ -1,8 +1,10 @@
 -- What a connection's session goes by after one entry more.
-use Rattle.std.proofs.Common.{◌≡◌, ℕ, ◌==◌, ◌&&◌, Bool, true, false, cond, List, [], ◌∷◌, is_some, Option, None, Some, refl, ap, sym, subst, ◌∙◌}
-use Rattle.std.specs.List.{filter}
-use Rattle.std.specs.Option.{option_map, option_map_or}
+use Rattle.std.proofs.Common.{◌≡◌, ℕ, ◌==◌, ◌&&◌, Bool, true, false, cond, List, [], ◌∷◌, reverse, is_some, Option, None, Some, refl, ap, sym, subst, ◌∙◌}
+use Rattle.std.specs.List.{filter, find}
+use Rattle.std.specs.Option.{option_map, option_map_or, option_or}
 use Rattle.std.proofs.lemmas.Bool.{cond-false}
+use Rattle.std.proofs.lemmas.List.{reverse-append}
+use Rattle.std.proofs.lemmas.List.Folds.{find-append}
 use Rattle.rtsp_message.specs.declared.request.Request as messages
 use Rattle.rtsp_message.specs.declared.reply.Reply.{Reply}
 use Rattle.rtsp_message.specs.Reply.{code_of}
@@ -13,7 +15,7 @@ use Rattle.session_state.specs.declared.entry.Entry.TheVariants.{Request}
 use Rattle.transport_header.specs.Tracks.{pair_at}
 use Rattle.session_state.specs.declared.method.Method.{Method}
 use Rattle.session_state.specs.declared.session.Session.{Session}
-use Rattle.session_state.specs.Methods.{method_of, moves}
+use Rattle.session_state.specs.Methods.{is_setup, method_of, moves}
 use Rattle.session_state.specs.History.{History, Moment, accepts_from, since_last}
 use Rattle.session_state.specs.Lookups.{AreChannels, IsSessionOf, beginning, session_part, state_of}
 use Rattle.session_state.specs.Streams.{ends_of}
@@ -58,6 +60,14 @@ session_still seats conn history later (Some session) same is = record {
   mount_is = is.mount_is;
   name_is = is.name_is;
   recording = is.recording;
+  tracks = is.tracks;
   channels = λ of. subst (λ part. AreChannels seats conn part of (pair_at session.channels of)) (sym same) (is.channels of);
   state = ap state_of same ∙ is.state;
 }
+
+-- with one moment more, the first SETUP is the one that was first, else this one
+pub beginning_on : (conn : ℕ) (here : Moment) (moments : List Moment)
+    → beginning conn (here ∷ moments) ≡ option_or (beginning conn moments) (cond (accepts_from conn is_setup here.entry) (Some here) None)
+beginning_on conn here moments =
+    let setup : Moment → Bool = λ one. accepts_from conn is_setup one.entry in
+    ap (find setup) (reverse-append (here ∷ []) moments) ∙ find-append setup (reverse moments) (here ∷ [])

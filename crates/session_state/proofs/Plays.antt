@@ -65,16 +65,28 @@ module _ (mount seat : ℕ) where
   takes asked of (Playing kept) act is plays = absurd (no_play act acts.None is refl plays)
   takes asked of Recording act is plays = absurd (no_play act acts.None is refl plays)
 
+  -- an accepted request that takes a seat is a PLAY
+  pub is_play : (asked : Asked) (method : Method) (given : Given) (reply : Reply) (act : Act) → IsAccepted asked method given reply act → is_play_of mount seat act ≡ true → method ≡ methods.Play
+  is_play asked methods.Options given reply act is plays = absurd (no_play act acts.None is.1 refl plays)
+  is_play asked methods.GetParameter given reply act is plays = absurd (no_play act acts.None is.1 refl plays)
+  is_play asked methods.Describe given reply act is plays = absurd (no_play act acts.None is.1 refl plays)
+  is_play asked methods.Announce given reply act is plays = absurd (no_play act acts.Open is.1 refl plays)
+  is_play asked methods.Setup given reply act is plays = absurd (no_play act acts.None is.1 refl plays)
+  is_play asked methods.Play given reply act is plays = refl
+  is_play asked methods.Record given reply act is plays = absurd (no_play act (record_act (state_in asked.session)) is.1 (records (state_in asked.session)) plays)
+  is_play asked methods.Pause given reply act is plays = absurd (no_play act (pause_act asked.session) is.1 (pauses asked.session) plays)
+  is_play asked methods.Teardown given reply act is plays = absurd (no_play act (teardown_act asked.session) is.1 (tears_down asked.session) plays)
+
   accepts_play : (asked : Asked) (method : Method) (given : Given) (reply : Reply) (act : Act) → IsAccepted asked method given reply act → is_play_of mount seat act ≡ true → IsTaken asked.seats asked.history mount seat
-  accepts_play asked methods.Options given reply act is plays = absurd (no_play act acts.None is.1 refl plays)
-  accepts_play asked methods.GetParameter given reply act is plays = absurd (no_play act acts.None is.1 refl plays)
-  accepts_play asked methods.Describe given reply act is plays = absurd (no_play act acts.None is.1 refl plays)
-  accepts_play asked methods.Announce given reply act is plays = absurd (no_play act acts.Open is.1 refl plays)
-  accepts_play asked methods.Setup given reply act is plays = absurd (no_play act acts.None is.1 refl plays)
-  accepts_play asked methods.Play given reply act is plays = takes asked is.session.mount is.session.state act is.does plays
-  accepts_play asked methods.Record given reply act is plays = absurd (no_play act (record_act (state_in asked.session)) is.1 (records (state_in asked.session)) plays)
-  accepts_play asked methods.Pause given reply act is plays = absurd (no_play act (pause_act asked.session) is.1 (pauses asked.session) plays)
-  accepts_play asked methods.Teardown given reply act is plays = absurd (no_play act (teardown_act asked.session) is.1 (tears_down asked.session) plays)
+  accepts_play asked method given reply act is plays =
+      let played = subst (λ m. IsAccepted asked m given reply act) (is_play asked method given reply act is plays) is in
+      takes asked played.session.mount played.session.state act played.does plays
+
+  -- the mount that a seat is taken of
+  pub mount_of_act : (asked : Asked) (of : ℕ) (state : State) (act : Act) → IsPlayAct asked of state act → is_play_of mount seat act ≡ true → of ≡ mount
+  mount_of_act asked of Ready act (taken, few, free, is) plays = eqb-true of mount (both (of == mount) (taken == seat) (sym (ap (is_play_of mount seat) is) ∙ plays)).0
+  mount_of_act asked of (Playing kept) act is plays = absurd (no_play act acts.None is refl plays)
+  mount_of_act asked of Recording act is plays = absurd (no_play act acts.None is refl plays)
 
   answers_play : (asked : Asked) (given : Given) (reply : Reply) (act : Act) → IsAnswered asked given reply act → is_play_of mount seat act ≡ true → IsTaken asked.seats asked.history mount seat
   answers_play asked given reply act (inl (check, fails, is, none)) plays = absurd (no_play act acts.None none refl plays)

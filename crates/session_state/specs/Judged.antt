@@ -1,6 +1,5 @@
 -- What the checks of a request find out in the tables, and what its answer changes in them.
-use Rattle.std.specs.Prelude.{◌≡◌, ℕ, ◌+◌, ◌<◌, ◌==◌, List, ◌⊎◌, replicate, slice_set, Option, None, Some, IsSome, codes}
-use Rattle.std.specs.Option.{option_and_then}
+use Rattle.std.specs.Prelude.{◌≡◌, ℕ, ◌+◌, ◌-◌, ◌^◌, ◌<◌, ◌==◌, List, ◌⊎◌, replicate, slice_set, Option, None, Some, IsSome, codes}
 use Rattle.rtsp_message.specs.declared.request.Request as messages
 use Rattle.rtsp_message.specs.declared.reply.Reply.{Reply}
 use Rattle.sdp.specs.declared.sections.Sections.{Sections}
@@ -32,14 +31,10 @@ use Rattle.session_state.specs.History.{History}
 use Rattle.session_state.specs.Methods.{method_of}
 use Rattle.session_state.specs.Lookups.{sessions_begun}
 use Rattle.session_state.specs.Streams.{SetsUp}
-use Rattle.session_state.specs.Stands.{Tables, kept_of}
+use Rattle.session_state.specs.Stands.{Tables, session_kept}
 use Rattle.session_state.specs.Checks.{Asked, NamesInSession, NamesMount, PassesAll, checks_of, field, state_in}
 use Rattle.session_state.specs.Legal.{IsAnswered, IsRefusedBy}
 use Rattle.session_state.specs.Replies.{IsAccepted, IsPlayAct, IsPlayed, IsSetUp, pause_act, record_act, teardown_act}
-
--- the session that is kept of a connection
-abbrev pub session_kept : Tables → (conn : ℕ) → Option Session
-session_kept tables conn = option_and_then (λ kept. kept) (kept_of conn tables.connections)
 
 -- a request, and what the tables tell for it
 abbrev pub asked_of : Tables → History → (conn : ℕ) → messages.Request → Asked
@@ -74,11 +69,15 @@ pub record HasPlaceFor (table : Table) (conn : ℕ) (name : List ℕ) : Type 0 w
   pub free : named name table.mounts ≡ None
   pub first : owned_by conn table.mounts ≡ None
 
+-- the connection has a session, or a number is left for one
+abbrev pub HasNumberLeft : Tables → (conn : ℕ) → Type 0
+HasNumberLeft tables conn = IsSome (session_kept tables conn) ⊎ (tables.begun < 2 ^ 32 - 1)
+
 -- what was found is there in the tables
 abbrev pub IsThere : Tables → (conn : ℕ) → Accepted → Type 0
 IsThere tables conn (found.Describe target number) = IsSome (numbered number tables.mounts.mounts)
 IsThere tables conn (found.Announce target description) = HasPlaceFor tables.mounts conn target.path
-IsThere tables conn (found.Setup number track specs) = IsSome (numbered number tables.mounts.mounts) × (track < 16) × ((spec : Spec) × IsFirstAcceptable specs spec)
+IsThere tables conn (found.Setup number track specs) = IsSome (numbered number tables.mounts.mounts) × (track < 16) × ((spec : Spec) × IsFirstAcceptable specs spec) × HasNumberLeft tables conn
 IsThere tables conn (found.Play target track) = IsSome (session_kept tables conn)
 IsThere tables conn accepted = Unit {0}
 
@@ -86,6 +85,7 @@ IsThere tables conn accepted = Unit {0}
 abbrev pub CanTake : Tables → (conn : ℕ) → Change → Type 0
 CanTake tables conn (changes.Announce name description) = HasPlaceFor tables.mounts conn name
 CanTake tables conn (changes.SetUp track pair) = (track < 16) × ((session : Session) → session_kept tables conn ≡ Some session → MayHave session.channels track pair)
+CanTake tables conn (changes.Begin session) = tables.begun < 2 ^ 32 - 1
 CanTake tables conn change = Unit {0}
 
 module _ (asked : Asked) where

@@ -8,3 +8,4 @@ pub mod Replies
 pub mod Legal
 pub mod Stands
 pub mod Judged
+pub mod Applied

@@ -1,5 +1,5 @@
 -- What a history tells of its connections and their sessions (RFC 2326, 3.4, 12.37, 12.39 and A.2).
-use Rattle.std.specs.Prelude.{◌≡◌, ℕ, suc, ◌-◌, ◌==◌, ◌&&◌, Bool, true, false, not, if◌then◌else◌, List, [], ◌∷◌, filter, find, reverse, is_some, Option, None, Some}
+use Rattle.std.specs.Prelude.{◌≡◌, ℕ, suc, ◌-◌, ◌==◌, ◌&&◌, Bool, true, false, not, if◌then◌else◌, List, [], ◌∷◌, length, filter, find, reverse, is_some, Option, None, Some}
 use Rattle.std.specs.Option.{option_map, option_map_or, option_and_then}
 use Rattle.rtsp_message.specs.declared.request.Request as messages
 use Rattle.rtsp_message.specs.declared.reply.Reply.{Reply}
@@ -106,8 +106,8 @@ abbrev pub AreChannels : (seats conn : ℕ) → List Moment → (track : ℕ) �
 AreChannels seats conn moments track pair =
     (last : Option Moment) × IsLast (λ moment. (mount : Mount) × SetUpAt seats conn mount track moment) moments last × ToldLast last pair
 
--- The session of a connection: it began with the first SETUP since the connection's last TEARDOWN, on the mount that this
--- named; it is for recording where the connection owned that mount.
+-- The session of a connection: it began with the first SETUP since the connection's last TEARDOWN or hang-up, on the mount
+-- that this named; it is for recording where the connection owned that mount. It has up to sixteen tracks.
 pub record IsSession (seats : ℕ) (conn : ℕ) (history : History) (session : Session) : Type 0 where
   pub begin : Moment
   pub first : beginning conn (session_part conn history) ≡ Some begin
@@ -119,6 +119,7 @@ pub record IsSession (seats : ℕ) (conn : ℕ) (history : History) (session : S
   pub mount_is : session.mount ≡ mount.number
   pub name_is : session.name ≡ mount.name
   pub recording : session.recording ≡ (mount.owner == conn)
+  pub tracks : length session.channels ≡ 16
   pub channels : (of : ℕ) → AreChannels seats conn (session_part conn history) of (pair_at session.channels of)
   pub state : state_of (session_part conn history) ≡ Some session.state
 

@@ -1,10 +1,17 @@
 -- What a server remembers to decide, and which history it stands for.
-use Rattle.std.specs.Prelude.{◌≡◌, ℕ, ◌+◌, List, length, is_some, Option, Some}
+use Rattle.std.specs.Prelude.{◌≡◌, ℕ, ◌+◌, ◌==◌, if◌then◌else◌, List, length, slice_set, is_some, true, false, Option, None, Some}
+use Rattle.std.specs.Option.{option_and_then, option_map}
 use Rattle.std.specs.Ordering.{nat_cmp}
 use Rattle.std.specs.BTreeMap.{is_at}
 use Rattle.std.specs.Map.{lookup}
-use Rattle.mounts.specs.Mounts.{IsSound, Table}
+use Rattle.mounts.specs.declared.mount.Mount.{Mount}
+use Rattle.mounts.specs.Mounts.{IsSeat, IsSound, Table, ended, with_seat_of}
+use Rattle.session_state.specs.declared.act.Act.{Act}
+use Rattle.session_state.specs.declared.act.Act.TheVariants as acts
+use Rattle.transport_header.specs.declared.spec.ChannelPair.{ChannelPair}
 use Rattle.session_state.specs.declared.session.Session.{Session}
+use Rattle.session_state.specs.declared.session.State.{State}
+use Rattle.session_state.specs.declared.session.State.TheVariants.{Playing}
 use Rattle.session_state.specs.Methods.{is_announce}
 use Rattle.session_state.specs.History.{History, accepts, how_many, is_hang_up}
 use Rattle.session_state.specs.Lookups.{IsSessionOf, came, is_open, sessions_begun}
@@ -22,6 +29,10 @@ pub record Tables : Type 0 where
 abbrev pub kept_of : (conn : ℕ) → List (ℕ × Option Session) → Option (Option Session)
 kept_of conn connections = lookup (is_at (nat_cmp conn)) connections
 
+-- the session that is kept of a connection
+abbrev pub session_kept : Tables → (conn : ℕ) → Option Session
+session_kept tables conn = option_and_then (λ kept. kept) (kept_of conn tables.connections)
+
 -- Each look-up in the history is what the tables say.
 pub record Stands (history : History) (tables : Tables) : Type 0 where
   pub sound : IsSound tables.mounts
@@ -32,3 +43,30 @@ pub record Stands (history : History) (tables : Tables) : Type 0 where
   pub came_is : tables.came ≡ came history
   pub gone : length tables.connections + how_many is_hang_up history ≡ came history
   pub begun_is : tables.begun ≡ sessions_begun history
+
+-- a session in another state, and with other channels of a track
+abbrev pub in_state : State → Session → Session
+in_state state session = record session { state = state }
+
+abbrev pub with_channels : (track : ℕ) → ChannelPair → Session → Session
+with_channels track pair session = record session { channels = slice_set session.channels track (Some pair) }
+
+-- One connection's session has changed so, and nothing else.
+pub record ChangesSession (conn : ℕ) (change : Option Session → Option Session) (old new : Tables) : Type 0 where
+  pub mounts : new.mounts ≡ old.mounts
+  pub each : (other : ℕ) → kept_of other new.connections ≡ (if conn == other then option_map change (kept_of other old.connections) else kept_of other old.connections)
+  pub count : length new.connections ≡ length old.connections
+  pub came : new.came ≡ old.came
+  pub begun : new.begun ≡ old.begun
+
+-- the table of mounts without that of a connection
+abbrev pub without_owned : (owned : Option Mount) → Table → Table
+without_owned None table = table
+without_owned (Some own) table = ended own.number table
+
+-- A session takes a free seat of its mount, and plays from it.
+pub record TakesSeat (conn : ℕ) (session : Session) (old : Tables) (act : Act) (new : Tables) : Type 0 where
+  pub seat : ℕ
+  pub free : IsSeat old.mounts session.mount seat false
+  pub does : act ≡ acts.Play session.mount seat
+  pub changes : ChangesSession conn (option_map (in_state (Playing seat))) (record old { mounts = with_seat_of session.mount seat true old.mounts }) new

@@ -4,6 +4,7 @@
 
 mod accepted;
 mod act;
+mod applying;
 mod change;
 mod check;
 mod entry;

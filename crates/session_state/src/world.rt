@@ -19,10 +19,10 @@ pub const MAX_CONNECTIONS: usize = 1024;
 /// every history that it stands for.
 #[derive(Drop)]
 pub struct World {
-    mounts: Mounts,
-    connections: BTreeMap<u64, Option<Session>>,
-    came: u64,
-    begun: u32,
+    pub(crate) mounts: Mounts,
+    pub(crate) connections: BTreeMap<u64, Option<Session>>,
+    pub(crate) came: u64,
+    pub(crate) begun: u32,
 }
 
 impl Model for World {
@@ -37,14 +37,14 @@ impl World {
     ghost use Rattle.session_state.specs.declared.act.Act.TheVariants as acts;
     ghost use Rattle.session_state.specs.declared.entry.Entry.TheVariants.{Connect, HangUp, Back};
     ghost use Rattle.session_state.specs.declared.entry.Entry.TheVariants as entries;
-    ghost use Rattle.session_state.specs.Judged.{IsReplyIn, session_kept};
-    ghost use Rattle.std.specs.Option.{option_map};
+    ghost use Rattle.session_state.specs.Judged.{IsReplyIn};
+    ghost use Rattle.std.specs.Option.{option_copied, option_map};
     ghost use Rattle.std.specs.Prelude.{IsSome};
     ghost use Rattle.session_state.specs.declared.fault.ConnectFault.TheVariants.{Full, OutOfMemory};
     ghost use Rattle.session_state.specs.History.{History};
     ghost use Rattle.session_state.specs.Legal.{Comes, IsBack, IsHangUp, IsLegal, IsReplyOf};
     ghost use Rattle.session_state.specs.Lookups.{came, is_open};
-    ghost use Rattle.session_state.specs.Stands.{Stands, kept_of};
+    ghost use Rattle.session_state.specs.Stands.{Stands, kept_of, session_kept};
 
     /// The opening world: nobody has come yet. Each mount that is announced has so many seats. Takes no memory.
     pub fn new(alloc: Global, seats: usize, hasher: RandomState) -> World
@@ -122,14 +122,18 @@ impl World {
         Err(AllocError)
     }
 
+    /// The session of a connection.
+    pub(crate) fn session_of(&self, conn: u64) -> Option<&Session>
+        ensures { option_copied result ≡ session_kept self.now conn }
+    {
+        self.connections.get(&conn)?.as_ref()
+    }
+
     /// The number of the mount of a connection's session.
     pub fn mount_of(&self, conn: u64) -> Option<u64>
         ensures { result ≡ option_map (λ session. session.mount) (session_kept self.now conn) }
     {
-        match self.connections.get(&conn)? {
-            Some(session) => Some(session.mount),
-            None => None,
-        }
+        Some(self.session_of(conn)?.mount)
     }
 
     /// Hangs a connection up: its session ends, and so does the mount that it owns. Tells what it has to do. Where it isn't
@@ -148,7 +152,7 @@ impl World {
             self.mounts.end(number);
             return Act::End;
         }
-        seat_given_up(&session)
+        seat_given_up(session.as_ref())
     }
 
     /// Gives back a seat of a mount. `false`, and nothing changes, where no such mount lives or the seat isn't out. Takes no
@@ -162,11 +166,12 @@ impl World {
     }
 }
 
+ghost use Rattle.std.specs.Option.{option_copied};
 ghost use Rattle.session_state.specs.Replies.{pause_act};
 
 /// The seat that a session plays from is given up.
-fn seat_given_up(session: &Option<Session>) -> Act
-    ensures { result ≡ pause_act session.now }
+pub(crate) fn seat_given_up(session: Option<&Session>) -> Act
+    ensures { result ≡ pause_act (option_copied session.entry) }
 {
     let Some(session) = session else {
         return Act::None;

@@ -1,9 +1,10 @@
-use Rattle.std.proofs.Common.{◌≡◌, ◌∷◌, true, None, Some, refl, sym, subst}
+use Rattle.std.proofs.Common.{◌≡◌, ◌∷◌, true, None, Some, refl, ap, sym, ◌∙◌, subst}
 use Rattle.session_state.specs.declared.act.Act.TheVariants as acts
 use Rattle.session_state.specs.declared.entry.Entry.TheVariants.{HangUp}
 use Rattle.session_state.specs.History.{History}
 use Rattle.session_state.specs.Legal.{IsHangUp, IsLegal}
 use Rattle.session_state.specs.Lookups.{is_open}
+use Rattle.session_state.specs.Replies.{pause_act}
 use Rattle.session_state.specs.Stands.{Stands, Tables}
 use Rattle.session_state.proofs.Going.{goes_so}
 use Rattle.session_state.proofs.world.World.hangup.Goals as goal
@@ -26,4 +27,4 @@ returns-clause-ok c =
     (record { mounts = c.self.inside.mounts; connections = c.remove.new.self.entries; came = c.self.inside.came; begun = c.self.inside.begun })) c.self.view_is
     (λ history legal stands there. goes_so history (record { mounts = c.self.inside.mounts; connections = c.self.inside.connections.entries; came = c.self.inside.came; begun = c.self.inside.begun })
     c.self.inside.mounts c.remove.new.self.entries c.args.conn c.in-Some.session None c.seat_given_up.result stands c.in_default-owned_by.ensures refl
-    (record { each = removed.updates.0 }) removed.len (sym removed.value) c.seat_given_up.ensures)
+    (record { each = removed.updates.0 }) removed.len (sym removed.value) (c.seat_given_up.ensures ∙ ap pause_act c.as_ref.ensures.value))

@@ -1,0 +1,173 @@
+-- What a legal history tells of its mounts has one answer, in whatever order they are listed.
+use Rattle.std.proofs.Common.{◌≡◌, ℕ, ◌==◌, ◌≤◌, Bool, true, false, cond, List, [], ◌∷◌, length, inl, inr, Option, None, Some, refl, ap, sym, subst, ◌∙◌}
+use Rattle.std.specs.List.{find}
+use Rattle.std.specs.Str.{bytes_eq}
+use Rattle.std.specs.Cmp.Lexicographic.{bytes_decides}
+use Rattle.std.proofs.lemmas.Bool.{eqb-true, eq-eqb}
+use Rattle.rtsp_message.specs.declared.request.Request as messages
+use Rattle.sdp.specs.declared.sections.Sections.{Sections}
+use Rattle.sdp.specs.Readings.{Reads}
+use Rattle.sdp.proofs.OneReading.{one_reading}
+use Rattle.mounts.specs.declared.mount.Mount.{Mount}
+use Rattle.mounts.specs.declared.target.Target.{Target}
+use Rattle.mounts.specs.declared.uri.Uri.TheVariants.{At}
+use Rattle.mounts.specs.Find.{IsFoundIn}
+use Rattle.mounts.specs.Mounts.{named, numbered, owned_by}
+use Rattle.mounts.specs.Names.{GoesOn}
+use Rattle.mounts.specs.Tracks.{IsNamedBy}
+use Rattle.mounts.specs.Uri.{IsUri}
+use Rattle.mounts.proofs.Firsts.{found_all, found_passes}
+use Rattle.mounts.proofs.OneAnswer.{named_once, one_mount, one_uri, shorter}
+use Rattle.session_state.specs.declared.entry.Entry.{Entry}
+use Rattle.session_state.specs.Methods.{is_announce}
+use Rattle.session_state.specs.History.{History, IsNth, accepts}
+use Rattle.session_state.specs.Legal.{IsLegal}
+use Rattle.session_state.specs.Streams.{Announces, AreLive, IsLive, IsLiveMount, IsOwnMount, IsSetUpOn, IsTrackOf, SetsUp}
+use Rattle.session_state.proofs.Namesakes.{HasName, one_of_a_name}
+use Rattle.session_state.proofs.Nth.{one_nth}
+use Rattle.session_state.proofs.Owners.{owns_one}
+
+-- Two tell of one mount.
+pub record AreOne (one other : Mount) : Type 0 where
+  pub number : one.number ≡ other.number
+  pub owner : one.owner ≡ other.owner
+  pub name : one.name ≡ other.name
+  pub description : one.description ≡ other.description
+
+-- An announcement announces one thing.
+record SayOne (owner who : ℕ) (name second : List ℕ) (description other : Sections) : Type 0 where
+  owner_is : owner ≡ who
+  name_is : name ≡ second
+  description_is : description ≡ other
+
+one_announcement : (entry also : Entry) (owner who : ℕ) (name second : List ℕ) (description other : Sections) → entry ≡ also → Announces entry owner name description → Announces also who second other
+    → SayOne owner who name second description other
+one_announcement entry also owner who name second description other same one two =
+    let both = sym one.asks.is ∙ same ∙ two.asks.is in
+    let request : two.asks.request ≡ one.asks.request = cc in
+    let uri : IsUri one.asks.request.uri (At two.target) = subst (λ (r : messages.Request). IsUri r.uri (At two.target)) request two.uri in
+    let is = one_uri one.asks.request.uri (At one.target) (At two.target) one.uri uri in
+    let target : one.target ≡ two.target = cc in
+    record {
+      owner_is = cc;
+      name_is = sym one.path ∙ ap (λ (t : Target). t.path) target ∙ two.path;
+      description_is = one_reading one.body (subst (λ (r : messages.Request). Reads r.body other) request two.body);
+    }
+
+-- where one element passes a test, one is found by it
+find_some : {X : Type 0} (p q : X → Bool) (xs : List X) (x : X) → find q xs ≡ Some x → p x ≡ true → (y : X) × (find p xs ≡ Some y)
+find_some {X = X} p q [] x at is = absurd (cc)
+find_some {X = X} p q (y ∷ xs) x at is = by (p y) refl (q y) at (λ later. find_some p q xs x later is)
+  where
+    by : (v : Bool) → p y ≡ v → (w : Bool) → cond w (Some y) (find q xs) ≡ Some x → (find q xs ≡ Some x → (z : X) × (find p xs ≡ Some z)) → (z : X) × (cond v (Some y) (find p xs) ≡ Some z)
+    by true passes w at later = (y, refl)
+    by false fails true at later = let same : y ≡ x = cc in let here = ap p same in absurd (cc)
+    by false fails false at later = later at
+
+module _ (seats : ℕ) (history : History) (legal : IsLegal seats history) where
+  pub one_live : (one other : Mount) → IsLiveMount seats history one → IsLiveMount seats history other → one.number ≡ other.number → AreOne one other
+  one_live one other a b same =
+      let nth = subst (λ n. IsNth (accepts is_announce) n history b.live.later b.live.moment) (sym same) b.live.nth in
+      let moment = one_nth (accepts is_announce) one.number history a.live.later b.live.later a.live.moment b.live.moment a.live.nth nth in
+      let say = one_announcement a.live.moment.entry b.live.moment.entry one.owner other.owner one.name other.name one.description other.description moment.entry a.announced b.announced in
+      record { number = same; owner = say.owner_is; name = say.name_is; description = say.description_is }
+
+  -- what one list finds by a test that at most one mount passes, another finds
+  one_found : (p : Mount → Bool) → ((a b : Mount) → AreOne a b → p a ≡ true → p b ≡ true)
+      → ((a b : Mount) → IsLiveMount seats history a → IsLiveMount seats history b → p a ≡ true → p b ≡ true → a.number ≡ b.number)
+      → (mounts others : List Mount) (one : Mount) → AreLive seats history mounts → AreLive seats history others → find p mounts ≡ Some one → (other : Mount) × (find p others ≡ Some other) × AreOne one other
+  one_found p kept apart mounts others one are also at =
+      let lives = found_all (IsLiveMount seats history) p mounts one are.each at in
+      let there = also.all one.number one.owner lives.live in
+      let second = found_all (IsLiveMount seats history) (λ mount. mount.number == one.number) others there.0 also.each there.1 in
+      let number = eqb-true there.0.number one.number (found_passes (λ mount. mount.number == one.number) others there.0 there.1) in
+      let passes = found_passes p mounts one at in
+      let some = find_some p (λ mount. mount.number == one.number) others there.0 there.1 (kept one there.0 (one_live one there.0 lives second (sym number)) passes) in
+      let third = found_all (IsLiveMount seats history) p others some.0 also.each some.1 in
+      (some.0, some.1, one_live one some.0 lives third (apart one some.0 lives third passes (found_passes p others some.0 some.1)))
+
+  pub one_numbered : (number : ℕ) (mounts others : List Mount) (one : Mount) → AreLive seats history mounts → AreLive seats history others → numbered number mounts ≡ Some one
+      → (other : Mount) × (numbered number others ≡ Some other) × AreOne one other
+  one_numbered number = one_found (λ mount. mount.number == number)
+      (λ a b same is. eq-eqb b.number number (sym same.number ∙ eqb-true a.number number is))
+      (λ a b x y is also. eqb-true a.number number is ∙ sym (eqb-true b.number number also))
+
+  pub one_named : (name : List ℕ) (mounts others : List Mount) (one : Mount) → AreLive seats history mounts → AreLive seats history others → named name mounts ≡ Some one
+      → (other : Mount) × (named name others ≡ Some other) × AreOne one other
+  one_named name = one_found (λ mount. bytes_eq name mount.name)
+      (λ a b same is. (bytes_decides name b.name).1 ((bytes_decides name a.name).0 is ∙ same.name))
+      (λ a b x y is also. let second : a.name ≡ b.name = sym ((bytes_decides name a.name).0 is) ∙ (bytes_decides name b.name).0 also in
+      one_of_a_name seats history a.owner b.owner a.number b.number a.name legal (record { live = x.live; description = a.description; announced = x.announced })
+      (subst (λ n. HasName history b.number b.owner n) (sym second) (record { live = y.live; description = b.description; announced = y.announced })))
+
+  pub one_owned : (owner : ℕ) (mounts others : List Mount) (one : Mount) → AreLive seats history mounts → AreLive seats history others → owned_by owner mounts ≡ Some one
+      → (other : Mount) × (owned_by owner others ≡ Some other) × AreOne one other
+  one_owned owner = one_found (λ mount. mount.owner == owner)
+      (λ a b same is. eq-eqb b.owner owner (sym same.owner ∙ eqb-true a.owner owner is))
+      (λ a b x y is also. owns_one seats history owner a.number b.number legal
+      (subst (λ o. IsLive history a.number o) (eqb-true a.owner owner is) x.live) (subst (λ o. IsLive history b.number o) (eqb-true b.owner owner also) y.live))
+
+  module _ (mounts others : List Mount) (are : AreLive seats history mounts) (also : AreLive seats history others) where
+    own_too : (conn : ℕ) (path : List ℕ) (number : ℕ) (rest : Option (List ℕ)) → IsOwnMount mounts conn path number rest → IsOwnMount others conn path number rest
+    own_too conn path number rest (own, owned, goes, is) =
+        let found = one_owned conn mounts others own are also owned in
+        (found.0, found.1, subst (λ name. GoesOn path name rest) found.2.name goes, sym found.2.number ∙ is)
+
+    found_too : ((name : List ℕ) (one : Mount) → named name others ≡ Some one → (other : Mount) × (named name mounts ≡ Some other))
+        → (path : List ℕ) (number : ℕ) (rest : Option (List ℕ)) → IsFoundIn mounts path number rest → IsFoundIn others path number rest
+    found_too back path number rest found =
+        let other = one_named found.name mounts others found.mount are also found.live in
+        record {
+          mount = other.0;
+          name = found.name;
+          goes_on = found.goes_on;
+          live = other.1;
+          number_is = sym other.2.number ∙ found.number_is;
+          longest = λ longer behind goes more. none longer (found.longest longer behind goes more) (named longer others) refl;
+        }
+      where
+        none : (longer : List ℕ) → named longer mounts ≡ None → (is : Option Mount) → named longer others ≡ is → is ≡ None
+        none longer empty None at = refl
+        none longer empty (Some one) at = let some = (back longer one at).1 in absurd (cc)
+
+  -- a connection's own mount is one, with one rest behind its name
+  one_own : (mounts : List Mount) (conn : ℕ) (path : List ℕ) (number other : ℕ) (rest behind : Option (List ℕ)) → IsOwnMount mounts conn path number rest → IsOwnMount mounts conn path other behind
+      → (number ≡ other) × (rest ≡ behind)
+  one_own mounts conn path number other rest behind (own, owned, goes, is) (second, too, on, so) =
+      let same : own ≡ second = cc in
+      (sym is ∙ ap (λ (m : Mount). m.number) same ∙ so, (shorter path own.name second.name rest behind goes on (ap (λ (m : Mount). length m.name) same)).1)
+
+  pub one_set_up_on : (mounts others : List Mount) → AreLive seats history mounts → AreLive seats history others → (conn : ℕ) (path : List ℕ) (number other : ℕ) (rest behind : Option (List ℕ))
+      → IsSetUpOn mounts conn path number rest → IsSetUpOn others conn path other behind → (number ≡ other) × (rest ≡ behind)
+  one_set_up_on mounts others are also conn path number other rest behind (inl own) (inl second) = one_own others conn path number other rest behind (own_too mounts others are also conn path number rest own) second
+  one_set_up_on mounts others are also conn path number other rest behind (inl own) (inr (none, found)) = absurd (none number rest (own_too mounts others are also conn path number rest own))
+  one_set_up_on mounts others are also conn path number other rest behind (inr (none, found)) (inl own) = absurd (none other behind (own_too others mounts also are conn path other behind own))
+  one_set_up_on mounts others are also conn path number other rest behind (inr (none, found)) (inr (nor, second)) =
+      one_mount others path number other rest behind
+      (found_too mounts others are also (λ name one at. let back = one_named name others mounts one also are at in (back.0, back.1)) path number rest found) second
+
+  one_of_rest : (one other : Mount) → AreOne one other → length one.description.tracks ≤ 16 → (conn : ℕ) (target : Target) (rest : Option (List ℕ)) (track second : ℕ)
+      → IsTrackOf one conn target rest track → IsTrackOf other conn target rest second → track ≡ second
+  one_of_rest one other same few conn target None track second a b = a.1 ∙ sym b.1
+  one_of_rest one other same few conn target (Some rest) track second a b =
+      named_once (one.owner == conn) target rest one.description.tracks track second few a
+      (subst (λ o. IsNamedBy (o == conn) target rest one.description.tracks second) (sym same.owner)
+      (subst (λ (d : Sections). IsNamedBy (other.owner == conn) target rest d.tracks second) (sym same.description) b))
+
+  pub few_tracks : (mount : Mount) → IsLiveMount seats history mount → length mount.description.tracks ≤ 16
+  few_tracks mount lives = lives.announced.body.good.few
+
+  -- a SETUP sets up one track of one mount
+  pub one_set_up : (mounts others : List Mount) → AreLive seats history mounts → AreLive seats history others → (conn : ℕ) (uri : List ℕ) (one other : Mount) (track second : ℕ)
+      → SetsUp mounts conn uri one track → SetsUp others conn uri other second → AreOne one other × (track ≡ second)
+  one_set_up mounts others are also conn uri one other track second a b =
+      let is = one_uri uri (At a.target) (At b.target) a.names b.names in
+      let target : b.target ≡ a.target = cc in
+      let on = one_set_up_on mounts others are also conn a.target.path one.number other.number a.rest b.rest a.on (subst (λ (t : Target). IsSetUpOn others conn t.path other.number b.rest) target b.on) in
+      let lives = found_all (IsLiveMount seats history) (λ mount. mount.number == one.number) mounts one are.each a.is in
+      let second_lives = found_all (IsLiveMount seats history) (λ mount. mount.number == other.number) others other also.each b.is in
+      let same = one_live one other lives second_lives on.0 in (
+        same,
+        one_of_rest one other same (few_tracks one lives) conn a.target a.rest track second a.track_is
+            (subst (λ t. IsTrackOf other conn t a.rest second) target (subst (λ rest. IsTrackOf other conn b.target rest second) (sym on.1) b.track_is)),
+      )
