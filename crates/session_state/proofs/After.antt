@@ -111,10 +111,10 @@ module _ (history : History) (old mid new : Tables) (conn : ℕ) (request : mess
               (part_still other entry history (is.ends other ∙ not_of_other conn method entry is other is_teardown apart) (not_of_other conn method entry is other moves apart))
               (stands.sessions other after at)
 
-  -- a request that makes no mount, moves no seat and begins no session
-  pub leaves_mounts : is_announce method ≡ false → is_teardown method ≡ false → ((mount seat : ℕ) → is_play_of mount seat act ≡ false) → sessions_begun (entry ∷ history) ≡ sessions_begun history
-      → LeavesSo history (Request conn request given reply act) old old
-  leaves_mounts announces ends plays begins = record {
+  -- a request that makes no mount, ends none and moves no seat
+  pub leaves_mounts : (begun : ℕ) → is_announce method ≡ false → is_teardown method ≡ false → ((mount seat : ℕ) → is_play_of mount seat act ≡ false) → begun ≡ sessions_begun (Request conn request given reply act ∷ history)
+      → LeavesSo history (Request conn request given reply act) old (record old { begun = begun })
+  leaves_mounts begun announces ends plays begins = record {
     connections = refl;
     came = refl;
     seats = refl;
@@ -122,5 +122,5 @@ module _ (history : History) (old mid new : Tables) (conn : ℕ) (request : mess
     mounts = mounts_still old.mounts.seats history entry old.mounts.mounts (record { plain = of_method conn method entry is is_announce ∙ announces; seats = plays })
         (each_of (λ mount. ends_of mount.owner entry ≡ false) old.mounts.mounts (λ mount. ends_none conn method entry is mount.owner ends)) stands.mounts;
     next = stands.next ∙ ap (λ n. n + 1) (sym (announces_so conn method entry is history ∙ ap (λ b. cond b (suc (how_many (accepts is_announce) history)) (how_many (accepts is_announce) history)) announces));
-    begun = stands.begun_is ∙ sym begins;
+    begun = begins;
   }

@@ -25,7 +25,7 @@ use Rattle.session_state.specs.Replies.{status_of}
 use Rattle.session_state.specs.Streams.{IsLive}
 
 -- no refusal has status 200
-refused_otherwise : (check : Check) → (code_of (status_of check) == 200) ≡ false
+pub refused_otherwise : (check : Check) → (code_of (status_of check) == 200) ≡ false
 refused_otherwise HasCSeq = refl
 refused_otherwise HasVersion = refl
 refused_otherwise HasMethod = refl

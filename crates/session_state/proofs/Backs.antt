@@ -51,16 +51,20 @@ backed history old new mount seat stands is = subst (Stands (Back mount seat ∷
   begun_is = stands.begun_is;
 })
 
--- a seat that is out in the history is out of its mount in the table
-pub is_seat : (history : History) (tables : Tables) (mount seat : ℕ) → IsLegal tables.mounts.seats history → Stands history tables → IsBack history mount seat → IsSeat tables.mounts mount seat true
-is_seat history tables mount seat legal stands back =
-    let found = stands.mounts.all mount back.owner back.live in
+-- a seat of a mount in the history is one of the table's
+pub seat_in_table : (history : History) (tables : Tables) (mount owner seat : ℕ) (out : Bool) → Stands history tables → IsSeatOf tables.mounts.seats history mount owner seat out → IsSeat tables.mounts mount seat out
+seat_in_table history tables mount owner seat out stands is =
+    let found = stands.mounts.all mount owner is.live in
     let lives = found_all (IsLiveMount tables.mounts.seats history) (λ one. one.number == mount) tables.mounts.mounts found.0 stands.mounts.each found.1 in
     let number = eqb-true found.0.number mount (found_passes (λ one. one.number == mount) tables.mounts.mounts found.0 found.1) in
-    let few = out_below mount seat tables.mounts.seats history legal back.out in
-    let at = some_at found.0.seats seat (subst (λ n. seat < n) (sym lives.seats_are) few) in
+    let at = some_at found.0.seats seat (subst (λ n. seat < n) (sym lives.seats_are) is.below) in
     record {
       mount = found.0;
       live = found.1;
-      is = at.1 ∙ ap Some (lives.out seat at.0 at.1 ∙ ap (λ n. is_out n seat history) number ∙ back.out);
+      is = at.1 ∙ ap Some (lives.out seat at.0 at.1 ∙ ap (λ n. is_out n seat history) number ∙ is.out);
     }
+
+-- a seat that is out in the history is out of its mount in the table
+pub is_seat : (history : History) (tables : Tables) (mount seat : ℕ) → IsLegal tables.mounts.seats history → Stands history tables → IsBack history mount seat → IsSeat tables.mounts mount seat true
+is_seat history tables mount seat legal stands back =
+    seat_in_table history tables mount back.owner seat true stands (record { live = back.live; out = back.out; below = out_below mount seat tables.mounts.seats history legal back.out })

@@ -18,3 +18,5 @@ pub mod Moving
 pub mod Sessioning
 pub mod Announcing
 pub mod After
+pub mod Carried
+pub mod Answering

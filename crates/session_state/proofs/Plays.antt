@@ -29,7 +29,7 @@ module _ (mount seat : ℕ) where
   no_play : (act other : Act) → act ≡ other → is_play_of mount seat other ≡ false → is_play_of mount seat act ≡ true → ⊥
   no_play act other is none plays = let same = ap (is_play_of mount seat) is in absurd (cc)
 
-  records : (state : Option State) → is_play_of mount seat (record_act state) ≡ false
+  pub records : (state : Option State) → is_play_of mount seat (record_act state) ≡ false
   records None = refl
   records (Some Ready) = refl
   records (Some (Playing taken)) = refl
@@ -40,11 +40,11 @@ module _ (mount seat : ℕ) where
   stops of (Playing taken) = refl
   stops of Recording = refl
 
-  pauses : (session : Option Session) → is_play_of mount seat (pause_act session) ≡ false
+  pub pauses : (session : Option Session) → is_play_of mount seat (pause_act session) ≡ false
   pauses None = refl
   pauses (Some session) = stops session.mount session.state
 
-  tears_down : (session : Option Session) → is_play_of mount seat (teardown_act session) ≡ false
+  pub tears_down : (session : Option Session) → is_play_of mount seat (teardown_act session) ≡ false
   tears_down None = refl
   tears_down (Some session) = by session.recording
     where

@@ -25,7 +25,7 @@ use Rattle.session_state.proofs.Living.{each_of, mounts_still, out_still}
 use Rattle.session_state.proofs.Parts.{part_still, session_still}
 
 -- what accepts a request has status 200
-accepted_ok : (asked : Asked) (method : Method) (given : Given) (reply : Reply) (act : Act) → IsAccepted asked method given reply act → code_of reply.status ≡ 200
+pub accepted_ok : (asked : Asked) (method : Method) (given : Given) (reply : Reply) (act : Act) → IsAccepted asked method given reply act → code_of reply.status ≡ 200
 accepted_ok asked methods.Options given reply act is = ap (λ (r : Reply). code_of r.status) is.0
 accepted_ok asked methods.GetParameter given reply act is = ap (λ (r : Reply). code_of r.status) is.0
 accepted_ok asked methods.Describe given reply act is = ap (λ (r : Reply). code_of r.status) is.0.3

@@ -10,6 +10,7 @@ mod check;
 mod entry;
 mod fault;
 mod given;
+mod judging;
 pub mod laws;
 mod method;
 mod refusal;

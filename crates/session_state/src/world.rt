@@ -105,7 +105,9 @@ impl World {
         ensures err { OnErr result (self.new ≡ self.old) }
         ensures seats { self.new.mounts.seats ≡ self.old.mounts.seats }
     {
-        Err(AllocError)
+        let (reply, change) = self.judge(alloc, conn, request, given)?;
+        let act = self.apply(conn, change)?;
+        Ok((reply, act))
     }
 
     /// The reply that `decide` would give here.
@@ -119,7 +121,8 @@ impl World {
         requires open { IsSome (kept_of conn self.now.connections) }
         ensures { IfOk result (λ reply. (history : History) → IsLegal self.now.mounts.seats history → Stands history self.now → IsReplyIn self.now history conn request.now given.now reply) }
     {
-        Err(AllocError)
+        let (reply, _) = self.judge(alloc, conn, request, given)?;
+        Ok(reply)
     }
 
     /// The session of a connection.
