@@ -18,7 +18,7 @@ use Rattle.session_state.specs.Legal.{IsReplyOf}
 use Rattle.session_state.specs.Lookups.{IsSessionOf, is_open, sessions_begun}
 use Rattle.session_state.specs.Stands.{ChangesSession, Stands, Tables, kept_of}
 use Rattle.session_state.specs.Streams.{AreLive, ends_of}
-use Rattle.session_state.proofs.Accepting.{IsAcceptedEntry, announces_so, ends_none, not_of_other, of_method}
+use Rattle.session_state.proofs.AcceptedEntries.{IsAcceptedEntry, announces_so, ends_none, not_of_other, of_method}
 use Rattle.session_state.proofs.Living.{each_of, mounts_still}
 use Rattle.session_state.proofs.Parts.{part_still, session_still}
 use Rattle.session_state.proofs.Refusals.{announces_none, begins_none, keeps_mounts, keeps_sessions}

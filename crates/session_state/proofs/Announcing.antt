@@ -29,7 +29,7 @@ use Rattle.session_state.specs.Checks.{Asked, LooksUp, PassesAll, checks_of}
 use Rattle.session_state.specs.Legal.{IsAnswered, IsLegal, IsReplyOf}
 use Rattle.session_state.specs.Replies.{IsAccepted}
 use Rattle.session_state.specs.Streams.{AreLive, IsLive, IsLiveMount, is_out, takes_or_gives_back}
-use Rattle.session_state.proofs.Accepting.{IsAcceptedEntry, ends_none, of_conn, of_method, of_own}
+use Rattle.session_state.proofs.AcceptedEntries.{IsAcceptedEntry, ends_none, of_conn, of_method, of_own}
 use Rattle.session_state.proofs.Living.{out_still, lives_on}
 use Rattle.session_state.proofs.Nth.{counts_more, within}
 use Rattle.session_state.proofs.Owners.{IsNewest, newest_or_earlier}

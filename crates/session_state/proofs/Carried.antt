@@ -37,7 +37,7 @@ use Rattle.session_state.specs.Lookups.{IsSessionOf, beginning, has_session, las
 use Rattle.session_state.specs.Replies.{IsAccepted, IsPlayAct, IsPlayed, pause_act, record_act, refusal, status_of, teardown_act}
 use Rattle.session_state.specs.Stands.{ChangesSession, Stands, Tables, TakesSeat, in_state, kept_of, session_kept, with_channels, without_owned}
 use Rattle.session_state.specs.Streams.{IsLive, IsLiveMount, IsTrackOf, is_out}
-use Rattle.session_state.proofs.Accepting.{IsAcceptedEntry, accepted_entry, announces_so, begins_so, of_conn, of_method, of_own, ends_none}
+use Rattle.session_state.proofs.AcceptedEntries.{IsAcceptedEntry, accepted_entry, announces_so, begins_so, of_conn, of_method, of_own, ends_none}
 use Rattle.session_state.proofs.After.{LeavesSo, accepted_stands, leaves_mounts, refused_stands, unchanged}
 use Rattle.session_state.proofs.Announced.{refused_otherwise}
 use Rattle.session_state.proofs.Announcing.{mount_made}

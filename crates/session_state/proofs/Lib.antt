@@ -12,7 +12,7 @@ pub mod Owners
 pub mod Nth
 pub mod Namesakes
 pub mod Identifiers
-pub mod Accepting
+pub mod AcceptedEntries
 pub mod OneAnswer
 pub mod Moving
 pub mod Sessioning

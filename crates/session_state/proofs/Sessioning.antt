@@ -24,7 +24,7 @@ use Rattle.session_state.specs.Legal.{IsLegal}
 use Rattle.session_state.specs.Lookups.{AreChannels, IsSession, SetUpAt, ToldLast, beginning, has_session, last_seat, session_part, sessions_begun, state_by, state_of}
 use Rattle.session_state.specs.Stands.{in_state, with_channels}
 use Rattle.session_state.specs.Streams.{AreLive, SetsUp}
-use Rattle.session_state.proofs.Accepting.{IsAcceptedEntry, begins_so, of_own, part_moves}
+use Rattle.session_state.proofs.AcceptedEntries.{IsAcceptedEntry, begins_so, of_own, part_moves}
 use Rattle.session_state.proofs.OneAnswer.{one_set_up}
 use Rattle.session_state.proofs.Parts.{beginning_on}
 

@@ -1,8 +1,10 @@
 -- What a request is answered (RFC 2326, 7, 10, 11 and 12).
-use Rattle.std.specs.Prelude.{◌≡◌, ℕ, ◌+◌, ◌<◌, zero, suc, ◌==◌, false, if◌then◌else◌, List, [], ◌∷◌, ◌++◌, ◌↔◌, get_or, Option, None, Some, codes}
+use Rattle.std.specs.Prelude.{◌≡◌, ℕ, ◌+◌, ◌<◌, zero, suc, ◌==◌, Bool, true, false, if◌then◌else◌, List, [], ◌∷◌, ◌++◌, ◌↔◌, get_or, Option, None, Some, codes}
 use Rattle.std.specs.List.{Contains}
 use Rattle.std.specs.Option.{option_map, option_and_then, unwrap_or}
+use Rattle.rtsp_message.specs.declared.request.Request as messages
 use Rattle.rtsp_message.specs.declared.reply.Reply.{Reply}
+use Rattle.rtsp_message.specs.Headers.{value_of}
 use Rattle.rtsp_message.specs.declared.reply.Fields.{Fields}
 use Rattle.rtsp_message.specs.declared.status.Status.{Status}
 use Rattle.rtsp_message.specs.declared.status.Status.TheVariants as statuses
@@ -62,6 +64,16 @@ status_of IsForRecording = statuses.Forbidden
 status_of IsAggregate = statuses.OnlyAggregateOperationAllowed
 status_of HasFreeSeat = statuses.NotEnoughBandwidth
 
+-- nothing is told of the session up to the check that it is named
+abbrev pub tells_session : Check → Bool
+tells_session HasCSeq = false
+tells_session HasVersion = false
+tells_session HasMethod = false
+tells_session RequiresNothing = false
+tells_session (HasUri method) = false
+tells_session (HasItsSession method) = false
+tells_session check = true
+
 -- no field but CSeq
 abbrev pub no_fields : Fields
 no_fields = record { session = None; public = None; allow = None; unsupported = None; transport = None; rtp_info = None; content_base = None; content_type = None }
@@ -95,21 +107,27 @@ abbrev pub teardown_act : Option Session → Act
 teardown_act None = acts.None
 teardown_act (Some session) = if session.recording then acts.End else pause_act (Some session)
 
-module _ (asked : Asked) where
-  -- the session that the request named by a Session field (RFC 2326, 12.37)
-  abbrev pub told_session : Option (List ℕ)
-  told_session = option_and_then (λ text. option_map identifier_of asked.session) (field asked (codes "Session"))
+-- the session that a request named by a Session field (RFC 2326, 12.37)
+abbrev pub told_to : messages.Request → Option Session → Option (List ℕ)
+told_to request session = option_and_then (λ text. option_map identifier_of session) (value_of request.headers (codes "Session"))
 
-  -- the fields of a refusal: nothing is told of the session up to the check that it is named
+module _ (asked : Asked) where
+  abbrev pub told_session : Option (List ℕ)
+  told_session = told_to asked.request asked.session
+
+  -- the methods that are allowed, where the method isn't
+  abbrev pub allow_of : Check → Option (List ℕ)
+  allow_of (FitsState method) = allowed_in (state_in asked.session)
+  allow_of check = None
+
+  -- the options that are required
+  abbrev pub unsupported_of : Check → Option (List ℕ)
+  unsupported_of RequiresNothing = field asked (codes "Require")
+  unsupported_of check = None
+
+  -- the fields of a refusal
   abbrev pub fields_of : Check → Fields
-  fields_of HasCSeq = no_fields
-  fields_of HasVersion = no_fields
-  fields_of HasMethod = no_fields
-  fields_of RequiresNothing = record no_fields { unsupported = field asked (codes "Require") }
-  fields_of (HasUri method) = no_fields
-  fields_of (HasItsSession method) = no_fields
-  fields_of (FitsState method) = record no_fields { session = told_session; allow = allowed_in (state_in asked.session) }
-  fields_of check = record no_fields { session = told_session }
+  fields_of check = record no_fields { session = if tells_session check then told_session else None; allow = allow_of check; unsupported = unsupported_of check }
 
   abbrev pub refusal : Check → Reply
   refusal check = record { status = status_of check; cseq = asked.request.cseq; fields = fields_of check; body = [] }

@@ -3,6 +3,7 @@
 #![tactic(auto)]
 
 mod accepted;
+mod accepting;
 mod act;
 mod applying;
 mod change;
@@ -14,6 +15,7 @@ mod judging;
 pub mod laws;
 mod method;
 mod refusal;
+mod replying;
 mod session;
 #[cfg(test)]
 mod tests;
