@@ -20,3 +20,4 @@ pub mod Announcing
 pub mod After
 pub mod Carried
 pub mod Answering
+pub mod SettingUp

@@ -1,13 +1,17 @@
 -- What the checks of a request find out in the tables, and what its answer changes in them.
-use Rattle.std.specs.Prelude.{◌≡◌, ℕ, ◌+◌, ◌-◌, ◌^◌, ◌<◌, ◌==◌, List, ◌⊎◌, replicate, slice_set, Option, None, Some, IsSome, codes}
+use Rattle.std.specs.Prelude.{◌≡◌, ℕ, Bool, ◌↔◌, [], ◌+◌, ◌-◌, ◌^◌, ◌<◌, ◌==◌, List, ◌⊎◌, replicate, slice_set, Option, None, Some, IsSome, codes}
 use Rattle.rtsp_message.specs.declared.request.Request as messages
 use Rattle.rtsp_message.specs.declared.reply.Reply.{Reply}
 use Rattle.sdp.specs.declared.sections.Sections.{Sections}
 use Rattle.sdp.specs.Readings.{Reads}
 use Rattle.transport_header.specs.declared.spec.Spec.{Spec}
 use Rattle.transport_header.specs.declared.spec.ChannelPair.{ChannelPair}
-use Rattle.transport_header.specs.Chosen.{IsFirstAcceptable}
-use Rattle.transport_header.specs.Tracks.{MayHave}
+use Rattle.std.specs.List.{Contains}
+use Rattle.rtsp_message.specs.declared.status.Status.TheVariants.{Ok}
+use Rattle.transport_header.specs.declared.chosen.Chosen.{Chosen}
+use Rattle.transport_header.specs.Chosen.{IsChosen, IsFirstAcceptable, transport_text}
+use Rattle.transport_header.specs.Session.{identifier_text}
+use Rattle.transport_header.specs.Tracks.{IsOfOther, MayHave}
 use Rattle.transport_header.specs.Transport.{specs_of}
 use Rattle.mounts.specs.declared.mount.Mount.{Mount}
 use Rattle.mounts.specs.declared.target.Target.{Target}
@@ -34,7 +38,7 @@ use Rattle.session_state.specs.Streams.{SetsUp}
 use Rattle.session_state.specs.Stands.{Tables, session_kept}
 use Rattle.session_state.specs.Checks.{Asked, NamesInSession, NamesMount, PassesAll, checks_of, field, state_in}
 use Rattle.session_state.specs.Legal.{IsAnswered, IsRefusedBy}
-use Rattle.session_state.specs.Replies.{IsAccepted, IsPlayAct, IsPlayed, IsSetUp, pause_act, record_act, teardown_act}
+use Rattle.session_state.specs.Replies.{IsAccepted, IsPlayAct, IsPlayed, IsSetUp, identifier_of, no_fields, pause_act, record_act, teardown_act}
 
 -- a request, and what the tables tell for it
 abbrev pub asked_of : Tables → History → (conn : ℕ) → messages.Request → Asked
@@ -139,3 +143,30 @@ module _ (asked : Asked) where
   IsJudged given reply change =
       (IsRefusedBy asked reply acts.None × (change ≡ changes.Nothing))
       ⊎ ((method : Method) × (method_of asked.request.method ≡ Some method) × PassesAll asked (checks_of (Some method)) × IsAcceptedWith method given reply change)
+
+abbrev pub pair_of : Chosen → ChannelPair
+pair_of chosen = record { first = chosen.rtp; second = chosen.rtcp }
+
+-- Channels chosen for a track beside those of a session's other tracks.
+pub record IsChosenFor (specs : List Spec) (channels : List (Option ChannelPair)) (track : ℕ) (chosen : Chosen) : Type 0 where
+  pub used : List ℕ
+  pub others : (channel : ℕ) → Contains used channel ↔ IsOfOther channels track channel
+  pub is_chosen : IsChosen specs used (Some chosen)
+  pub may_have : MayHave channels track (pair_of chosen)
+
+-- A reply gives a track channels.
+pub record GivesChannels (specs : List Spec) (channels : List (Option ChannelPair)) (track : ℕ) (request : messages.Request) (identifier : List ℕ) (recording : Bool) (reply : Reply) : Type 0 where
+  pub chosen : Chosen
+  pub is_for : IsChosenFor specs channels track chosen
+  pub is : reply ≡ record { status = Ok; cseq = request.cseq; fields = record no_fields { session = Some identifier; transport = Some (transport_text (record chosen { recording = recording })) }; body = [] }
+
+-- SETUP in a session
+abbrev pub GivesMore : List Spec → Session → (track : ℕ) → messages.Request → (recording : Bool) → Reply → Change → Type 0
+GivesMore specs session track request recording reply change =
+    (gives : GivesChannels specs session.channels track request (identifier_of session) recording reply) × (change ≡ changes.SetUp track (pair_of gives.chosen))
+
+-- SETUP that begins a session
+abbrev pub GivesFirst : List Spec → (number word : ℕ) → Mount → (track : ℕ) → messages.Request → (recording : Bool) → Reply → Change → Type 0
+GivesFirst specs number word mount track request recording reply change =
+    (gives : GivesChannels specs (replicate 16 None) track request (identifier_text number word) recording reply)
+    × (change ≡ changes.Begin (record { number = number; word = word; mount = mount.number; name = mount.name; recording = recording; channels = slice_set (replicate 16 None) track (Some (pair_of gives.chosen)); state = Ready }))

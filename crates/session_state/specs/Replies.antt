@@ -1,5 +1,5 @@
 -- What a request is answered (RFC 2326, 7, 10, 11 and 12).
-use Rattle.std.specs.Prelude.{◌≡◌, ℕ, ◌+◌, ◌<◌, zero, suc, ◌==◌, Bool, true, false, if◌then◌else◌, List, [], ◌∷◌, ◌++◌, ◌↔◌, get_or, Option, None, Some, codes}
+use Rattle.std.specs.Prelude.{◌≡◌, ℕ, ◌+◌, ◌<◌, zero, suc, ◌==◌, Bool, true, false, if◌then◌else◌, List, [], ◌∷◌, ◌++◌, ◌↔◌, get_or, replicate, Option, None, Some, codes}
 use Rattle.std.specs.List.{Contains}
 use Rattle.std.specs.Option.{option_map, option_and_then, unwrap_or}
 use Rattle.rtsp_message.specs.declared.request.Request as messages
@@ -107,9 +107,36 @@ abbrev pub teardown_act : Option Session → Act
 teardown_act None = acts.None
 teardown_act (Some session) = if session.recording then acts.End else pause_act (Some session)
 
+-- the channels of a session's tracks: none before it begins
+abbrev pub channels_in : Option Session → List (Option ChannelPair)
+channels_in None = replicate 16 None
+channels_in (Some session) = session.channels
+
 -- the session that a request named by a Session field (RFC 2326, 12.37)
 abbrev pub told_to : messages.Request → Option Session → Option (List ℕ)
 told_to request session = option_and_then (λ text. option_map identifier_of session) (value_of request.headers (codes "Session"))
+
+-- RTP-Info of a track that is set up and has a point (RFC 2326, 12.33)
+abbrev pub info_of : (url : List ℕ) → Option ChannelPair → Option Point → List InfoEntry
+info_of url (Some pair) (Some point) = record { url = url; sequence = point.seq; timestamp = point.rtptime } ∷ []
+info_of url pair point = []
+
+abbrev pub info_at : Session → (url : ℕ → List ℕ) → List (Option Point) → (track : ℕ) → List InfoEntry
+info_at session url points track = info_of (url track) (pair_at session.channels track) (get_or points track None)
+
+-- so many tracks from one on, in rising order
+abbrev pub infos : (ℕ → List InfoEntry) → (track count : ℕ) → List InfoEntry
+infos info track zero = []
+infos info track (suc count) = info track ++ infos info (track + 1) count
+
+abbrev pub info_field : List InfoEntry → Option (List ℕ)
+info_field [] = None
+info_field (entry ∷ entries) = Some (rtp_info_text (entry ∷ entries))
+
+-- the URL of a track: below the base, or the request's own where it names the track
+abbrev pub url_for : (uri : List ℕ) → Target → Option ℕ → (track : ℕ) → List ℕ
+url_for uri target None track = target.base ++ track_control track
+url_for uri target (Some named) track = resource_text uri
 
 module _ (asked : Asked) where
   abbrev pub told_session : Option (List ℕ)
@@ -145,10 +172,6 @@ module _ (asked : Asked) where
   abbrev pub identifier_told : Given → List ℕ
   identifier_told given = unwrap_or (option_map identifier_of asked.session) (identifier_text (sessions_begun asked.history + 1) given.word)
 
-  abbrev pub channels_in : Option Session → List (Option ChannelPair)
-  channels_in None = []
-  channels_in (Some session) = session.channels
-
   -- SETUP: the session, and the channels of the track (RFC 2326, 10.4 and 12.39). A channel is used where another track has it.
   pub record IsSetUp (given : Given) (reply : Reply) : Type 0 where
     pub mount : Mount
@@ -162,28 +185,6 @@ module _ (asked : Asked) where
     pub is_chosen : IsChosen (specs_of text) used (Some chosen)
     pub is : reply ≡ accepting (record no_fields { session = Some (identifier_told given); transport = Some (transport_text (record chosen { recording = mount.owner == asked.conn })) }) []
 
-  -- RTP-Info of a track that is set up and has a point (RFC 2326, 12.33)
-  abbrev pub info_of : (url : List ℕ) → Option ChannelPair → Option Point → List InfoEntry
-  info_of url (Some pair) (Some point) = record { url = url; sequence = point.seq; timestamp = point.rtptime } ∷ []
-  info_of url pair point = []
-
-  abbrev pub info_at : Session → (url : ℕ → List ℕ) → List (Option Point) → (track : ℕ) → List InfoEntry
-  info_at session url points track = info_of (url track) (pair_at session.channels track) (get_or points track None)
-
-  -- so many tracks from one on, in rising order
-  abbrev pub infos : (ℕ → List InfoEntry) → (track count : ℕ) → List InfoEntry
-  infos info track zero = []
-  infos info track (suc count) = info track ++ infos info (track + 1) count
-
-  abbrev pub info_field : List InfoEntry → Option (List ℕ)
-  info_field [] = None
-  info_field (entry ∷ entries) = Some (rtp_info_text (entry ∷ entries))
-
-  -- the URL of a track: below the base, or the request's own where it names the track
-  abbrev pub url_for : Target → Option ℕ → (track : ℕ) → List ℕ
-  url_for target None track = target.base ++ track_control track
-  url_for target (Some named) track = resource_text asked.request.uri
-
   -- PLAY from Ready takes a free seat, any one; in Playing the seat is kept
   abbrev pub IsPlayAct : (mount : ℕ) → State → Act → Type 0
   IsPlayAct mount Ready act = (seat : ℕ) × (seat < asked.seats) × (is_out mount seat asked.history ≡ false) × (act ≡ acts.Play mount seat)
@@ -195,7 +196,7 @@ module _ (asked : Asked) where
     pub target : Target
     pub track : Option ℕ
     pub names : NamesInSession asked session target track
-    pub is : reply ≡ accepting (record no_fields { session = told_session; rtp_info = info_field (infos (info_at session (url_for target track) given.points) 0 16) }) []
+    pub is : reply ≡ accepting (record no_fields { session = told_session; rtp_info = info_field (infos (info_at session (url_for asked.request.uri target track) given.points) 0 16) }) []
     pub does : IsPlayAct session.mount session.state act
 
   -- what an accepted request is answered, and what is done

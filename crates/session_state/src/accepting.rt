@@ -20,7 +20,7 @@ ghost use Rattle.session_state.specs.Stands.{Stands, kept_of, session_kept};
 use crate::accepted::Accepted;
 use crate::change::Change;
 use crate::given::Given;
-use crate::replying::{accepting_reply, identifier, told_session};
+use crate::replying::telling_reply;
 use crate::session::{Session, State};
 use crate::world::World;
 use base_syntax::{Bytes, Items};
@@ -37,23 +37,6 @@ use transport_header::{
 /// The methods of the Public field (RFC 2326, 10.1).
 const PUBLIC_METHODS: &[u8] =
     b"OPTIONS, DESCRIBE, ANNOUNCE, SETUP, PLAY, PAUSE, RECORD, TEARDOWN, GET_PARAMETER";
-
-/// A reply that accepts a request with these fields, and with the Session field where the request has it.
-fn telling_reply(
-    alloc: Global,
-    request: &Request,
-    session: Option<&Session>,
-    fields: Fields,
-    body: Bytes,
-) -> Result<Reply, AllocError>
-    ensures { IfOk result (λ reply. reply ≡ record { status = Ok; cseq = request.now.cseq; fields = record fields { session = told_to request.now (option_copied session.entry) }; body = body }) }
-{
-    let told = Fields {
-        session: told_session(alloc, request, session)?,
-        ..fields
-    };
-    Ok(accepting_reply(request, told, body))
-}
 
 /// A reply that tells nothing but the session.
 fn plain_reply(

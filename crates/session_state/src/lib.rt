@@ -14,9 +14,11 @@ mod given;
 mod judging;
 pub mod laws;
 mod method;
+mod playing_reply;
 mod refusal;
 mod replying;
 mod session;
+mod setting_up_reply;
 #[cfg(test)]
 mod tests;
 mod world;

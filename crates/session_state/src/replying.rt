@@ -163,6 +163,23 @@ pub(crate) fn accepting_reply(request: &Request, fields: Fields, body: Bytes) ->
     }
 }
 
+/// A reply that accepts a request with these fields, and with the Session field where the request has it.
+pub(crate) fn telling_reply(
+    alloc: Global,
+    request: &Request,
+    session: Option<&Session>,
+    fields: Fields,
+    body: Bytes,
+) -> Result<Reply, AllocError>
+    ensures { IfOk result (λ reply. reply ≡ record { status = Ok; cseq = request.now.cseq; fields = record fields { session = told_to request.now (option_copied session.entry) }; body = body }) }
+{
+    let told = Fields {
+        session: told_session(alloc, request, session)?,
+        ..fields
+    };
+    Ok(accepting_reply(request, told, body))
+}
+
 impl World {
     /// The value of a refusal's Session field.
     fn told_by(

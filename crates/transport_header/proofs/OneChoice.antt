@@ -33,7 +33,7 @@ one_first (x ∷ xs) (y ∷ ys) a b ls rs same none_a at_a none_b at_b =
     let tail : xs ++ a ∷ ls ≡ ys ++ b ∷ rs = cc in
     one_first xs ys a b ls rs tail (rest_of x xs none_a) at_a (rest_of y ys none_b) at_b
 
-first_is_one : (specs : List Spec) (a b : Spec) → IsFirstAcceptable specs a → IsFirstAcceptable specs b → a ≡ b
+pub first_is_one : (specs : List Spec) (a b : Spec) → IsFirstAcceptable specs a → IsFirstAcceptable specs b → a ≡ b
 first_is_one specs a b (xs, ls, at_a, none_a, ok_a) (ys, rs, at_b, none_b, ok_b) =
     one_first xs ys a b ls rs (sym at_a ∙ at_b) none_a ok_a none_b ok_b
 
@@ -84,7 +84,7 @@ same_chosen a b rtp rtcp recording =
     let make : ℕ → ℕ → Bool → Option Chosen = λ c d r. Some (record { rtp = c; rtcp = d; recording = r }) in
     ap (λ c. make c a.rtcp a.recording) rtp ∙ ap (λ d. make b.rtp d a.recording) rtcp ∙ ap (λ r. make b.rtp b.rtcp r) recording
 
-none_with_first : (specs : List Spec) (spec : Spec) → None_acceptable specs → IsFirstAcceptable specs spec → ⊥
+pub none_with_first : (specs : List Spec) (spec : Spec) → None_acceptable specs → IsFirstAcceptable specs spec → ⊥
 none_with_first specs spec none (xs, ls, at, before, ok) = no_first xs spec ls (let P : List Spec → Type 0 = None_acceptable in subst P at none) ok
 
 pub one_choice : (specs : List Spec) (used : List ℕ) (a b : Option Chosen) → IsChosen specs used a → IsChosen specs used b → a ≡ b

@@ -1,4 +1,4 @@
-use Rattle.std.proofs.Common.{◌≡◌, refl, ap, sym, ◌∙◌}
+use Rattle.std.proofs.Common.{refl, ap, sym, ◌∙◌}
 use Rattle.rtsp_message.specs.declared.reply.Fields.{Fields}
 use Rattle.session_state.specs.Judged.{asked_of}
 use Rattle.session_state.specs.Checks.{Asked}

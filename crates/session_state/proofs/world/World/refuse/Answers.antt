@@ -3,7 +3,7 @@ use Rattle.rtsp_message.specs.declared.reply.Reply.{Reply}
 use Rattle.rtsp_message.specs.declared.status.Status.{Status}
 use Rattle.rtsp_message.specs.declared.reply.Fields.{Fields}
 use Rattle.session_state.specs.Judged.{asked_of}
-use Rattle.session_state.specs.Replies.{fields_of, refusal}
+use Rattle.session_state.specs.Replies.{refusal}
 use Rattle.session_state.proofs.world.World.refuse.Goals as goal
 
 pub returns : goal.returns
