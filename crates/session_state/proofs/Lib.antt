@@ -21,3 +21,4 @@ pub mod After
 pub mod Carried
 pub mod Answering
 pub mod SettingUp
+pub mod Infos

@@ -3,6 +3,7 @@ ghost use Rattle.std.specs.Prelude.{◌≡◌, ◌<◌, ◌∷◌, [], ℕ, IfOk
 ghost use Rattle.std.specs.Option.{option_copied};
 ghost use Rattle.rtsp_message.specs.declared.status.Status.TheVariants.{Ok};
 ghost use Rattle.mounts.specs.declared.target.Target as targets;
+ghost use Rattle.mounts.specs.declared.mount.Mount as mounts_;
 ghost use Rattle.mounts.specs.Mounts.{numbered};
 ghost use Rattle.transport_header.specs.Chosen.{IsFirstAcceptable};
 ghost use Rattle.transport_header.specs.declared.spec.Spec as transports;
@@ -10,7 +11,7 @@ ghost use Rattle.session_state.specs.declared.accepted.Accepted.TheVariants as f
 ghost use Rattle.session_state.specs.declared.method.Method.TheVariants as methods;
 ghost use Rattle.session_state.specs.Checks.{Asked};
 ghost use Rattle.session_state.specs.History.{History};
-ghost use Rattle.session_state.specs.Judged.{CanTake, Finds, HasNumberLeft, HasPlaceFor, IsAcceptedWith, IsFine, IsThere, asked_of, method_in};
+ghost use Rattle.session_state.specs.Judged.{CanTake, Finds, HasNumberLeft, HasPlaceFor, IsAcceptedWith, IsFine, IsThere, asked_of, method_in, play_change};
 ghost use Rattle.session_state.specs.Replies.{accepting as accepting_with, info_at as info_told, infos as infos_told, info_field, no_fields, told_to, url_for};
 ghost use Rattle.session_state.specs.Fields.{sdp_type};
 ghost use Rattle.sdp.specs.Written.{description_text};
@@ -20,19 +21,15 @@ ghost use Rattle.session_state.specs.Stands.{Stands, kept_of, session_kept};
 use crate::accepted::Accepted;
 use crate::change::Change;
 use crate::given::Given;
+use crate::playing_reply::playing_reply;
 use crate::replying::telling_reply;
 use crate::session::{Session, State};
 use crate::world::World;
 use base_syntax::{Bytes, Items};
-use itoa::Buffer;
-use mounts::{Target, resource_text};
+use mounts::Target;
 use rtsp_message::{Fields, Reply, Request};
 use sdp::{Description, write};
 use std::alloc::{AllocError, Global};
-use transport_header::{
-    ChannelPair, Channels, Chosen, InfoEntry, MOST_TRACKS, Point, Spec, TrackChannels, choose,
-    put_rtp_info, put_transport,
-};
 
 /// The methods of the Public field (RFC 2326, 10.1).
 const PUBLIC_METHODS: &[u8] =
@@ -87,4 +84,95 @@ fn described(
         ..Fields::none()
     };
     telling_reply(alloc, request, session, fields, body)
+}
+
+impl World {
+    /// DESCRIBE of a live mount (RFC 2326, 10.2).
+    fn describe(
+        &self,
+        alloc: Global,
+        conn: u64,
+        request: &Request,
+        target: Target,
+        number: u64,
+    ) -> Result<Reply, AllocError>
+        requires there { IsSome (numbered number self.now.mounts.mounts) }
+        ensures { IfOk result (λ reply. (mount : mounts_.Mount) → numbered number self.now.mounts.mounts ≡ Some mount
+            → reply ≡ record { status = Ok; cseq = request.now.cseq; fields = record no_fields { session = told_to request.now (session_kept self.now conn); content_base = Some target.base; content_type = Some sdp_type }; body = description_text mount.description }) }
+    {
+        let mount = self.mounts.numbered(number).unwrap();
+        let session = self.session_of(conn);
+        described(alloc, request, session, target.base, &mount.description)
+    }
+
+    /// What a request is answered that passes all its checks, and what that changes.
+    pub(crate) fn accept(
+        &self,
+        alloc: Global,
+        conn: u64,
+        request: &Request,
+        given: &Given,
+        accepted: Accepted,
+    ) -> Result<(Reply, Change), AllocError>
+        requires there { IsThere self.now conn accepted }
+        ensures ok { IfOk result (λ r. (history : History) → Stands history self.now → Finds (asked_of self.now history conn request.now) accepted
+            → IsAcceptedWith (asked_of self.now history conn request.now) (method_in accepted) given.now r.0 r.1) }
+        ensures can { IfOk result (λ r. CanTake self.now conn r.1) }
+    {
+        let session = self.session_of(conn);
+        match accepted {
+            Accepted::Options => {
+                let reply = methods_told(alloc, request, session)?;
+                Ok((reply, Change::Nothing))
+            }
+            Accepted::GetParameter => {
+                let reply = plain_reply(alloc, request, session)?;
+                Ok((reply, Change::Nothing))
+            }
+            Accepted::Describe { target, mount } => {
+                let reply = self.describe(alloc, conn, request, target, mount)?;
+                Ok((reply, Change::Nothing))
+            }
+            Accepted::Announce {
+                target,
+                description,
+            } => {
+                let reply = plain_reply(alloc, request, session)?;
+                let name = target.path;
+                Ok((reply, Change::Announce { name, description }))
+            }
+            Accepted::Setup {
+                mount,
+                track,
+                specs,
+            } => self.set_up(alloc, conn, request, given, mount, track, specs.as_slice()),
+            Accepted::Play { target, track } => {
+                let session = session.unwrap();
+                let reply = playing_reply(alloc, request, session, &target, track, given)?;
+                Ok((reply, change_of_play(session.state)))
+            }
+            Accepted::Record => {
+                let reply = plain_reply(alloc, request, session)?;
+                Ok((reply, Change::Record))
+            }
+            Accepted::Pause => {
+                let reply = plain_reply(alloc, request, session)?;
+                Ok((reply, Change::Pause))
+            }
+            Accepted::Teardown => {
+                let reply = plain_reply(alloc, request, session)?;
+                Ok((reply, Change::Teardown))
+            }
+        }
+    }
+}
+
+/// PLAY takes a seat where the session hasn't one.
+fn change_of_play(state: State) -> Change
+    ensures { result ≡ play_change (Some state) }
+{
+    match state {
+        State::Ready => Change::Play,
+        _ => Change::Nothing,
+    }
 }
