@@ -9,3 +9,4 @@ pub mod Legal
 pub mod Stands
 pub mod Judged
 pub mod Applied
+pub mod Asking

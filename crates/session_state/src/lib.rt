@@ -6,6 +6,8 @@ mod accepted;
 mod accepting;
 mod act;
 mod applying;
+mod asked;
+mod asking;
 mod change;
 mod check;
 mod entry;
@@ -19,6 +21,7 @@ mod refusal;
 mod replying;
 mod session;
 mod setting_up_reply;
+mod sessions;
 #[cfg(test)]
 mod tests;
 mod world;
