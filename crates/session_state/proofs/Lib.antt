@@ -22,3 +22,5 @@ pub mod Carried
 pub mod Answering
 pub mod SettingUp
 pub mod Infos
+pub mod CheckedNames
+pub mod CheckedSetUp

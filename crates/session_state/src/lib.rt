@@ -17,6 +17,7 @@ mod judging;
 pub mod laws;
 mod method;
 mod playing_reply;
+mod naming;
 mod refusal;
 mod replying;
 mod session;
