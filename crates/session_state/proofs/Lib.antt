@@ -24,3 +24,4 @@ pub mod SettingUp
 pub mod Infos
 pub mod CheckedNames
 pub mod CheckedSetUp
+pub mod CheckedSession

@@ -1,5 +1,5 @@
 -- What the checks of a request tell, one after another.
-use Rattle.std.specs.Prelude.{◌≡◌, ℕ, ◌+◌, ◌==◌, List, Option, None, Some}
+use Rattle.std.specs.Prelude.{◌≡◌, ℕ, ◌+◌, ◌==◌, Bool, true, false, List, Option, None, Some}
 use Rattle.std.specs.Option.{option_copied}
 use Rattle.mounts.specs.declared.mount.Mount.{Mount}
 use Rattle.mounts.specs.declared.target.Target.{Target}
@@ -7,6 +7,8 @@ use Rattle.mounts.specs.Mounts.{numbered}
 use Rattle.mounts.specs.Tracks.{IsNamedBy}
 use Rattle.session_state.specs.declared.asking.Asking.{Asking}
 use Rattle.session_state.specs.declared.check.Check.{Check}
+use Rattle.session_state.specs.declared.method.Method.{Method}
+use Rattle.session_state.specs.declared.method.Method.TheVariants.{Play, Record, Pause, Teardown}
 use Rattle.session_state.specs.declared.refusal.Refusal.{Refusal}
 use Rattle.session_state.specs.declared.refusal.Refusal.TheVariants.{Fails, OutOfMemory}
 use Rattle.session_state.specs.declared.session.Session.{Session}
@@ -14,7 +16,7 @@ use Rattle.session_state.specs.Methods.{is_announce}
 use Rattle.session_state.specs.History.{History, accepts, how_many}
 use Rattle.session_state.specs.Lookups.{sessions_begun}
 use Rattle.session_state.specs.Streams.{AreLive}
-use Rattle.session_state.specs.Checks.{Asked, FailsFirst, NamesForSetup, PassesAll}
+use Rattle.session_state.specs.Checks.{Asked, FailsFirst, NamesForSetup, NamesInSession, NamesOfSession, PassesAll}
 
 -- what is asked after a history
 abbrev pub asked_in : Asking → History → Asked
@@ -54,3 +56,30 @@ pub record IsNamedForSetup (asking : Asking) (target : Target) (mount : Mount) (
   pub rest : Option (List ℕ)
   pub names : (history : History) → NamesForSetup (asked_in asking history) target mount rest
   pub track_is : IsTrackBehind asking.conn target mount rest track
+
+-- the track of a session that a URI names, whatever history tells what is known: this one and no other, or none
+abbrev pub IsTrackNamed : Asking → Session → Target → (track : Option ℕ) → Type 0
+IsTrackNamed asking session target None =
+    (history : History) → IsToldBy history asking → (other : ℕ) → NamesOfSession (asked_in asking history) session target (Some other) → ⊥
+IsTrackNamed asking session target (Some track) =
+    (history : History) → IsToldBy history asking → NamesOfSession (asked_in asking history) session target (Some track)
+    × ((other : ℕ) → NamesOfSession (asked_in asking history) session target (Some other) → other ≡ track)
+
+-- The URI names this of the connection's session: its mount, or this track that it has set up, and nothing else.
+pub record IsNamedInSession (asking : Asking) (target : Target) (session : Session) (track : Option ℕ) : Type 0 where
+  pub has : option_copied asking.session ≡ Some session
+  pub names : (history : History) → IsToldBy history asking → NamesInSession (asked_in asking history) session target track
+  pub only : (history : History) → IsToldBy history asking → (other : Option ℕ) → NamesOfSession (asked_in asking history) session target other → other ≡ track
+
+-- the methods that are about the connection's session, and those of them that need its mount to live
+abbrev pub is_in_session : Method → Bool
+is_in_session Play = true
+is_in_session Record = true
+is_in_session Pause = true
+is_in_session Teardown = true
+is_in_session method = false
+
+abbrev pub needs_mount : Method → Bool
+needs_mount Play = true
+needs_mount Record = true
+needs_mount method = false

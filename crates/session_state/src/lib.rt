@@ -14,6 +14,7 @@ mod entry;
 mod fault;
 mod given;
 mod judging;
+mod in_session;
 pub mod laws;
 mod method;
 mod playing_reply;
