@@ -25,3 +25,5 @@ pub mod Infos
 pub mod CheckedNames
 pub mod CheckedSetUp
 pub mod CheckedSession
+pub mod CheckedFields
+pub mod Checked

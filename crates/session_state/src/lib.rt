@@ -12,6 +12,7 @@ mod change;
 mod check;
 mod entry;
 mod fault;
+mod fields;
 mod given;
 mod judging;
 mod in_session;
