@@ -27,3 +27,5 @@ pub mod CheckedSetUp
 pub mod CheckedSession
 pub mod CheckedFields
 pub mod Checked
+pub mod CheckedAnnounce
+pub mod CheckedTransport

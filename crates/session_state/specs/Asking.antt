@@ -1,17 +1,27 @@
 -- What the checks of a request tell, one after another.
-use Rattle.std.specs.Prelude.{◌≡◌, ℕ, ◌+◌, ◌==◌, Bool, true, false, List, Option, None, Some}
+use Rattle.std.specs.Prelude.{◌≡◌, ℕ, ◌+◌, ◌==◌, ◌↔◌, Bool, true, false, List, length, Option, None, Some, codes}
 use Rattle.std.specs.Option.{option_copied}
+use Rattle.rtsp_message.specs.Headers.{value_of}
+use Rattle.sdp.specs.declared.fault.SdpFault.{SdpFault}
+use Rattle.sdp.specs.declared.fault.SdpFault.TheVariants.{TooManyTracks}
+use Rattle.sdp.specs.declared.fault.SdpFault.TheVariants as faults
+use Rattle.transport_header.specs.declared.spec.Spec.{Spec}
+use Rattle.transport_header.specs.declared.spec.Mode.TheVariants as modes
+use Rattle.transport_header.specs.Chosen.{IsFirstAcceptable}
+use Rattle.transport_header.specs.Transport.{specs_of}
 use Rattle.mounts.specs.declared.mount.Mount.{Mount}
 use Rattle.mounts.specs.declared.target.Target.{Target}
 use Rattle.mounts.specs.Mounts.{numbered}
 use Rattle.mounts.specs.Tracks.{IsNamedBy}
 use Rattle.session_state.specs.declared.asking.Asking.{Asking}
 use Rattle.session_state.specs.declared.check.Check.{Check}
+use Rattle.session_state.specs.declared.check.Check.TheVariants.{HasFewTracks, IsDescription}
 use Rattle.session_state.specs.declared.method.Method.{Method}
 use Rattle.session_state.specs.declared.method.Method.TheVariants.{Play, Record, Pause, Teardown}
 use Rattle.session_state.specs.declared.refusal.Refusal.{Refusal}
 use Rattle.session_state.specs.declared.refusal.Refusal.TheVariants.{Fails, OutOfMemory}
 use Rattle.session_state.specs.declared.session.Session.{Session}
+use Rattle.session_state.specs.declared.setting_up.Delivery.{Delivery}
 use Rattle.session_state.specs.Methods.{is_announce}
 use Rattle.session_state.specs.History.{History, accepts, how_many}
 use Rattle.session_state.specs.Lookups.{sessions_begun}
@@ -83,3 +93,23 @@ abbrev pub needs_mount : Method → Bool
 needs_mount Play = true
 needs_mount Record = true
 needs_mount method = false
+
+-- how a body is refused that is no description, for its fault
+abbrev pub refusal_for : SdpFault → Refusal
+refusal_for TooManyTracks = Fails HasFewTracks
+refusal_for faults.OutOfMemory = OutOfMemory
+refusal_for fault = Fails IsDescription
+
+-- the track that is set up: the one that is named, or, where none is, the only one that there is
+abbrev pub IsTheTrack : Mount → (named : Option ℕ) → (track : ℕ) → Type 0
+IsTheTrack mount None track = (length mount.description.tracks ≡ 1) × (track ≡ 0)
+IsTheTrack mount (Some named) track = track ≡ named
+
+-- What the Transport field asks for: its specs, the first acceptable one, and whether that asks to record.
+pub record IsDelivery (asking : Asking) (delivery : Delivery) : Type 0 where
+  pub text : List ℕ
+  pub field_is : value_of asking.request.now.headers (codes "Transport") ≡ Some text
+  pub specs_are : delivery.specs ≡ specs_of text
+  pub spec : Spec
+  pub first : IsFirstAcceptable delivery.specs spec
+  pub records : delivery.recording ≡ true ↔ (spec.mode ≡ modes.Record)

@@ -6,6 +6,7 @@ mod accepted;
 mod accepting;
 mod act;
 mod applying;
+mod announcing;
 mod asked;
 mod asking;
 mod change;
@@ -25,6 +26,7 @@ mod replying;
 mod session;
 mod setting_up_reply;
 mod sessions;
+mod setting_up;
 #[cfg(test)]
 mod tests;
 mod world;
