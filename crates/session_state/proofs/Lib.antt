@@ -29,3 +29,4 @@ pub mod CheckedFields
 pub mod Checked
 pub mod CheckedAnnounce
 pub mod CheckedTransport
+pub mod CheckedPlay

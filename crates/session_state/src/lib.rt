@@ -21,6 +21,7 @@ pub mod laws;
 mod method;
 mod playing_reply;
 mod naming;
+mod playing;
 mod refusal;
 mod replying;
 mod session;
