@@ -33,3 +33,7 @@ refused_before asking xs ys OutOfMemory h = tt
 pub refused_later : (asking : Asking) (xs ys : List Check) (refusal : Refusal) → IsPassing asking xs → IsRefusedAt asking ys refusal → IsRefusedAt asking (xs ++ ys) refusal
 refused_later asking xs ys (Fails check) p h = λ history told. fails_later (asked_in asking history) xs ys check (p history told) (h history told)
 refused_later asking xs ys OutOfMemory p h = tt
+
+-- one that passes some and is refused by the next is refused however many come behind
+pub refused_within : (asking : Asking) (xs ys zs : List Check) (refusal : Refusal) → IsPassing asking xs → IsRefusedAt asking ys refusal → IsRefusedAt asking (xs ++ (ys ++ zs)) refusal
+refused_within asking xs ys zs refusal p h = refused_later asking xs (ys ++ zs) refusal p (refused_before asking ys zs refusal h)

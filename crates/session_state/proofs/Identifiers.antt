@@ -37,7 +37,7 @@ begins_one conn moment is none = by (accepted moment.entry) is
 extended : (conn : ℕ) (entry : Entry) (before : History) (moment : Moment) → IsBeginning conn before moment → IsBeginning conn (entry ∷ before) moment
 extended conn entry before moment is = record { later = entry ∷ is.later; cut = ap (λ h. entry ∷ h) is.cut; sets_up = is.sets_up; begins_it = is.begins_it }
 
-is_beginning : (conn : ℕ) (history : History) (moment : Moment) → beginning conn (session_part conn history) ≡ Some moment → IsBeginning conn history moment
+pub is_beginning : (conn : ℕ) (history : History) (moment : Moment) → beginning conn (session_part conn history) ≡ Some moment → IsBeginning conn history moment
 is_beginning conn [] moment at = absurd (cc)
 is_beginning conn (entry ∷ before) moment at = by (ends_of conn entry) refl (accepts_from conn moves entry) refl (is_beginning conn before moment)
   where

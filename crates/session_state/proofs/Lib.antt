@@ -30,3 +30,5 @@ pub mod Checked
 pub mod CheckedAnnounce
 pub mod CheckedTransport
 pub mod CheckedPlay
+pub mod CheckedMethods
+pub mod CheckedWorld

@@ -1,5 +1,5 @@
 -- What the checks of a request tell, one after another.
-use Rattle.std.specs.Prelude.{◌≡◌, ℕ, ◌+◌, ◌==◌, ◌↔◌, Bool, true, false, List, length, Option, None, Some, codes}
+use Rattle.std.specs.Prelude.{◌≡◌, ℕ, ◌+◌, ◌==◌, ◌↔◌, Bool, true, false, List, length, Option, None, Some, codes, ◌-◌, ◌^◌, ◌<◌, ◌∷◌, ◌⊎◌, IsSome}
 use Rattle.std.specs.Option.{option_copied}
 use Rattle.rtsp_message.specs.Headers.{value_of}
 use Rattle.sdp.specs.declared.fault.SdpFault.{SdpFault}
@@ -15,18 +15,21 @@ use Rattle.mounts.specs.Mounts.{numbered}
 use Rattle.mounts.specs.Tracks.{IsNamedBy}
 use Rattle.session_state.specs.declared.asking.Asking.{Asking}
 use Rattle.session_state.specs.declared.check.Check.{Check}
-use Rattle.session_state.specs.declared.check.Check.TheVariants.{HasFewTracks, IsDescription}
+use Rattle.session_state.specs.declared.check.Check.TheVariants.{HasFewTracks, IsDescription, RequiresNothing, HasUri, HasItsSession, NamesAStream, FitsState}
 use Rattle.session_state.specs.declared.method.Method.{Method}
 use Rattle.session_state.specs.declared.method.Method.TheVariants.{Play, Record, Pause, Teardown}
 use Rattle.session_state.specs.declared.refusal.Refusal.{Refusal}
 use Rattle.session_state.specs.declared.refusal.Refusal.TheVariants.{Fails, OutOfMemory}
 use Rattle.session_state.specs.declared.session.Session.{Session}
 use Rattle.session_state.specs.declared.setting_up.Delivery.{Delivery}
+use Rattle.session_state.specs.Judged.{Finds, HasPlaceFor, IsFine, method_in}
+use Rattle.session_state.specs.declared.accepted.Accepted.{Accepted}
+use Rattle.session_state.specs.declared.accepted.Accepted.TheVariants as found
 use Rattle.session_state.specs.Methods.{is_announce}
 use Rattle.session_state.specs.History.{History, accepts, how_many}
 use Rattle.session_state.specs.Lookups.{sessions_begun}
 use Rattle.session_state.specs.Streams.{AreLive}
-use Rattle.session_state.specs.Checks.{Asked, FailsFirst, NamesForSetup, NamesInSession, NamesOfSession, PassesAll}
+use Rattle.session_state.specs.Checks.{Asked, FailsFirst, NamesForSetup, NamesInSession, NamesOfSession, PassesAll, own_checks}
 
 -- what is asked after a history
 abbrev pub asked_in : Asking → History → Asked
@@ -113,3 +116,28 @@ pub record IsDelivery (asking : Asking) (delivery : Delivery) : Type 0 where
   pub spec : Spec
   pub first : IsFirstAcceptable delivery.specs spec
   pub records : delivery.recording ≡ true ↔ (spec.mode ≡ modes.Record)
+
+-- the checks of a request of a method, behind those of any request
+abbrev pub later_checks : Method → List Check
+later_checks method = RequiresNothing ∷ HasUri method ∷ HasItsSession method ∷ NamesAStream method ∷ FitsState method ∷ own_checks method
+
+-- what was found is there
+abbrev pub IsThereFor : Asking → Accepted → Type 0
+IsThereFor asking (found.Describe target number) = IsSome (numbered number asking.mounts.now.mounts)
+IsThereFor asking (found.Announce target description) = HasPlaceFor asking.mounts.now asking.conn target.path
+IsThereFor asking (found.Setup number track specs) =
+    IsSome (numbered number asking.mounts.now.mounts) × (track < 16) × ((spec : Spec) × IsFirstAcceptable specs spec) × (IsSome (option_copied asking.session) ⊎ (asking.begun < 2 ^ 32 - 1))
+IsThereFor asking (found.Play target track) = IsSome (option_copied asking.session)
+IsThereFor asking accepted = Unit {0}
+
+-- A request of a method passes its checks, and this was found out.
+pub record IsAcceptedAs (asking : Asking) (method : Method) (accepted : Accepted) : Type 0 where
+  pub method_is : method_in accepted ≡ method
+  pub passes : IsPassing asking (later_checks method)
+  pub finds : (history : History) → IsToldBy history asking → Finds (asked_in asking history) accepted
+  pub there : IsThereFor asking accepted
+
+-- A request passes all its checks, and this was found out.
+pub record IsChecked (asking : Asking) (accepted : Accepted) : Type 0 where
+  pub fine : (history : History) → IsToldBy history asking → IsFine (asked_in asking history) accepted
+  pub there : IsThereFor asking accepted

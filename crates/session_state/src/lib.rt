@@ -11,6 +11,7 @@ mod asked;
 mod asking;
 mod change;
 mod check;
+mod checking;
 mod entry;
 mod fault;
 mod fields;

@@ -1,11 +1,11 @@
 //! The checks of a PLAY, RECORD, PAUSE or TEARDOWN behind what it names.
-ghost use Rattle.std.specs.Prelude.{◌≡◌, ◌∷◌, [], ℕ, Some, IsSome, true, false, length, MatchBool, MatchResult};
+ghost use Rattle.std.specs.Prelude.{◌≡◌, ◌∷◌, [], ℕ, Some, IsSome, true, IfOk, MatchBool, MatchResult};
 ghost use Rattle.std.specs.Option.{option_copied};
 ghost use Rattle.transport_header.specs.Tracks.{pair_at};
 ghost use Rattle.mounts.specs.declared.target.Target.{Target as mounts_Target};
 ghost use Rattle.mounts.specs.Mounts.{numbered};
 ghost use Rattle.session_state.specs.declared.check.Check.TheVariants.{FitsState, HasFreeSeat, IsAggregate, IsForPlaying, IsForRecording, NamesAStream};
-ghost use Rattle.session_state.specs.Asking.{IsNamedInSession, IsPassing, IsRefusedAt, is_in_session};
+ghost use Rattle.session_state.specs.Asking.{IsNamedInSession, IsPassing, IsRefusedAt, is_in_session, needs_mount};
 ghost use Rattle.mounts.specs.declared.uri.Uri.TheVariants.{At};
 ghost use Rattle.mounts.specs.Uri.{IsUri};
 
@@ -43,9 +43,10 @@ impl<'a> Asking<'a> {
     ) -> Result<SessionNames<'a>, Refusal>
         requires method { is_in_session method ≡ true }
         requires uri { IsUri self.now.request.now.uri (At target.now) }
-        ensures { MatchResult result
+        ensures named { MatchResult result
             (λ named. IsNamedInSession self.now target.now named.session.now named.track × IsPassing self.now (NamesAStream method ∷ FitsState method ∷ []))
             (IsRefusedAt self.now (NamesAStream method ∷ FitsState method ∷ [])) }
+        ensures live { IfOk result (λ named. needs_mount method ≡ true → IsSome (numbered named.session.now.mount self.now.mounts.now.mounts)) }
     {
         let named = self.named_in_session(alloc, method, target)?;
         self.in_fitting_state(method)?;
