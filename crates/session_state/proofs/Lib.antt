@@ -32,3 +32,4 @@ pub mod CheckedTransport
 pub mod CheckedPlay
 pub mod CheckedMethods
 pub mod CheckedWorld
+pub mod OneReply

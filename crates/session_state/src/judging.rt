@@ -7,6 +7,7 @@ ghost use Rattle.session_state.specs.Stands.{Stands, kept_of};
 
 use crate::change::Change;
 use crate::given::Given;
+use crate::refusal::Refusal;
 use crate::world::World;
 use rtsp_message::{Reply, Request};
 use std::alloc::{AllocError, Global};
@@ -25,6 +26,13 @@ impl World {
             → IsJudged (asked_of self.now history conn request.now) given.now r.0 r.1) }
         ensures can { IfOk result (λ r. CanTake self.now conn r.1) }
     {
-        Err(AllocError)
+        match self.check(alloc, conn, request) {
+            Ok(accepted) => self.accept(alloc, conn, request, given, accepted),
+            Err(Refusal::Fails(check)) => {
+                let reply = self.refuse(alloc, conn, request, check)?;
+                Ok((reply, Change::Nothing))
+            }
+            Err(Refusal::OutOfMemory) => Err(AllocError),
+        }
     }
 }

@@ -11,7 +11,8 @@ ghost use Rattle.session_state.specs.declared.entry.Entry.TheVariants.{Request, 
 ghost use Rattle.session_state.specs.declared.given.Given.{Given};
 ghost use Rattle.session_state.specs.declared.session.Session.{Session};
 ghost use Rattle.session_state.specs.History.{History, accepts, accepts_from, how_many};
-ghost use Rattle.session_state.specs.Legal.{IsLegal};
+ghost use Rattle.session_state.specs.Checks.{Asked, LooksUp};
+ghost use Rattle.session_state.specs.Legal.{IsAnswered, IsLegal};
 ghost use Rattle.session_state.specs.Lookups.{IsSession, IsSessionOf, came, has_session, is_open, sessions_begun};
 ghost use Rattle.session_state.specs.Methods.{is_announce, moves};
 ghost use Rattle.session_state.specs.Streams.{AreLive, IsLiveMount, ends_of, is_out};
@@ -72,4 +73,11 @@ pub fn mounts_differ()
 pub fn sessions_differ()
     ensures { (seats conn other : ℕ) (history : History) (session second : Session) → IsSession seats conn history session → IsSession seats other history second
         → session.number ≡ second.number → conn ≡ other }
+{}
+
+/// A request has one answer, whatever seat it takes: among the mounts that live and with the session that there is, no two
+/// replies to it are legal.
+pub fn one_reply()
+    ensures { (asked : Asked) (given : Given) (one other : Reply) (act behind : Act) → LooksUp asked → IsLegal asked.seats asked.history
+        → IsAnswered asked given one act → IsAnswered asked given other behind → one ≡ other }
 {}

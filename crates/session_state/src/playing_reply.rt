@@ -111,8 +111,12 @@ pub(crate) fn playing_reply(
     named: Option<usize>,
     given: &Given,
 ) -> Result<Reply, AllocError>
-    ensures { IfOk result (λ reply. reply ≡ record { status = Ok; cseq = request.now.cseq;
-        fields = record no_fields { session = told_to request.now (Some session.now); rtp_info = info_field (infos (info_at session.now (url_for request.now.uri target.now named) given.now.points) 0 16) }; body = [] }) }
+    ensures { IfOk result (λ reply. reply ≡ record {
+      status = Ok;
+      cseq = request.now.cseq;
+      fields = record no_fields { session = told_to request.now (Some session.now); rtp_info = info_field (infos (info_at session.now (url_for request.now.uri target.now named) given.now.points) 0 16) };
+      body = [];
+    }) }
 {
     let entries = infos_of(alloc, request, session, target, named, given)?;
     let fields = Fields {

@@ -1,4 +1,4 @@
-use Rattle.std.proofs.Common.{◌≡◌, ℕ, List, [], ◌∷◌, ◌++◌, ◌+◌, Option, MatchOption, Some, None, ap, sym, subst, ◌∙◌, arith}
+use Rattle.std.proofs.Common.{◌≡◌, ℕ, List, [], ◌∷◌, ◌++◌, ◌+◌, Option, MatchOption, ap, sym, subst, ◌∙◌, arith}
 use Rattle.transport_header.specs.declared.rtp_info.InfoEntry.{InfoEntry}
 use Rattle.session_state.specs.Replies.{info_at, url_for}
 use Rattle.session_state.proofs.Infos.{Gathered, none_more, one_more}
