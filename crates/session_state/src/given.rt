@@ -1,6 +1,7 @@
 //! What a decision is handed beside the request.
 
 use base_syntax::Items;
+use std::alloc::{AllocError, Global};
 use transport_header::Point;
 
 /// What a decision is handed beside the request.
@@ -11,4 +12,18 @@ pub struct Given {
     /// Where the packets of each track of the session's mount stand, by the track's number (RFC 2326, 12.33). A track
     /// that has no place here has no point.
     pub points: Items<Option<Point>>,
+}
+
+impl Given {
+    ghost use Rattle.std.specs.Prelude.{◌≡◌, IfOk};
+
+    /// A copy, or want of memory.
+    pub fn copy(&self, alloc: Global) -> Result<Given, AllocError>
+        ensures { IfOk result (λ copied. copied ≡ self.now) }
+    {
+        Ok(Given {
+            word: self.word,
+            points: Items::new(Vec::from_slice(alloc, self.points.as_slice())?),
+        })
+    }
 }

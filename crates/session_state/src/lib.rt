@@ -12,6 +12,8 @@ mod asking;
 mod change;
 mod check;
 mod checking;
+#[cfg(test)]
+mod decisions_tests;
 mod entry;
 mod fault;
 mod fields;

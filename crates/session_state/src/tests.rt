@@ -61,4 +61,5 @@ fn the_laws_are_called() {
     laws::connections_come_first();
     laws::mounts_differ();
     laws::sessions_differ();
+    laws::one_reply();
 }
