@@ -11,6 +11,8 @@ mod asked;
 mod asking;
 mod change;
 mod check;
+#[cfg(test)]
+mod check_tests;
 mod checking;
 #[cfg(test)]
 mod decisions_tests;
