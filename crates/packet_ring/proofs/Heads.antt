@@ -18,7 +18,7 @@ use Rattle.ring_steps.specs.Bits.{head_bits, word_bits}
 use Rattle.ring_steps.specs.declared.words.Slot.{Slot}
 use Rattle.ring_steps.specs.Ring as Ring
 use Rattle.ring_steps.specs.Ring.{cursor, with_seat}
-use Rattle.ring_steps.specs.Slots.{Invariant}
+use Rattle.ring_steps.specs.Slots.{Invariant, SeatKnows}
 use Rattle.ring_steps.specs.Step.{append, close, end_take, lose, find_packet, Outcome}
 use Rattle.ring_steps.specs.declared.calls.Observed.TheVariants as saw
 use Rattle.ring_steps.specs.RingSteps.{IsIdle, by_look}
@@ -100,7 +100,7 @@ units_of s t fits units long = let n : length (words_of s) ≡ units = ap length
 module _ (phase : SeatPhase) (f : Head → Seat → Seat) (units : ℕ) (idle : (at j : ℕ) → 0 ≡ hold_of phase at j) (then_idle : (h : Head) (x : Seat) → x.phase ≡ phase → (at j : ℕ) → 0 ≡ hold_of (f h x).phase at j)
     (law : (s : Ring.State) (i : ℕ) (x : Seat) → s.keep + 2 ≡ units → Invariant s → slice_get s.seats i ≡ Some x → x.phase ≡ phase → Invariant (with_seat s i (f s.head x))) where
   -- a load of the head by a seat, where the core's law says that its new view keeps the invariant
-  pub loads_allow : {L : Limits} (i : ℕ) (x : Seat) (me : Knows) → me.view ≡ inr x → x.phase ≡ phase → Allows (Holds L) units (suc i) me 0 (λ n. n) (Loads f x me)
+  pub loads_allow : {L : Limits} (i : ℕ) (x : Seat) (me : Knows) → me.view ≡ inr x → x.phase ≡ phase → Allows (Holds L) units (suc i) me 0 (λ n. n) (Loads (units - 2) f x me)
   loads_allow {L = L} i x me is within t held long rooms at pre small =
       let s : Ring.State = held.0 in let fits : Fits L s t = held.1 in let y : Seat = f s.head x in
       let there = seat_there s.seats i x (ap (λ (vs : List View). get_elem? vs (suc i)) (sym fits.views) ∙ at ∙ ap (λ (v : View). maybe.some v) is) in
@@ -114,14 +114,25 @@ module _ (phase : SeatPhase) (f : Head → Seat → Seat) (units : ℕ) (idle : 
         prefix_refl t.log,
         prefix_refl t.log,
         seat_kept s t fits i x y me.right there (law s i x (units_of s t fits units long) fits.sound there within) same,
-        record { head = s.head; bits = ap (λ (ws : List ℕ). get_or ws 0 0) fits.words; view = refl; right = refl; size = ap length fits.log ∙ sym fits.sound.slots.numbers.size; grows = pre },
+        record {
+          head = s.head;
+          bits = ap (λ (ws : List ℕ). get_or ws 0 0) fits.words;
+          short = (let n = fits.short in let e = fits.sound.slots.numbers.size in omega arith);
+          later = (let n = (fits.sound.slots.seen i x there).0 in let e = fits.sound.slots.numbers.size in omega arith);
+          ended = λ was. let n = (fits.sound.slots.seen i x there).1 was in (fits.sound.slots.numbers.closed ∙ n.1, n.0 ∙ sym fits.sound.slots.numbers.size);
+          behind = λ is_missed. let n = subst (λ (φ : SeatPhase). SeatKnows φ s.keep s.log x) is_missed (fits.sound.phases.knows i x there) in let k = n.1 in let e = fits.sound.slots.numbers.size in let u = units_of s t fits units long in omega arith;
+          view = refl;
+          right = refl;
+          size = ap length fits.log ∙ sym fits.sound.slots.numbers.size;
+          grows = pre;
+        },
       )
 
 -- an attachment and a detachment
-pub attaches : {L : Limits} (units i : ℕ) (x : Seat) (me : Knows) → me.view ≡ inr x → x.phase ≡ seating.Out → Allows (Holds L) units (suc i) me 0 (λ n. n) (Loads attached x me)
+pub attaches : {L : Limits} (units i : ℕ) (x : Seat) (me : Knows) → me.view ≡ inr x → x.phase ≡ seating.Out → Allows (Holds L) units (suc i) me 0 (λ n. n) (Loads (units - 2) attached x me)
 attaches units = loads_allow seating.Out attached units (λ at j. refl) (λ h x w at j. refl) (λ s i x k sound there within. attach_keeps s i x sound there within)
 
-pub detaches : {L : Limits} (units i : ℕ) (x : Seat) (me : Knows) → me.view ≡ inr x → x.phase ≡ seating.Between → Allows (Holds L) units (suc i) me 0 (λ n. n) (Loads detached x me)
+pub detaches : {L : Limits} (units i : ℕ) (x : Seat) (me : Knows) → me.view ≡ inr x → x.phase ≡ seating.Between → Allows (Holds L) units (suc i) me 0 (λ n. n) (Loads (units - 2) detached x me)
 detaches units = loads_allow seating.Between detached units (λ at j. refl) (λ h x w at j. refl) (λ s i x k sound there within. detach_keeps s i x sound there within)
 
 -- ---- the publisher
@@ -218,21 +229,21 @@ module _ (keep units : ℕ) (size : keep + 2 ≡ units) where
       subst Invariant (first_state s i x (s.head.length == cursor x) (nat_lt (cursor x) (s.head.length - s.keep)) e ∙ ap (λ (m : ℕ). with_seat s i (by_tests (s.head.length == cursor x) (nat_lt (cursor x) (s.head.length - m)) s.head x)) e)
       (first_load_keeps s i x sound there within)
 
-  pub first_loads : {L : Limits} (i : ℕ) (x : Seat) (me : Knows) → me.view ≡ inr x → x.phase ≡ seating.Between → Allows (Holds L) units (suc i) me 0 (λ n. n) (Loads (first_seen keep) x me)
+  pub first_loads : {L : Limits} (i : ℕ) (x : Seat) (me : Knows) → me.view ≡ inr x → x.phase ≡ seating.Between → Allows (Holds L) units (suc i) me 0 (λ n. n) (Loads (units - 2) (first_seen keep) x me)
   first_loads = loads_allow seating.Between (first_seen keep) units (λ at j. refl) (λ h x w at j. first_idle h x (h.length == cursor x) (nat_lt (cursor x) (h.length - keep)) w at j) first_keeps
 
   second_keeps : (s : Ring.State) (i : ℕ) (x : Seat) → s.keep + 2 ≡ units → Invariant s → slice_get s.seats i ≡ Some x → x.phase ≡ seating.Missed → Invariant (with_seat s i (second_seen keep s.head x))
   second_keeps s i x k sound there within = let e : s.keep ≡ keep = omega arith in subst (λ (m : ℕ). Invariant (with_seat s i (second_seen m s.head x))) e (second_load_keeps s i x sound there within)
 
-  pub second_loads : {L : Limits} (i : ℕ) (x : Seat) (me : Knows) → me.view ≡ inr x → x.phase ≡ seating.Missed → Allows (Holds L) units (suc i) me 0 (λ n. n) (Loads (second_seen keep) x me)
+  pub second_loads : {L : Limits} (i : ℕ) (x : Seat) (me : Knows) → me.view ≡ inr x → x.phase ≡ seating.Missed → Allows (Holds L) units (suc i) me 0 (λ n. n) (Loads (units - 2) (second_seen keep) x me)
   second_loads = loads_allow seating.Missed (second_seen keep) units (λ at j. refl) (λ h x w at j. refl) second_keeps
 
 look_keeps : (s : Ring.State) (i : ℕ) (x : Seat) (φ : SeatPhase) → IsIdle φ → Invariant s → slice_get s.seats i ≡ Some x → x.phase ≡ φ → Invariant (with_seat s i (looked s.head x))
 look_keeps s i x φ idle sound there within = let o : Outcome = record { state = with_seat s i (looked s.head x); saw = saw.Load s.head; answer = None } in
     ring_step_keeps s (by_look i) o (record { view = x; there = there; idle = subst IsIdle (sym within) idle; acts = refl }) sound
 
-pub looks_out : {L : Limits} (units i : ℕ) (x : Seat) (me : Knows) → me.view ≡ inr x → x.phase ≡ seating.Out → Allows (Holds L) units (suc i) me 0 (λ n. n) (Loads looked x me)
+pub looks_out : {L : Limits} (units i : ℕ) (x : Seat) (me : Knows) → me.view ≡ inr x → x.phase ≡ seating.Out → Allows (Holds L) units (suc i) me 0 (λ n. n) (Loads (units - 2) looked x me)
 looks_out units = loads_allow seating.Out looked units (λ at j. refl) (λ h x w at j. subst (λ (φ : SeatPhase). 0 ≡ hold_of φ at j) (sym w) refl) (λ s i x k sound there within. look_keeps s i x seating.Out tt sound there within)
 
-pub looks_in : {L : Limits} (units i : ℕ) (x : Seat) (me : Knows) → me.view ≡ inr x → x.phase ≡ seating.Between → Allows (Holds L) units (suc i) me 0 (λ n. n) (Loads looked x me)
+pub looks_in : {L : Limits} (units i : ℕ) (x : Seat) (me : Knows) → me.view ≡ inr x → x.phase ≡ seating.Between → Allows (Holds L) units (suc i) me 0 (λ n. n) (Loads (units - 2) looked x me)
 looks_in units = loads_allow seating.Between looked units (λ at j. refl) (λ h x w at j. subst (λ (φ : SeatPhase). 0 ≡ hold_of φ at j) (sym w) refl) (λ s i x k sound there within. look_keeps s i x seating.Between tt sound there within)

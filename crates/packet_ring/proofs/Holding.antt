@@ -1,5 +1,5 @@
 -- A take whose pin holds gives the packet at its cursor.
-use Rattle.std.proofs.Common.{◌≡◌, ◌≢◌, ℕ, zero, suc, ◌+◌, ◌-◌, ◌*◌, ◌/◌, ◌^◌, ◌<◌, ◌≤◌, ◌&&◌, Bool, true, false, not, eqb, ltb, List, [], ◌∷◌, ◌++◌, length, get_or, sym, ap, ◌∙◌, subst, arith, eq-eqb, ne_eqb, le-ltb, length-append, Some, if◌then◌else◌}
+use Rattle.std.proofs.Common.{◌≡◌, ◌≢◌, ℕ, zero, suc, ◌+◌, ◌-◌, ◌*◌, ◌/◌, ◌^◌, ◌<◌, ◌≤◌, ◌&&◌, Bool, true, false, not, eqb, ltb, List, [], ◌∷◌, length, get_or, sym, ap, ◌∙◌, subst, arith, eq-eqb, ne_eqb, le-ltb, Some, if◌then◌else◌}
 use mathlib.Core.Logic.{inr}
 use mathlib.Core.List.{IsPrefix}
 use base.Growing.{prefix_trans}
@@ -16,10 +16,7 @@ use Rattle.packet_ring.specs.Rule.{Knows, View, IsSized}
 use Rattle.packet_ring.specs.Steps.{HasPacket, Loads, Pins, Unpins, first_seen, looked, next_packet, seat_of, took}
 use Rattle.packet_ring.specs.Tokens.{GotPacket}
 use Rattle.packet_ring.proofs.Pinned.{prefix_get, or_packet}
-
-length_of : (b : Bool) (n found : ℕ) → found ≡ bit b + 2 * n → found / 2 ≡ n
-length_of false n found e = omega arith
-length_of true n found e = omega arith
+use Rattle.packet_ring.proofs.Looks.{length_of, longer, looks}
 
 holds_at : (pins n : ℕ) (b : Bool) (c found : ℕ) → found ≡ pins + 2 ^ 16 * bit b + 2 ^ 17 * n → pins ≤ 1024 → found / 65536 ≡ 2 * (c + 1) → eqb n (c + 1) && not b ≡ true
 holds_at pins n true c found e few is = absurd (omega arith)
@@ -51,15 +48,12 @@ held most unit x me found next step is = let H = step.held (holds_by step.word (
       same = same;
     }
 
-longer : (xs ys : List (List ℕ)) → IsPrefix xs ys → length xs ≤ length ys
-longer xs ys pre = let a = length-append xs pre.0 in let e : length (xs ++ pre.0) ≡ length ys = ap length pre.1 in omega arith
-
 -- a first load that found the packet at the cursor
 found_seen : (keep : ℕ) (h : Head) (x : Seat) → h.length ≢ cursor x → h.length - keep ≤ cursor x → first_seen keep h x ≡ record (looked h x) { phase = seating.Found }
 found_seen keep h x other kept = ap (λ (b : Bool). if b then looked h x else (if ltb (cursor x) (h.length - keep) then Rattle.packet_ring.specs.Steps.lost_to h x (h.length - keep - cursor x) else record (looked h x) { phase = seating.Found })) (ne_eqb h.length (cursor x) other)
     ∙ ap (λ (b : Bool). if b then Rattle.packet_ring.specs.Steps.lost_to h x (h.length - keep - cursor x) else record (looked h x) { phase = seating.Found }) (le-ltb (cursor x) (h.length - keep) kept)
 
-module _ (keep : ℕ) (x : Seat) (old : Knows) (found : ℕ) (first : Knows) (load : Loads (first_seen keep) x old found first) (other : found / 2 ≢ cursor x) (kept : found / 2 - keep ≤ cursor x) where
+module _ (keep : ℕ) (x : Seat) (old : Knows) (found : ℕ) (first : Knows) (load : Loads keep (first_seen keep) x old found first) (other : found / 2 ≢ cursor x) (kept : found / 2 - keep ≤ cursor x) where
   size : found / 2 ≡ load.head.length
   size = length_of load.head.closed load.head.length found load.bits
 
@@ -73,14 +67,14 @@ module _ (keep : ℕ) (x : Seat) (old : Knows) (found : ℕ) (first : Knows) (lo
   pinned_holds most unit word pinned step is = held most unit (seat_of first.view) first word pinned step (is ∙ ap (λ (k : ℕ). 2 * (k + 1)) (sym same_cursor))
 
   pub gives : (most unit word last : ℕ) (pinned next : Knows) (step : Pins most unit (seat_of first.view) first word pinned) → Unpins (took (seat_of pinned.view) (next_packet pinned)) pinned last next
-      → cursor x ≤ length old.seen → slice_get pinned.seen (cursor (seat_of first.view)) ≡ Some (next_packet pinned) → GotPacket keep x (next_packet pinned) old next
+      → cursor x ≤ length old.seen → slice_get pinned.seen (cursor (seat_of first.view)) ≡ Some (next_packet pinned) → GotPacket keep (found / 2) x (next_packet pinned) old next
   gives most unit word last pinned next step end behind at = let p : List ℕ = next_packet pinned in let z = size in let n : length first.seen ≡ load.head.length = load.size in let far = longer old.seen first.seen load.grows in
-      let there : cursor x < load.head.length = (let ne : load.head.length ≢ cursor x = λ e. other (size ∙ e) in omega arith) in record {
+      let there : cursor x < load.head.length = (let ne : load.head.length ≢ cursor x = λ e. other (size ∙ e) in omega arith) in let more : IsPrefix first.seen next.seen = prefix_trans first.seen pinned.seen next.seen step.grows end.grows in record {
         head = load.head;
+        looked_at = looks keep x old found first (first_seen keep) load next more;
         kept = omega arith;
-        there = there;
+        there = omega arith;
         at = prefix_get pinned.seen next.seen (cursor x) p end.grows (ap (λ (k : ℕ). slice_get pinned.seen k) (sym same_cursor) ∙ at);
         view = end.view ∙ ap (λ (v : View). inr (took (seat_of v) p)) step.view ∙ ap (λ (y : Seat). inr (took y p)) seat_found;
         right = end.right;
-        grows = prefix_trans old.seen first.seen next.seen load.grows (prefix_trans first.seen pinned.seen next.seen step.grows end.grows);
       }

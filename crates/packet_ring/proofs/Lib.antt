@@ -17,4 +17,5 @@ pub mod Settling
 pub mod Unpacking
 pub mod Putting
 pub mod Getting
+pub mod Looks
 pub mod Holding

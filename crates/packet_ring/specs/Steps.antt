@@ -1,5 +1,5 @@
 -- What each kind of atomic step tells the token that makes it.
-use Rattle.std.specs.Prelude.{◌≡◌, ◌≢◌, ℕ, ◌≤◌, ◌+◌, ◌-◌, ◌==◌, false, true, nat_lt, List, [], ◌∷◌, ◌++◌, length, take, drop, Some, slice_get, slice_index_or, if◌then◌else◌}
+use Rattle.std.specs.Prelude.{◌≡◌, ◌≢◌, ℕ, ◌≤◌, ◌<◌, ◌+◌, ◌-◌, ◌^◌, ◌==◌, false, true, nat_lt, List, [], ◌∷◌, ◌++◌, length, take, drop, Some, slice_get, slice_index_or, if◌then◌else◌}
 use mathlib.Core.Logic.{inl, inr}
 use mathlib.Core.List.{IsPrefix}
 use Rattle.ring_steps.specs.declared.words.Head.{Head}
@@ -26,11 +26,17 @@ attached h x = record (looked h x) { phase = seating.Between; account = record {
 abbrev pub detached : Head → Seat → Seat
 detached h x = record (looked h x) { phase = seating.Out }
 
--- a load of the head by a seat: its view becomes `f` of the head that it found, and it has seen the whole
--- log of that length
-pub record Loads (f : Head → Seat → Seat) (x : Seat) (me : Knows) (found : ℕ) (next : Knows) : Type 0 where
+-- a load of the head by a seat, in a ring that keeps so many packets: its view becomes `f` of the head that
+-- it found, and it has seen the whole log of that length
+pub record Loads (keep : ℕ) (f : Head → Seat → Seat) (x : Seat) (me : Knows) (found : ℕ) (next : Knows) : Type 0 where
   pub head : Head
   pub bits : found ≡ head_bits head
+  pub short : head.length ≤ 2 ^ 46
+  -- the log that the seat saw before was no longer, and is this one if it was closed
+  pub later : x.seen ≤ head.length
+  pub ended : x.saw_closed ≡ true → (head.closed ≡ true) × (x.seen ≡ head.length)
+  -- after a pin that failed, the packet at the cursor is no longer kept
+  pub behind : x.phase ≡ seating.Missed → cursor x < head.length - keep
   pub view : next.view ≡ inr (f head x)
   pub right : next.right ≡ me.right
   pub size : length next.seen ≡ head.length

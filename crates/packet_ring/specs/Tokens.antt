@@ -1,5 +1,5 @@
 -- What a call leaves its token with.
-use Rattle.std.specs.Prelude.{◌≡◌, ◌⊎◌, ℕ, ◌+◌, ◌-◌, ◌<◌, ◌≤◌, Bool, true, false, List, [], ◌∷◌, ◌++◌, length, take, Some, slice_get}
+use Rattle.std.specs.Prelude.{◌≡◌, ◌⊎◌, ℕ, ◌+◌, ◌-◌, ◌^◌, ◌<◌, ◌≤◌, Bool, true, false, List, [], ◌∷◌, ◌++◌, length, take, Some, slice_get}
 use mathlib.Core.Logic.{inl, inr}
 use mathlib.Core.List.{IsPrefix}
 use Rattle.cursor.specs.declared.takes.Taken.{Taken}
@@ -26,36 +26,49 @@ pub record Pinned (seats pins : ℕ) (me next : Knows) : Type 0 where
   pub few : pins ≤ seats
   pub grows : IsPrefix me.seen next.seen
 
+-- a call of a seat whose last load saw this head, over a log of so many packets: all that the token had seen
+-- begins that log, and a log that it saw closed is still that log, closed
+pub record Looked (head : Head) (seen : ℕ) (x : Seat) (me next : Knows) : Type 0 where
+  pub size : head.length ≡ seen
+  pub short : seen ≤ 2 ^ 46
+  pub later : x.seen ≤ seen
+  pub ended : x.saw_closed ≡ true → (head.closed ≡ true) × (x.seen ≡ seen)
+  pub far : length me.seen ≤ seen
+  pub known : seen ≤ length next.seen
+  pub grows : IsPrefix me.seen next.seen
+
 -- a take that gave this packet, of which the take's one load saw that it is there and is kept
-pub record GotPacket (keep : ℕ) (x : Seat) (packet : List ℕ) (me next : Knows) : Type 0 where
+pub record GotPacket (keep seen : ℕ) (x : Seat) (packet : List ℕ) (me next : Knows) : Type 0 where
   pub head : Head
-  pub kept : head.length - keep ≤ cursor x
-  pub there : cursor x < head.length
+  pub looked_at : Looked head seen x me next
+  pub kept : seen - keep ≤ cursor x
+  pub there : cursor x < seen
   pub at : slice_get next.seen (cursor x) ≡ Some packet
   pub view : next.view ≡ inr (took (looked head x) packet)
   pub right : next.right ≡ no_right
-  pub grows : IsPrefix me.seen next.seen
 
 -- a take that found no further packet in a log that was closed, or open
-pub record FoundNone (closed : Bool) (x : Seat) (me next : Knows) : Type 0 where
+pub record FoundNone (closed : Bool) (seen : ℕ) (x : Seat) (me next : Knows) : Type 0 where
   pub head : Head
-  pub ends : head.length ≡ cursor x
+  pub looked_at : Looked head seen x me next
+  pub ends : seen ≡ cursor x
   pub mark : head.closed ≡ closed
   pub view : next.view ≡ inr (looked head x)
   pub right : next.right ≡ no_right
-  pub grows : IsPrefix me.seen next.seen
 
--- a take that lost so many packets: by its one load, or by its second one after a pin that failed
-pub record LostSome (keep count : ℕ) (x : Seat) (me next : Knows) : Type 0 where
+-- a take that lost so many packets, at least one: by its one load, or by its second one after a pin that failed
+pub record LostSome (keep count seen : ℕ) (x : Seat) (me next : Knows) : Type 0 where
   pub head : Head
-  pub lost : count ≡ head.length - keep - cursor x
+  pub looked_at : Looked head seen x me next
+  pub behind : cursor x < seen - keep
+  pub lost : count ≡ seen - keep - cursor x
   pub view : (next.view ≡ inr (lost_to head x count)) ⊎ (next.view ≡ inr (lost_to head (record x { loads = x.loads + 1 }) count))
   pub right : next.right ≡ no_right
-  pub grows : IsPrefix me.seen next.seen
 
--- what a take answers, with the packet's bytes in front of the buffer
-abbrev pub Takes : (keep : ℕ) → Taken → (buf : List ℕ) → (me next : Knows) → Type 0
-Takes keep (taken.Packet n tag len) buf me next = (n ≡ cursor (seat_of me.view)) × GotPacket keep (seat_of me.view) (tag ∷ take len buf) me next
-Takes keep (taken.Lost k) buf me next = LostSome keep k (seat_of me.view) me next
-Takes keep taken.Empty buf me next = FoundNone false (seat_of me.view) me next
-Takes keep taken.Ended buf me next = FoundNone true (seat_of me.view) me next
+-- what a take answers, with the packet's bytes in front of the buffer, where the last of its loads saw a log
+-- of so many packets
+abbrev pub Takes : (keep : ℕ) → Taken → (seen : ℕ) → (buf : List ℕ) → (me next : Knows) → Type 0
+Takes keep (taken.Packet n tag len) seen buf me next = (n ≡ cursor (seat_of me.view)) × GotPacket keep seen (seat_of me.view) (tag ∷ take len buf) me next
+Takes keep (taken.Lost k) seen buf me next = LostSome keep k seen (seat_of me.view) me next
+Takes keep taken.Empty seen buf me next = FoundNone false seen (seat_of me.view) me next
+Takes keep taken.Ended seen buf me next = FoundNone true seen (seat_of me.view) me next

@@ -9,25 +9,25 @@ use crate::block::{Play, Shared, Token};
 struct Attaching;
 
 impl Play for Attaching {
-    ghost then = { λ at me found next. Loads attached (seat_of me.view) me found next };
+    ghost then = { λ at me found next. Loads (at.units - 2) attached (seat_of me.view) me found next };
 }
 
 struct Detaching;
 
 impl Play for Detaching {
-    ghost then = { λ at me found next. Loads detached (seat_of me.view) me found next };
+    ghost then = { λ at me found next. Loads (at.units - 2) detached (seat_of me.view) me found next };
 }
 
 struct Finding;
 
 impl Play for Finding {
-    ghost then = { λ at me found next. Loads (first_seen (at.units - 2)) (seat_of me.view) me found next };
+    ghost then = { λ at me found next. Loads (at.units - 2) (first_seen (at.units - 2)) (seat_of me.view) me found next };
 }
 
 struct Losing;
 
 impl Play for Losing {
-    ghost then = { λ at me found next. Loads (second_seen (at.units - 2)) (seat_of me.view) me found next };
+    ghost then = { λ at me found next. Loads (at.units - 2) (second_seen (at.units - 2)) (seat_of me.view) me found next };
 }
 
 struct Appending;
@@ -47,7 +47,7 @@ pub(crate) fn attach(block: &Shared, token: &mut Token) -> u64
     requires same { (token.old.id ≡ block.now.id) × (0 < block.now.id.units) }
     requires seat { IsSeat token.old.number token.old.me seating.Out }
     ensures same { (token.new.id ≡ token.old.id) × (token.new.number ≡ token.old.number) }
-    ensures step { Loads attached (seat_of token.old.me.view) token.old.me result token.new.me }
+    ensures step { Loads (block.now.id.units - 2) attached (seat_of token.old.me.view) token.old.me result token.new.me }
 {
     block.load::<Attaching>(token, 0, 0)
 }
@@ -57,7 +57,7 @@ pub(crate) fn detach(block: &Shared, token: &mut Token) -> u64
     requires same { (token.old.id ≡ block.now.id) × (0 < block.now.id.units) }
     requires seat { IsSeat token.old.number token.old.me seating.Between }
     ensures same { (token.new.id ≡ token.old.id) × (token.new.number ≡ token.old.number) }
-    ensures step { Loads detached (seat_of token.old.me.view) token.old.me result token.new.me }
+    ensures step { Loads (block.now.id.units - 2) detached (seat_of token.old.me.view) token.old.me result token.new.me }
 {
     block.load::<Detaching>(token, 0, 0)
 }
@@ -67,7 +67,7 @@ pub(crate) fn load_first(block: &Shared, token: &mut Token) -> u64
     requires same { (token.old.id ≡ block.now.id) × (1 < block.now.id.units) }
     requires seat { IsSeat token.old.number token.old.me seating.Between }
     ensures same { (token.new.id ≡ token.old.id) × (token.new.number ≡ token.old.number) }
-    ensures step { Loads (first_seen (block.now.id.units - 2)) (seat_of token.old.me.view) token.old.me result token.new.me }
+    ensures step { Loads (block.now.id.units - 2) (first_seen (block.now.id.units - 2)) (seat_of token.old.me.view) token.old.me result token.new.me }
 {
     block.load::<Finding>(token, 0, 0)
 }
@@ -77,7 +77,7 @@ pub(crate) fn load_second(block: &Shared, token: &mut Token) -> u64
     requires same { (token.old.id ≡ block.now.id) × (1 < block.now.id.units) }
     requires seat { IsSeat token.old.number token.old.me seating.Missed }
     ensures same { (token.new.id ≡ token.old.id) × (token.new.number ≡ token.old.number) }
-    ensures step { Loads (second_seen (block.now.id.units - 2)) (seat_of token.old.me.view) token.old.me result token.new.me }
+    ensures step { Loads (block.now.id.units - 2) (second_seen (block.now.id.units - 2)) (seat_of token.old.me.view) token.old.me result token.new.me }
 {
     block.load::<Losing>(token, 0, 0)
 }

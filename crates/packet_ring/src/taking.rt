@@ -13,7 +13,8 @@ use crate::slots::{pin, unpin, unpin_failed};
 use cursor::Taken;
 
 /// The next packet of a seat whose next number is `next`, in a ring that keeps `keep`, or why there is
-/// none now. A packet's bytes are the first of the buffer.
+/// none now. A packet's bytes are the first of the buffer. Beside it stands the length of the log that
+/// its last load saw.
 pub(crate) fn take(
     block: &Shared,
     token: &mut Token,
@@ -21,26 +22,27 @@ pub(crate) fn take(
     width: usize,
     next: u64,
     buf: &mut [u8],
-) -> Taken
+) -> (Taken, u64)
     requires same { (token.old.id ≡ block.now.id) × (block.now.id.units ≡ keep + 2) × (block.now.id.width ≡ width) }
     requires sizes { (keep ≤ 4095) × (1 < width) × (width ≤ 16384) × (block.now.id.limits.1 ≤ length buf.old + 1) }
     requires seat { IsSeat token.old.number token.old.me seating.Between × (token.old.me.right ≡ no_right) }
     requires next { (next ≡ cursor (seat_of token.old.me.view)) × (next ≤ length token.old.me.seen) × (next < 2 ^ 62) }
     ensures same { (token.new.id ≡ token.old.id) × (token.new.number ≡ token.old.number) × (length buf.new ≡ length buf.old) }
-    ensures takes { Takes keep result buf.new token.old.me token.new.me }
+    ensures takes { Takes keep result.0 result.1 buf.new token.old.me token.new.me }
 {
     let head = load_first(block, token);
     let count = head / 2;
     if count == next {
-        return if head % 2 == 1 {
+        let none = if head % 2 == 1 {
             Taken::Ended
         } else {
             Taken::Empty
         };
+        return (none, count);
     }
     let oldest = count.saturating_sub(keep as u64);
     if next < oldest {
-        return Taken::Lost(oldest - next);
+        return (Taken::Lost(oldest - next), count);
     }
     let unit = (next % (keep as u64 + 1)) as usize + 1;
     let at = unit * (width + 1);
@@ -48,13 +50,15 @@ pub(crate) fn take(
     if word / 65536 == 2 * (next + 1) {
         let (tag, len) = get(block, token, unit, at + 1, buf);
         unpin(block, token, unit, at);
-        return Taken::Packet {
+        let packet = Taken::Packet {
             number: next,
             tag,
             len,
         };
+        return (packet, count);
     }
     unpin_failed(block, token, unit, at);
-    let later = load_second(block, token);
-    Taken::Lost((later / 2).saturating_sub(keep as u64).saturating_sub(next))
+    let later = load_second(block, token) / 2;
+    let lost = later.saturating_sub(keep as u64) - next;
+    (Taken::Lost(lost), later)
 }

@@ -18,7 +18,7 @@ fn calls_in_turn(rt: HostRuntime) -> Result<(), AllocError> {
     assert!(rt; start == 0);
     let sent = publish(ring, &mut publisher, 1, 7, 0, 3, b"nineteen bytes long");
     assert!(rt; sent.is_ok());
-    let first = take(ring, &mut seat, 1, 7, 0, &mut buf);
+    let first = take(ring, &mut seat, 1, 7, 0, &mut buf).0;
     let want = Taken::Packet {
         number: 0,
         tag: 3,
@@ -27,7 +27,7 @@ fn calls_in_turn(rt: HostRuntime) -> Result<(), AllocError> {
     assert!(rt; first == want);
     assert_eq!(rt; &buf[..19], b"nineteen bytes long".as_slice());
     close(ring, &mut publisher, 1);
-    let ended = take(ring, &mut seat, 1, 7, 1, &mut buf);
+    let ended = take(ring, &mut seat, 1, 7, 1, &mut buf).0;
     assert!(rt; ended == Taken::Ended);
     Ok(())
 }
@@ -42,13 +42,13 @@ fn ring_loses_one(rt: HostRuntime) -> Result<(), AllocError> {
     let mut buf = [0; 47];
     let start = attach(ring, &mut seat) / 2;
     assert!(rt; start == 0);
-    let empty = take(ring, &mut seat, 1, 7, 0, &mut buf);
+    let empty = take(ring, &mut seat, 1, 7, 0, &mut buf).0;
     assert!(rt; empty == Taken::Empty);
     let first = publish(ring, &mut publisher, 1, 7, 0, 4, b"");
     assert!(rt; first.is_ok());
     let second = publish(ring, &mut publisher, 1, 7, 1, 5, b"x");
     assert!(rt; second.is_ok());
-    let lost = take(ring, &mut seat, 1, 7, 0, &mut buf);
+    let lost = take(ring, &mut seat, 1, 7, 0, &mut buf).0;
     assert!(rt; lost == Taken::Lost(1));
     let end = detach(ring, &mut seat);
     assert!(rt; end == 4);

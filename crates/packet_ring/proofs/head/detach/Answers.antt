@@ -1,4 +1,4 @@
-use Rattle.std.proofs.Common.{ℕ, ◌+◌, sym, subst, zero-mul}
+use Rattle.std.proofs.Common.{ℕ, ◌+◌, ◌-◌, sym, subst, zero-mul}
 use Rattle.packet_ring.specs.Table.{Allows}
 use Rattle.packet_ring.specs.Rule.{Holds}
 use Rattle.packet_ring.specs.Steps.{Loads, detached, seat_of}
@@ -10,5 +10,5 @@ load-requires c = let z = c.args.block.now.id in let me = c.args.token.now.me in
   c.requires.same.0,
   c.requires.same.1,
   sym (zero-mul (z.width + 1)),
-  subst (λ (n : ℕ). Allows (Holds z.limits) z.units n me 0 (λ m. m) (Loads detached x me)) (sym is.at) (detaches z.units is.place x me is.seat is.within),
+  subst (λ (n : ℕ). Allows (Holds z.limits) z.units n me 0 (λ m. m) (Loads (z.units - 2) detached x me)) (sym is.at) (detaches z.units is.place x me is.seat is.within),
 )

@@ -10,5 +10,5 @@ load-requires c = let z = c.args.block.now.id in let me = c.args.token.now.me in
   c.requires.same.0,
   omega arith,
   sym (zero-mul (z.width + 1)),
-  subst (λ (n : ℕ). Allows (Holds z.limits) z.units n me 0 (λ m. m) (Loads (first_seen (z.units - 2)) x me)) (sym is.at) (first_loads (z.units - 2) z.units (omega arith) is.place x me is.seat is.within),
+  subst (λ (n : ℕ). Allows (Holds z.limits) z.units n me 0 (λ m. m) (Loads (z.units - 2) (first_seen (z.units - 2)) x me)) (sym is.at) (first_loads (z.units - 2) z.units (omega arith) is.place x me is.seat is.within),
 )

@@ -37,6 +37,6 @@ returns-then-word-next-clause-takes c = let old : Knows = c.args.token.now.me in
     let have : Held z.limits.1 (seat_of first.view) pinned = pinned_holds keep x old found first load other kept z.limits.1 (c.args.next % (c.args.keep + 1) + 1) c.pin-word.result pinned step (c.if-word-next.true ∙ ap (λ (k : ℕ). 2 * (k + 1)) n) in
     let next : Knows = c.unpin.new.token.me in
     let end : Unpins (took (seat_of pinned.view) (next_packet pinned)) pinned c.unpin.result next = subst (λ (t : Token). Unpins (took (seat_of t.me.view) (next_packet t.me)) t.me c.unpin.result next) c.get-tag.ensures.same c.unpin.ensures.step in
-    let gave : GotPacket keep x (next_packet pinned) old next = gives keep x old found first load other kept z.limits.1 (c.args.next % (c.args.keep + 1) + 1) c.pin-word.result c.unpin.result pinned next step end (let near = c.requires.next.1 in omega arith) have.at in
+    let gave : GotPacket keep (found / 2) x (next_packet pinned) old next = gives keep x old found first load other kept z.limits.1 (c.args.next % (c.args.keep + 1) + 1) c.pin-word.result c.unpin.result pinned next step end (let near = c.requires.next.1 in omega arith) have.at in
     let p : List ℕ = c.get-tag.result.0 ∷ take c.get-tag.result.1 c.get-tag.new.buf in let packet : next_packet pinned ≡ p = sym c.get-tag.ensures.packet in let same : keep ≡ c.args.keep = omega arith in
-    (n, subst (λ (k : ℕ). GotPacket k x p old next) same (subst (λ (q : List ℕ). GotPacket keep x q old next) packet gave))
+    (n, subst (λ (k : ℕ). GotPacket k (found / 2) x p old next) same (subst (λ (q : List ℕ). GotPacket keep (found / 2) x q old next) packet gave))
