@@ -17,5 +17,6 @@ pub mod Settling
 pub mod Unpacking
 pub mod Putting
 pub mod Getting
+pub mod Telling
 pub mod Looks
 pub mod Holding

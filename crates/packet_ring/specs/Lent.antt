@@ -130,9 +130,13 @@ module _ (z : BlockId) where
 abbrev pub Placed : Ptr → BlockId → Type 0
 Placed p z = (p ≡ start z) × (z.units * stride z < 2 ^ 63)
 
+-- the log has reached this: it begins with it from then on
+abbrev pub reached : {E : Type 0} → Coded E → BlockId → List E → Fml
+reached e z l = at_least (prefixes e) z.log_name l
+
 module _ {V E : Type 0} (c : V → Gv) (e : Coded E) where
   abbrev pub mine : BlockId → ℕ → Me V E → Fml
-  mine z id me = fsep (seen c z.views_name id three_quarters me.view) (fsep (at_least (prefixes e) z.log_name me.seen) (carried z me.right))
+  mine z id me = fsep (seen c z.views_name id three_quarters me.view) (fsep (reached e z me.seen) (carried z me.right))
 
   -- the tokens from the k-th on, which nobody has taken yet
   abbrev pub waiting : BlockId → ℕ → List V → Fml

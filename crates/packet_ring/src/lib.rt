@@ -6,6 +6,7 @@ mod block;
 mod head;
 mod packets;
 mod publishing;
+mod reached;
 mod send_lease;
 mod sending;
 mod slots;
