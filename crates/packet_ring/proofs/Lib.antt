@@ -19,4 +19,5 @@ pub mod Putting
 pub mod Getting
 pub mod Telling
 pub mod Looks
+pub mod Seeing
 pub mod Holding

@@ -4,3 +4,5 @@ pub mod Rule
 pub mod Steps
 pub mod Packing
 pub mod Tokens
+pub mod Views
+pub mod Calls

@@ -5,12 +5,22 @@ mod allocated;
 mod block;
 mod head;
 mod packets;
+mod passes;
+mod publishers;
 mod publishing;
 mod reached;
+mod receipts;
 mod send_lease;
 mod sending;
 mod slots;
 mod strip;
+mod subscribers;
 mod taking;
+
+pub use passes::Pass;
+pub use publishers::Publisher;
+pub use receipts::Receipt;
+pub use subscribers::Subscriber;
+
 #[cfg(test)]
 mod tests;

@@ -1,7 +1,8 @@
 //! A seat's take, a row of its steps.
-ghost use Rattle.std.specs.Prelude.{◌≡◌, ◌+◌, ◌^◌, ◌<◌, ◌≤◌, length};
+ghost use Rattle.std.specs.Prelude.{◌≡◌, ◌+◌, ◌-◌, ◌^◌, ◌<◌, ◌≤◌, length};
 ghost use Rattle.ring_steps.specs.declared.views.SeatPhase.TheVariants as seating;
 ghost use Rattle.ring_steps.specs.Ring.{cursor};
+ghost use Rattle.cursor.specs.Taps.{FitsBuffer};
 ghost use Rattle.packet_ring.specs.Steps.{IsSeat, seat_of};
 ghost use Rattle.packet_ring.specs.Table.{no_right};
 ghost use Rattle.packet_ring.specs.Tokens.{Takes};
@@ -28,6 +29,7 @@ pub(crate) fn take(
     requires seat { IsSeat token.old.number token.old.me seating.Between × (token.old.me.right ≡ no_right) }
     requires next { (next ≡ cursor (seat_of token.old.me.view)) × (next ≤ length token.old.me.seen) × (next < 2 ^ 62) }
     ensures same { (token.new.id ≡ token.old.id) × (token.new.number ≡ token.old.number) × (length buf.new ≡ length buf.old) }
+    ensures fits { FitsBuffer result.0 (block.now.id.limits.1 - 1) }
     ensures takes { Takes keep result.0 result.1 buf.new token.old.me token.new.me }
 {
     let head = load_first(block, token);

@@ -9,7 +9,7 @@ use std::process::Abort;
 /// A publisher and a seat in turn, over a ring that keeps one packet.
 #[test]
 fn calls_in_turn(rt: HostRuntime) -> Result<(), AllocError> {
-    let (block, spares) = Block::new(rt.alloc(), 1, 1, 7, 48)?;
+    let (block, spares) = Block::new(rt.alloc(), 1, 1, 7, 47)?;
     let ring = &block.shared;
     let (mut publisher, spares) = spares.take();
     let (mut seat, _rest) = spares.take();
@@ -35,7 +35,7 @@ fn calls_in_turn(rt: HostRuntime) -> Result<(), AllocError> {
 /// A ring that keeps one packet loses the first of two.
 #[test]
 fn ring_loses_one(rt: HostRuntime) -> Result<(), AllocError> {
-    let (block, spares) = Block::new(rt.alloc(), 1, 1, 7, 48)?;
+    let (block, spares) = Block::new(rt.alloc(), 1, 1, 7, 47)?;
     let ring = &block.shared;
     let (mut publisher, spares) = spares.take();
     let (mut seat, _rest) = spares.take();

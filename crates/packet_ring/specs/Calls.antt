@@ -1,0 +1,63 @@
+-- What the ring's calls do, over what contracts see.
+use Rattle.std.specs.Prelude.{◌≡◌, ◌⊎◌, ℕ, ◌+◌, ◌^◌, ◌<◌, ◌≤◌, Bool, true, Some, Result, Ok, Err, List, [], ◌∷◌, ◌++◌, length}
+use mathlib.Core.List.{IsPrefix}
+use Rattle.cursor.specs.declared.packets.Packet.{Packet}
+use Rattle.cursor.specs.declared.takes.Delivery.{Delivery}
+use Rattle.cursor.specs.declared.takes.Delivery.TheVariants.{Lost}
+use Rattle.cursor.specs.declared.calls.Call.TheVariants.{Take}
+use Rattle.cursor.specs.declared.calls.Answer.TheVariants.{Taken}
+use Rattle.cursor.specs.Log.{Log, LogEvent}
+use Rattle.cursor.specs.Account.{cursor_of}
+use Rattle.cursor.specs.Taps.{Counts}
+use Rattle.cursor.specs.declared.refusals.Refused as refusals
+use Rattle.cursor.specs.declared.refusals.Refused.TheVariants as refusal
+use Rattle.packet_ring.specs.Views.{Publishing, Subscribing, keep_of, packet_bytes_of, seats_of}
+
+-- what was seen of a log before begins what is seen of it now, and is all of it if it was closed
+pub record SeesOn (seen : List Packet) (closed : Bool) (seen' : List Packet) (closed' : Bool) : Type 0 where
+  pub grows : IsPrefix seen seen'
+  pub ended : closed ≡ true → (seen' ≡ seen) × (closed' ≡ true)
+
+-- of two beginnings of one log, the longer, which the other begins
+pub record IsLongerOf (a b longer : List Packet) : Type 0 where
+  pub first : IsPrefix a longer
+  pub second : IsPrefix b longer
+  pub one : (longer ≡ a) ⊎ (longer ≡ b)
+
+-- the broadcast log of these packets, with one seat, which is at this cursor
+abbrev pub log_with : List Packet → (closed : Bool) → (cursor : ℕ) → Log
+log_with packets closed c = record { packets = packets; closed = closed; cursors = Some c ∷ [] }
+
+-- how many loads a take makes: one, or two where it lost packets after a pin that failed
+abbrev pub LoadsFor : Delivery → (loads loads' : ℕ) → Type 0
+LoadsFor (Lost k) m n = (n ≡ m + 1) ⊎ (n ≡ m + 2)
+LoadsFor d m n = n ≡ m + 1
+
+-- a take of a subscriber: its answer is the broadcast log's at what its last load saw
+pub record TakesNext (old : Subscribing) (answer : Delivery) (new : Subscribing) : Type 0 where
+  pub event : LogEvent (keep_of old.ring) (log_with new.seen new.closed (cursor_of old.account)) (Take 0) (Taken answer) (log_with new.seen new.closed (cursor_of new.account))
+  pub counts : Counts old.account answer new.account
+  pub sees : SeesOn old.seen old.closed new.seen new.closed
+  pub loads : LoadsFor answer old.loads new.loads
+  pub ring : new.ring ≡ old.ring
+
+-- a publish that appended this packet, which is no longer than the ring takes, after fewer than 2 ^ 46 others
+pub record AppendsTo (old : Publishing) (packet : Packet) (new : Publishing) : Type 0 where
+  pub fits : length packet.bytes ≤ packet_bytes_of old.ring
+  pub few : length old.log < 2 ^ 46
+  pub after : new ≡ record old { log = old.log ++ packet ∷ [] }
+
+-- a publish that was refused: for the packet's length; else because 2 ^ 46 packets were published; else for
+-- the pins that its begin met in the packet's slot, which was one failed begin more
+abbrev pub Refuses : (old : Publishing) → Packet → refusals.Refused → (new : Publishing) → Type 0
+Refuses old p refusal.TooLong new = (packet_bytes_of old.ring < length p.bytes) × (new ≡ old)
+Refuses old p refusal.Worn new = (length p.bytes ≤ packet_bytes_of old.ring) × (length old.log ≡ 2 ^ 46) × (new ≡ old)
+Refuses old p (refusal.Pinned pins) new =
+    (length p.bytes ≤ packet_bytes_of old.ring) × (length old.log < 2 ^ 46) × (1 ≤ pins) × (pins ≤ seats_of old.ring)
+    × (new ≡ record old { failed = old.failed + 1; pins = pins })
+Refuses old p refusal.OutOfMemory new = ⊥
+
+-- a publish, as a feed tells it: by the packet's number, or a refusal
+abbrev pub PublishesNext : (old : Publishing) → Packet → Result ℕ refusals.Refused → (new : Publishing) → Type 0
+PublishesNext old p (Ok n) new = (n ≡ length old.log) × AppendsTo old p new
+PublishesNext old p (Err refused) new = Refuses old p refused new

@@ -1,0 +1,135 @@
+-- What contracts see of a ring's publisher, receipts, passes and subscribers, and what holds of each.
+use Rattle.std.specs.Prelude.{◌≡◌, ℕ, ◌+◌, ◌-◌, ◌*◌, ◌^◌, ◌≤◌, Bool, false, List, [], ◌∷◌, map, length, take, if◌then◌else◌}
+use Rattle.cursor.specs.declared.packets.Packet.{Packet}
+use Rattle.cursor.specs.declared.takes.Account.{Account}
+use Rattle.cursor.specs.Log.{packet_of}
+use Rattle.cursor.specs.Account.{cursor_of}
+use Rattle.ring_steps.specs.declared.views.PublisherPhase.TheVariants as publishing
+use Rattle.ring_steps.specs.declared.views.SeatPhase.{SeatPhase}
+use Rattle.ring_steps.specs.declared.views.SeatPhase.TheVariants as seating
+use Rattle.packet_ring.specs.Table.{no_right}
+use Rattle.packet_ring.specs.Lent.{BlockId}
+use Rattle.packet_ring.specs.Steps.{IsPublisher, IsSeat, log_of, publisher_of, seat_of}
+use Rattle.packet_ring.specs.declared.block.Token.{Token}
+
+-- which ring it is
+abbrev pub RingId : Type 0
+RingId = BlockId
+
+-- how many packets a ring keeps, how many seats it has, and how many bytes a packet has at most
+abbrev pub keep_of : RingId → ℕ
+keep_of z = z.units - 2
+
+abbrev pub seats_of : RingId → ℕ
+seats_of z = z.limits.0
+
+abbrev pub packet_bytes_of : RingId → ℕ
+packet_bytes_of z = z.limits.1 - 1
+
+-- a packet as the ring has it: its tag, and then its bytes
+abbrev pub packet_from : List ℕ → Packet
+packet_from [] = packet_of 0 []
+packet_from (tag ∷ bytes) = packet_of tag bytes
+
+abbrev pub packets_from : List (List ℕ) → List Packet
+packets_from ps = map packet_from ps
+
+-- a publisher: its ring, the packets that it published, how many of its publishes were refused for pins, and
+-- how many pins the last of these met
+pub record Publishing : Type 0 where
+  pub ring : RingId
+  pub log : List Packet
+  pub failed : ℕ
+  pub pins : ℕ
+
+abbrev pub publishing_of : Token → Publishing
+publishing_of t = record {
+  ring = t.id;
+  log = packets_from (log_of t.me.view);
+  failed = (publisher_of t.me.view).failed;
+  pins = (publisher_of t.me.view).pins;
+}
+
+-- a receipt: its ring, and the log that ended with its packet, or the closed log
+pub record Receipted : Type 0 where
+  pub ring : RingId
+  pub log : List Packet
+  pub closed : Bool
+
+abbrev pub receipted : RingId → (log : List Packet) → (closed : Bool) → Receipted
+receipted z log closed = record { ring = z; log = log; closed = closed }
+
+-- the number that a receipt tells: its packet's, or the length of the closed log
+abbrev pub number_of : Receipted → ℕ
+number_of r = if r.closed then length r.log else length r.log - 1
+
+-- a pass: its ring, the longest log that it has seen or was told of, whether its last load saw that closed, and
+-- how many loads its seat made
+pub record Passing : Type 0 where
+  pub ring : RingId
+  pub seen : List Packet
+  pub closed : Bool
+  pub loads : ℕ
+
+-- a subscriber: the same, and its attachment's account
+pub record Subscribing : Type 0 where
+  pub ring : RingId
+  pub seen : List Packet
+  pub closed : Bool
+  pub loads : ℕ
+  pub account : Account
+
+-- the first `known` packets that a token has seen
+abbrev pub seen_by : Token → (known : ℕ) → List Packet
+seen_by t known = packets_from (take known t.me.seen)
+
+abbrev pub passing_of : Token → (known : ℕ) → Passing
+passing_of t known = record { ring = t.id; seen = seen_by t known; closed = (seat_of t.me.view).saw_closed; loads = (seat_of t.me.view).loads }
+
+abbrev pub subscribing_of : Token → (known : ℕ) → Account → Subscribing
+subscribing_of t known a = record { ring = t.id; seen = seen_by t known; closed = (seat_of t.me.view).saw_closed; loads = (seat_of t.me.view).loads; account = a }
+
+-- a pass that did nothing yet
+abbrev pub new_pass : RingId → Passing
+new_pass z = record { ring = z; seen = []; closed = false; loads = 0 }
+
+-- a token of this ring is its publisher's, between two calls, and so many packets were published
+pub record IsPublishing (z : RingId) (t : Token) (count : ℕ) : Type 0 where
+  pub same : t.id ≡ z
+  pub publisher : IsPublisher t.number t.me publishing.Between
+  pub free : t.me.right ≡ no_right
+  pub goes_on : (publisher_of t.me.view).closed ≡ false
+  pub counted : count ≡ length (log_of t.me.view)
+  pub few : count ≤ 2 ^ 46
+
+-- a token of this ring is a seat's, in this phase, and knows of so many packets
+pub record IsSeated (z : RingId) (t : Token) (phase : SeatPhase) (known : ℕ) : Type 0 where
+  pub same : t.id ≡ z
+  pub seat : IsSeat t.number t.me phase
+  pub free : t.me.right ≡ no_right
+  pub has : known ≤ length t.me.seen
+  pub short : known ≤ 2 ^ 46
+  pub later : (seat_of t.me.view).seen ≤ known
+
+-- such a token is attached, with this account
+pub record IsSubscribed (z : RingId) (t : Token) (known : ℕ) (a : Account) : Type 0 where
+  pub seated : IsSeated z t seating.Between known
+  pub account : (seat_of t.me.view).account ≡ a
+  pub within : cursor_of a ≤ known
+
+-- a log that was told has so many packets, the last of which is a receipt's, or is closed
+pub record IsReceipted (log : List (List ℕ)) (count : ℕ) (closed : Bool) : Type 0 where
+  pub counted : count ≡ length log
+  pub some : closed ≡ false → 1 ≤ count
+  pub few : count ≤ 2 ^ 46
+
+-- a block's sizes: what it keeps, how many cells a unit has, and how many bytes a packet at most
+pub record HasSizes (z : RingId) (keep width packet_bytes : ℕ) : Type 0 where
+  pub units : z.units ≡ keep + 2
+  pub wide : z.width ≡ width
+  pub most : z.limits.1 ≡ packet_bytes + 1
+  pub some : 1 ≤ keep
+  pub few : keep ≤ 4095
+  pub narrow : width ≤ 16384
+  pub fits : packet_bytes + 9 ≤ 8 * width
+  pub bound : packet_bytes ≤ 65535

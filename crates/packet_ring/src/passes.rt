@@ -1,0 +1,80 @@
+//! Seats of a ring that nobody reads from, and how a seat is attached.
+ghost use Rattle.std.specs.Prelude.{◌≡◌, ◌+◌, ◌*◌, ◌^◌, ◌<◌, ◌≤◌, length};
+ghost use Rattle.std.specs.Arc.{arc_value};
+ghost use Rattle.ring_steps.specs.declared.views.SeatPhase.TheVariants as seating;
+ghost use Rattle.packet_ring.specs.Calls.{IsLongerOf, SeesOn};
+ghost use Rattle.packet_ring.specs.Views.{IsSeated, Passing, passing_of};
+
+use crate::allocated::Block;
+use crate::block::Token;
+use crate::head::attach;
+use crate::receipts::Receipt;
+use crate::subscribers::Subscriber;
+use cursor::Account;
+use std::alloc::Global;
+use std::marker::Model;
+use std::sync::Arc;
+
+/// The right to attach one seat of a ring. A pass that is dropped takes its seat out of use.
+#[derive(Drop)]
+pub struct Pass {
+    pub(crate) ring: Arc<Block, Global>,
+    pub(crate) token: Token,
+    pub(crate) known: u64,
+}
+
+impl Model for Pass {
+    ghost Value = { Passing };
+
+    ghost view = { λ p. passing_of p.token p.known };
+
+    ghost invariant = { λ p. IsSeated (arc_value p.ring).shared.id p.token seating.Out p.known };
+}
+
+impl Pass {
+    /// Attaches the seat. It reads from the end of the log as this call's one load saw it.
+    pub fn attach(self) -> Subscriber
+        ensures ring { result.ring ≡ self.ring }
+        ensures loads { result.loads ≡ self.loads + 1 }
+        ensures sees { SeesOn self.seen self.closed result.seen result.closed }
+        ensures account { result.account ≡ record { start = length result.seen; taken = 0; lost = 0 } }
+    {
+        let Pass {
+            ring,
+            mut token,
+            known: _,
+        } = self;
+        let block: &Block = &ring;
+        let head = attach(&block.shared, &mut token);
+        let start = head / 2;
+        Subscriber {
+            ring,
+            token,
+            known: start,
+            account: Account {
+                start,
+                taken: 0,
+                lost: 0,
+            },
+        }
+    }
+
+    /// The seat knows of the receipt's log, too. Makes no load.
+    pub fn learn(&mut self, receipt: &Receipt)
+        requires ring { receipt.now.ring ≡ self.old.ring }
+        ensures same { self.new ≡ record self.old { seen = self.new.seen } }
+        ensures longer { IsLongerOf self.old.seen receipt.now.log self.new.seen }
+    {
+        self.token.learn(&receipt.told);
+        if self.known < receipt.length {
+            self.known = receipt.length;
+        }
+    }
+
+    /// How many packets of the log this seat has seen or was told of.
+    pub fn known(&self) -> u64
+        ensures { result ≡ length self.now.seen }
+    {
+        self.known
+    }
+}

@@ -1,0 +1,95 @@
+//! The publisher of a ring.
+ghost use Rattle.std.specs.Prelude.{◌≡◌, ◌↔◌, ◌+◌, ◌*◌, ◌^◌, ◌<◌, ◌≤◌, true, false, length, IfOk, IfErr, IsErrOf};
+ghost use Rattle.std.specs.Arc.{arc_value};
+ghost use Rattle.cursor.specs.declared.refusals.Refused.TheVariants.{TooLong};
+ghost use Rattle.cursor.specs.Log.{packet_of};
+ghost use Rattle.packet_ring.specs.Calls.{AppendsTo, Refuses};
+ghost use Rattle.packet_ring.specs.Views.{IsPublishing, Publishing, packet_bytes_of, publishing_of, receipted};
+
+use crate::allocated::Block;
+use crate::block::Token;
+use crate::head::close;
+use crate::publishing::publish;
+use crate::receipts::Receipt;
+use cursor::Refused;
+use std::alloc::Global;
+use std::marker::Model;
+use std::sync::Arc;
+
+/// How many packets a ring can number.
+const MOST_PACKETS: u64 = 1 << 46;
+
+/// The one publisher of a ring. Where it is dropped, the log stays open and nothing comes after it.
+#[derive(Drop)]
+pub struct Publisher {
+    pub(crate) ring: Arc<Block, Global>,
+    pub(crate) token: Token,
+    pub(crate) count: u64,
+}
+
+impl Model for Publisher {
+    ghost Value = { Publishing };
+
+    ghost view = { λ p. publishing_of p.token };
+
+    ghost invariant = { λ p. IsPublishing (arc_value p.ring).shared.id p.token p.count };
+}
+
+impl Publisher {
+    /// Publishes a packet, and gives a receipt with its number.
+    ///
+    /// A packet longer than the ring takes is refused as `TooLong`; else any packet, once 2^46 were
+    /// published, as `Worn`; else one whose place is pinned by seats that read there, as `Pinned` with
+    /// how many these were. Takes no memory and doesn't wait.
+    pub fn publish(&mut self, tag: u8, bytes: &[u8]) -> Result<Receipt, Refused>
+        ensures appended { IfOk result (λ _. AppendsTo self.old (packet_of tag bytes.now) self.new) }
+        ensures receipt { IfOk result (λ r. r ≡ receipted self.new.ring self.new.log false) }
+        ensures refused { IfErr result (λ refused. Refuses self.old (packet_of tag bytes.now) refused self.new) }
+        ensures too_long { IsErrOf result TooLong ↔ (packet_bytes_of self.old.ring < length bytes.now) }
+    {
+        let block: &Block = &self.ring;
+        if bytes.len() > block.packet_bytes {
+            return Err(Refused::TooLong);
+        }
+        if self.count == MOST_PACKETS {
+            return Err(Refused::Worn);
+        }
+        match publish(
+            &block.shared,
+            &mut self.token,
+            block.keep,
+            block.width,
+            self.count,
+            tag,
+            bytes,
+        ) {
+            Ok(()) => {
+                self.count += 1;
+                Ok(Receipt {
+                    told: self.token.tell(),
+                    length: self.count,
+                    closed: false,
+                })
+            }
+            Err(pins) => Err(Refused::Pinned { pins }),
+        }
+    }
+
+    /// Closes the log, and gives a receipt of it.
+    pub fn close(self) -> Receipt
+        ensures { result ≡ receipted self.ring self.log true }
+    {
+        let Publisher {
+            ring,
+            mut token,
+            count,
+        } = self;
+        let block: &Block = &ring;
+        close(&block.shared, &mut token, count);
+        Receipt {
+            told: token.tell(),
+            length: count,
+            closed: true,
+        }
+    }
+}

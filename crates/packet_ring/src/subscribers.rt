@@ -1,0 +1,141 @@
+//! Seats that are attached, and read from the ring.
+ghost use Rattle.std.specs.Prelude.{◌≡◌, ◌+◌, ◌*◌, ◌^◌, ◌<◌, ◌≤◌, length};
+ghost use Rattle.std.specs.Arc.{arc_value};
+ghost use Rattle.cursor.specs.Account.{cursor_of};
+ghost use Rattle.packet_ring.specs.Calls.{IsLongerOf, SeesOn, TakesNext};
+ghost use Rattle.packet_ring.specs.Views.{IsSubscribed, Subscribing, packet_bytes_of, subscribing_of};
+
+use crate::allocated::Block;
+use crate::block::Token;
+use crate::head::detach;
+use crate::passes::Pass;
+use crate::receipts::Receipt;
+use crate::taking::take;
+use cursor::{Account, Left, Taken, Tap};
+use std::alloc::Global;
+use std::marker::Model;
+use std::sync::Arc;
+
+/// An attached seat of a ring. A subscriber that is dropped holds nothing, and takes its seat out of use.
+#[derive(Drop)]
+pub struct Subscriber {
+    pub(crate) ring: Arc<Block, Global>,
+    pub(crate) token: Token,
+    pub(crate) known: u64,
+    pub(crate) account: Account,
+}
+
+impl Model for Subscriber {
+    ghost Value = { Subscribing };
+
+    ghost view = { λ s. subscribing_of s.token s.known s.account };
+
+    ghost invariant = { λ s. IsSubscribed (arc_value s.ring).shared.id s.token s.known s.account };
+}
+
+impl Subscriber {
+    /// Detaches the seat, and tells the packets that it took, those that it lost, and those that were left
+    /// in the log as this call's one load saw it.
+    pub fn detach(self) -> (Pass, Left)
+        ensures ring { result.0.ring ≡ self.ring }
+        ensures loads { result.0.loads ≡ self.loads + 1 }
+        ensures sees { SeesOn self.seen self.closed result.0.seen result.0.closed }
+        ensures account { (result.1.taken ≡ self.account.taken) × (result.1.lost ≡ self.account.lost) }
+        ensures left { cursor_of self.account + result.1.left ≡ length result.0.seen }
+    {
+        let Subscriber {
+            ring,
+            mut token,
+            known: _,
+            account,
+        } = self;
+        let block: &Block = &ring;
+        let head = detach(&block.shared, &mut token);
+        let known = head / 2;
+        let left = Left {
+            taken: account.taken,
+            lost: account.lost,
+            left: known - account.cursor(),
+        };
+        (Pass { ring, token, known }, left)
+    }
+
+    /// The seat knows of the receipt's log, too. Makes no load.
+    pub fn learn(&mut self, receipt: &Receipt)
+        requires ring { receipt.now.ring ≡ self.old.ring }
+        ensures same { self.new ≡ record self.old { seen = self.new.seen } }
+        ensures longer { IsLongerOf self.old.seen receipt.now.log self.new.seen }
+    {
+        self.token.learn(&receipt.told);
+        if self.known < receipt.length {
+            self.known = receipt.length;
+        }
+    }
+
+    /// Both seats know of what either knew of. Makes no load.
+    pub fn meet(&mut self, other: &mut Subscriber)
+        requires ring { other.old.ring ≡ self.old.ring }
+        ensures same { (self.new ≡ record self.old { seen = self.new.seen }) × (other.new ≡ record other.old { seen = self.new.seen }) }
+        ensures longer { IsLongerOf self.old.seen other.old.seen self.new.seen }
+    {
+        let mine = self.token.tell();
+        other.token.learn(&mine);
+        let both = other.token.tell();
+        self.token.learn(&both);
+        if self.known < other.known {
+            self.known = other.known;
+        } else {
+            other.known = self.known;
+        }
+    }
+
+    /// How many packets of the log this seat has seen or was told of.
+    pub fn known(&self) -> u64
+        ensures { result ≡ length self.now.seen }
+    {
+        self.known
+    }
+}
+
+impl Tap for Subscriber {
+    ghost account = { λ s. s.account };
+
+    ghost packet_bytes = { λ s. packet_bytes_of s.ring };
+
+    ghost take_gives = { TakesNext };
+
+    /// Takes the next packet as the log was at this call's last load. Takes no memory and doesn't wait.
+    fn take(&mut self, buf: &mut [u8]) -> Taken {
+        let block: &Block = &self.ring;
+        let (taken, known) = take(
+            &block.shared,
+            &mut self.token,
+            block.keep,
+            block.width,
+            self.account.cursor(),
+            buf,
+        );
+        self.known = known;
+        match taken {
+            Taken::Packet { .. } => self.account.taken += 1,
+            Taken::Lost(count) => self.account.lost += count,
+            Taken::Empty | Taken::Ended => {}
+        }
+        taken
+    }
+
+    fn cursor(&self) -> u64 {
+        self.account.cursor()
+    }
+
+    fn account(&self) -> Account {
+        self.account
+    }
+
+    fn packet_bytes(&self) -> usize {
+        let block: &Block = &self.ring;
+        block.packet_bytes
+    }
+
+    ghost counts = { λ old d new h. h.counts };
+}
