@@ -20,4 +20,5 @@ pub mod Getting
 pub mod Telling
 pub mod Looks
 pub mod Seeing
+pub mod FirstPasses
 pub mod Holding

@@ -61,3 +61,10 @@ Refuses old p refusal.OutOfMemory new = ⊥
 abbrev pub PublishesNext : (old : Publishing) → Packet → Result ℕ refusals.Refused → (new : Publishing) → Type 0
 PublishesNext old p (Ok n) new = (n ≡ length old.log) × AppendsTo old p new
 PublishesNext old p (Err refused) new = Refuses old p refused new
+
+-- the refusals that a ring gives
+abbrev pub RingMayRefuse : refusals.Refused → Type 0
+RingMayRefuse (refusal.Pinned pins) = 1 ≤ pins
+RingMayRefuse refusal.TooLong = Unit {0}
+RingMayRefuse refusal.Worn = Unit {0}
+RingMayRefuse refusal.OutOfMemory = ⊥

@@ -111,5 +111,8 @@ Holds L t = (s : Ring.State) × Fits L s t
 abbrev pub fresh_units : (keep width : ℕ) → List (ℕ × List ℕ)
 fresh_units keep width = (0, replicate width 0) ∷ replicate (keep + 1) (0, replicate width 0)
 
+abbrev pub seat_views : (seats : ℕ) → List View
+seat_views n = replicate n (inr new_seat)
+
 abbrev pub fresh_views : (seats : ℕ) → List View
-fresh_views n = inl ([], new_publisher) ∷ replicate n (inr new_seat)
+fresh_views n = inl ([], new_publisher) ∷ seat_views n

@@ -4,6 +4,7 @@
 mod allocated;
 mod block;
 mod head;
+mod opening;
 mod packets;
 mod passes;
 mod publishers;
@@ -17,6 +18,7 @@ mod strip;
 mod subscribers;
 mod taking;
 
+pub use opening::new;
 pub use passes::Pass;
 pub use publishers::Publisher;
 pub use receipts::Receipt;

@@ -11,7 +11,7 @@ use crate::block::Token;
 use crate::head::close;
 use crate::publishing::publish;
 use crate::receipts::Receipt;
-use cursor::Refused;
+use cursor::{Feed, Refused};
 use std::alloc::Global;
 use std::marker::Model;
 use std::sync::Arc;
@@ -91,5 +91,36 @@ impl Publisher {
             length: count,
             closed: true,
         }
+    }
+}
+
+impl Feed for Publisher {
+    ghost use Rattle.std.specs.Prelude.{Some};
+    ghost use Rattle.packet_ring.specs.Calls.{PublishesNext, RingMayRefuse};
+
+    ghost told = { λ p. Some p.log };
+
+    ghost packet_bytes = { λ p. packet_bytes_of p.ring };
+
+    ghost may_refuse = { RingMayRefuse };
+
+    ghost publish_gives = { PublishesNext };
+
+    /// Publishes a packet as the inherent call does, and answers its number.
+    fn publish(&mut self, tag: u8, bytes: &[u8]) -> Result<u64, Refused> {
+        match Publisher::publish(self, tag, bytes) {
+            Ok(receipt) => Ok(receipt.number()),
+            Err(refused) => Err(refused),
+        }
+    }
+
+    fn packet_bytes(&self) -> usize {
+        let block: &Block = &self.ring;
+        block.packet_bytes
+    }
+
+    /// Closes the log as the inherent call does, and drops the receipt.
+    fn close(self) {
+        let _receipt = Publisher::close(self);
     }
 }

@@ -1,0 +1,73 @@
+//! How a ring is made.
+ghost use Rattle.std.specs.Prelude.{◌≡◌, ◌+◌, ◌*◌, ◌^◌, ◌<◌, ◌≤◌, [], length, replicate, IfOk};
+ghost use Rattle.std.specs.Arc.{arc_value};
+ghost use Rattle.packet_ring.specs.Rule.{seat_views};
+ghost use Rattle.packet_ring.specs.Views.{keep_of, new_pass, packet_bytes_of, seats_of};
+
+use crate::allocated::Block;
+use crate::block::Spares;
+use crate::passes::Pass;
+use crate::publishers::Publisher;
+use std::alloc::{AllocError, Global};
+use std::sync::Arc;
+
+/// A ring that keeps `keep` packets of at most `packet_bytes` bytes each, with its publisher and a pass
+/// for each of its seats. No other call of this crate takes memory.
+pub fn new(
+    alloc: Global,
+    keep: usize,
+    seats: usize,
+    packet_bytes: usize,
+) -> Result<(Publisher, Vec<Pass>), AllocError>
+    requires keep { (1 ≤ keep) × (keep ≤ 4095) }
+    requires seats { seats ≤ 1024 }
+    requires packet_bytes { (1 ≤ packet_bytes) × (packet_bytes ≤ 65535) }
+    ensures sizes { IfOk result (λ r. (keep_of r.0.ring ≡ keep) × (seats_of r.0.ring ≡ seats) × (packet_bytes_of r.0.ring ≡ packet_bytes)) }
+    ensures publisher { IfOk result (λ r. (r.0.log ≡ []) × (r.0.failed ≡ 0) × (r.0.pins ≡ 0)) }
+    ensures passes { IfOk result (λ r. r.1.items ≡ replicate seats (new_pass r.0.ring)) }
+{
+    let (block, spares) = Block::new(alloc, keep, seats, width_for(packet_bytes), packet_bytes)?;
+    let ring = Arc::new(alloc, block)?;
+    let (token, spares) = spares.take();
+    let passes = passes(alloc, &ring, spares, seats)?;
+    let publisher = Publisher {
+        ring,
+        token,
+        count: 0,
+    };
+    Ok((publisher, passes))
+}
+
+/// How many cells a slot has: one for a packet's length, and one for each eight bytes of its tag and its
+/// bytes. With its word a slot is a whole number of 64 bytes, so that no two words share a cache line.
+fn width_for(packet_bytes: usize) -> usize
+    requires { packet_bytes ≤ 65535 }
+    ensures fits { packet_bytes + 9 ≤ 8 * result }
+    ensures narrow { result ≤ 16384 }
+{
+    (packet_bytes / 8 + 10) / 8 * 8 - 1
+}
+
+/// A pass for each seat of a new ring.
+fn passes(
+    alloc: Global,
+    ring: &Arc<Block, Global>,
+    spares: Spares,
+    seats: usize,
+) -> Result<Vec<Pass>, AllocError>
+    requires { (spares.id ≡ (arc_value ring.now).shared.id) × (spares.next ≡ 1) × (spares.views ≡ seat_views seats) }
+    ensures { IfOk result (λ r. r.items ≡ replicate seats (new_pass (arc_value ring.now).shared.id)) }
+{
+    let mut passes = Vec::with_capacity(alloc, seats)?;
+    let mut rest = spares;
+    for _ in 0..seats {
+        let (token, others) = rest.take();
+        rest = others;
+        passes.push(Pass {
+            ring: Arc::try_clone(ring)?,
+            token,
+            known: 0,
+        })?;
+    }
+    Ok(passes)
+}
