@@ -1,56 +1,290 @@
-use crate::allocated::Block;
-use crate::head::{attach, close, detach};
-use crate::publishing::publish;
-use crate::taking::take;
-use cursor::Taken;
-use std::alloc::AllocError;
-use std::process::Abort;
+ghost use Rattle.std.specs.Prelude.{◌≡◌, IfSome};
 
-/// A publisher and a seat in turn, over a ring that keeps one packet.
-#[test]
-fn calls_in_turn(rt: HostRuntime) -> Result<(), AllocError> {
-    let (block, spares) = Block::new(rt.alloc(), 1, 1, 7, 47)?;
-    let ring = &block.shared;
-    let (mut publisher, spares) = spares.take();
-    let (mut seat, _rest) = spares.take();
-    let mut buf = [0; 47];
-    let start = attach(ring, &mut seat) / 2;
-    assert!(rt; start == 0);
-    let sent = publish(ring, &mut publisher, 1, 7, 0, 3, b"nineteen bytes long");
-    assert!(rt; sent.is_ok());
-    let first = take(ring, &mut seat, 1, 7, 0, &mut buf).0;
-    let want = Taken::Packet {
-        number: 0,
+use super::*;
+use cursor::{Account, Feed, Left, Refused, Taken, Tap};
+use std::alloc::{AllocError, Global};
+use std::process::Abort;
+use std::sync::{Arc, Wait};
+use std::test::Fail;
+use std::thread;
+use std::thread::join;
+
+/// How many bytes the packets of these tests have at most.
+const ROOM: usize = 64;
+
+/// What a take answers, with the packet's bytes.
+fn took(tap: &mut impl Tap, buf: &mut [u8; ROOM]) -> Option<Taken> {
+    if tap.packet_bytes() <= ROOM {
+        Some(tap.take(buf))
+    } else {
+        None
+    }
+}
+
+/// A packet of this number and length.
+fn packet(number: u64, len: usize) -> Option<Taken> {
+    Some(Taken::Packet {
+        number,
         tag: 3,
-        len: 19,
+        len,
+    })
+}
+
+/// The number that a publish of these bytes is answered.
+fn sent(publisher: &mut Publisher, bytes: &[u8]) -> Result<u64, Refused> {
+    Feed::publish(publisher, 3, bytes)
+}
+
+/// A ring that keeps two packets, with one seat, which is attached.
+fn ring_of_one(alloc: Global) -> Option<(Publisher, Subscriber)>
+    ensures { IfSome result (λ r. r.1.ring ≡ r.0.ring) }
+{
+    let (publisher, mut passes) = new(alloc, 2, 1, ROOM).ok()?;
+    let pass = passes.pop()?;
+    Some((publisher, pass.attach()))
+}
+
+#[test]
+fn ring_loses_one(rt: HostRuntime) -> Result<(), Fail> {
+    let (mut publisher, mut passes) = new(rt.alloc(), 2, 1, ROOM)?;
+    let mut seat = passes.pop().ok_or("no pass")?.attach();
+    let mut buf = [0; ROOM];
+    let numbers = (
+        sent(&mut publisher, b"A"),
+        sent(&mut publisher, b"B"),
+        sent(&mut publisher, b"C"),
+    );
+    assert!(rt; numbers == (Ok(0), Ok(1), Ok(2)));
+    assert!(rt; took(&mut seat, &mut buf) == Some(Taken::Lost(1)));
+    assert!(rt; took(&mut seat, &mut buf) == packet(1, 1) && buf[0] == b'B');
+    assert!(rt; took(&mut seat, &mut buf) == packet(2, 1) && buf[0] == b'C');
+    assert!(rt; took(&mut seat, &mut buf) == Some(Taken::Empty));
+    let (_pass, left) = seat.detach();
+    let wanted = Left {
+        taken: 2,
+        lost: 1,
+        left: 0,
     };
-    assert!(rt; first == want);
-    assert_eq!(rt; &buf[..19], b"nineteen bytes long".as_slice());
-    close(ring, &mut publisher, 1);
-    let ended = take(ring, &mut seat, 1, 7, 1, &mut buf).0;
-    assert!(rt; ended == Taken::Ended);
+    assert!(rt; left == wanted);
     Ok(())
 }
 
-/// A ring that keeps one packet loses the first of two.
 #[test]
-fn ring_loses_one(rt: HostRuntime) -> Result<(), AllocError> {
-    let (block, spares) = Block::new(rt.alloc(), 1, 1, 7, 47)?;
-    let ring = &block.shared;
-    let (mut publisher, spares) = spares.take();
-    let (mut seat, _rest) = spares.take();
-    let mut buf = [0; 47];
-    let start = attach(ring, &mut seat) / 2;
-    assert!(rt; start == 0);
-    let empty = take(ring, &mut seat, 1, 7, 0, &mut buf).0;
-    assert!(rt; empty == Taken::Empty);
-    let first = publish(ring, &mut publisher, 1, 7, 0, 4, b"");
-    assert!(rt; first.is_ok());
-    let second = publish(ring, &mut publisher, 1, 7, 1, 5, b"x");
-    assert!(rt; second.is_ok());
-    let lost = take(ring, &mut seat, 1, 7, 0, &mut buf).0;
-    assert!(rt; lost == Taken::Lost(1));
-    let end = detach(ring, &mut seat);
-    assert!(rt; end == 4);
+fn no_seats_and_late_seat(rt: HostRuntime) -> Result<(), Fail> {
+    for seats in [0, 1] {
+        let (mut publisher, mut passes) = new(rt.alloc(), 1, seats, ROOM)?;
+        for number in 0..3 {
+            assert!(rt; sent(&mut publisher, b"A") == Ok(number));
+        }
+        let Some(pass) = passes.pop() else {
+            continue;
+        };
+        let mut seat = pass.attach();
+        let mut buf = [0; ROOM];
+        assert!(rt; took(&mut seat, &mut buf) == Some(Taken::Empty));
+        assert!(rt; sent(&mut publisher, b"B") == Ok(3));
+        let (_pass, left) = seat.detach();
+        let wanted = Left {
+            taken: 0,
+            lost: 0,
+            left: 1,
+        };
+        assert!(rt; left == wanted);
+    }
+    Ok(())
+}
+
+#[test]
+fn close_and_ended(rt: HostRuntime) -> Result<(), Fail> {
+    let (mut publisher, mut passes) = new(rt.alloc(), 2, 1, ROOM)?;
+    let mut seat = passes.pop().ok_or("no pass")?.attach();
+    let mut buf = [0; ROOM];
+    assert!(rt; sent(&mut publisher, b"A") == Ok(0));
+    let receipt = publisher.close();
+    assert!(rt; receipt.number() == 1);
+    assert!(rt; took(&mut seat, &mut buf) == packet(0, 1) && buf[0] == b'A');
+    assert!(rt; took(&mut seat, &mut buf) == Some(Taken::Ended));
+    assert!(rt; took(&mut seat, &mut buf) == Some(Taken::Ended));
+    let (pass, left) = seat.detach();
+    let wanted = Left {
+        taken: 1,
+        lost: 0,
+        left: 0,
+    };
+    assert!(rt; left == wanted && pass.known() == 1);
+    Ok(())
+}
+
+/// Publishes one packet, and leaves the log open.
+fn publish_one(mut publisher: Publisher) -> Option<Receipt>
+    ensures { IfSome result (λ receipt. receipt.ring ≡ publisher.ring) }
+{
+    publisher.publish(3, b"A").ok()
+}
+
+/// What another thread published is there once its receipt was learned.
+#[test]
+fn receipt_by_join(rt: HostRuntime) -> Result<(), Fail> {
+    let (publisher, mut seat) = ring_of_one(rt.alloc()).ok_or("no ring")?;
+    let (receipt, ()) = join(&rt, move || publish_one(publisher), || ());
+    let receipt = receipt.ok_or("refused")?;
+    seat.learn(&receipt);
+    assert!(rt; seat.known() == 1);
+    let mut buf = [0; ROOM];
+    assert!(rt; took(&mut seat, &mut buf) == packet(0, 1) && buf[0] == b'A');
+    Ok(())
+}
+
+/// Keeping 1 and 4,095 packets, for no seats and for 1,024, of no byte, one, and as many as may be.
+#[test]
+fn limits(rt: HostRuntime) -> Result<(), Fail> {
+    let full = [7; ROOM];
+    let mut buf = [0; ROOM];
+    for (keep, seats) in [(1, 1024), (4095, 0), (4095, 1024)] {
+        let (mut publisher, passes) = new(rt.alloc(), keep, seats, ROOM)?;
+        assert!(rt; passes.len() == seats);
+        let mut tap = passes.into_iter().next().map(Pass::attach);
+        for (number, len) in [(0, 0), (1, 1), (2, ROOM)] {
+            let bytes = full.get(..len).ok_or("short")?;
+            assert!(rt; sent(&mut publisher, bytes) == Ok(number));
+            if let Some(seat) = &mut tap {
+                assert!(rt;
+                    took(seat, &mut buf) == packet(number, len) && buf.get(..len) == Some(bytes)
+                );
+            }
+        }
+        assert!(rt; sent(&mut publisher, &[0; ROOM + 1]) == Err(Refused::TooLong));
+    }
+    Ok(())
+}
+
+/// What a seat has for the rest, which takes nothing while many packets pass.
+#[test]
+fn idle_seat(rt: HostRuntime) -> Result<(), Fail> {
+    let (mut publisher, mut passes) = new(rt.alloc(), 16, 1, ROOM)?;
+    let mut seat = passes.pop().ok_or("no pass")?.attach();
+    let mut buf = [0; ROOM];
+    for number in 0..10_000 {
+        assert!(rt; sent(&mut publisher, b"A") == Ok(number));
+    }
+    assert!(rt; took(&mut seat, &mut buf) == Some(Taken::Lost(9_984)));
+    assert!(rt; took(&mut seat, &mut buf) == packet(9_984, 1));
+    let wanted = Account {
+        start: 0,
+        taken: 1,
+        lost: 9_984,
+    };
+    assert!(rt; seat.account() == wanted && seat.cursor() == 9_985 && seat.known() == 10_000);
+    Ok(())
+}
+
+/// The block has as many owners as there are tokens, whichever of them goes first.
+#[test]
+fn last_token_frees_the_block(rt: HostRuntime) -> Result<(), Fail> {
+    for order in 0..3 {
+        let (publisher, mut passes) = new(rt.alloc(), 1, 2, ROOM)?;
+        let pass = passes.pop().ok_or("no pass")?;
+        let seat = passes.pop().ok_or("no pass")?.attach();
+        drop(passes);
+        assert!(rt; Arc::strong_count(&publisher.ring) == 3);
+        match order {
+            0 => {
+                drop(pass);
+                drop(seat);
+                assert!(rt; Arc::strong_count(&publisher.ring) == 1);
+            }
+            1 => {
+                drop(publisher);
+                drop(pass);
+                assert!(rt; Arc::strong_count(&seat.ring) == 1);
+            }
+            _ => {
+                drop(seat);
+                let _receipt = publisher.close();
+                assert!(rt; Arc::strong_count(&pass.ring) == 1);
+            }
+        }
+    }
+    Ok(())
+}
+
+/// The byte at a place of the packet with this number.
+fn byte_of(number: u64, place: usize) -> u8 {
+    (number % 251) as u8 ^ (place % 256) as u8
+}
+
+/// Publishes so many packets, each as soon as its place is free, and closes the ring.
+fn publish_all(rt: &impl Wait, mut publisher: Publisher, count: u64) -> u64 {
+    let mut bytes = [0; ROOM];
+    let mut refused = 0u64;
+    let mut next = 0;
+    for _ in rt.forever() {
+        if next == count {
+            break;
+        }
+        let len = (next % ROOM as u64) as usize;
+        for place in 0..len {
+            bytes[place] = byte_of(next, place);
+        }
+        match publisher.publish(3, &bytes[..len]) {
+            Ok(receipt) => next = receipt.number().saturating_add(1),
+            Err(_) => {
+                refused = refused.saturating_add(1);
+                thread::yield_now();
+            }
+        }
+    }
+    let _receipt = publisher.close();
+    refused
+}
+
+/// Whether these are the bytes of the packet with this number.
+fn is_packet(number: u64, bytes: &[u8]) -> bool {
+    for place in 0..bytes.len() {
+        if bytes[place] != byte_of(number, place) {
+            return false;
+        }
+    }
+    bytes.len() as u64 == number % ROOM as u64
+}
+
+/// Reads to the end, and answers the account where each packet had its bytes, and the numbers rose.
+fn read_all(rt: &impl Wait, mut seat: Subscriber) -> Option<Account> {
+    let mut buf = [0; ROOM];
+    for _ in rt.forever() {
+        let next = seat.cursor();
+        match took(&mut seat, &mut buf)? {
+            Taken::Packet { number, tag, len } => {
+                if number != next || tag != 3 || !is_packet(number, buf.get(..len)?) {
+                    return None;
+                }
+            }
+            Taken::Lost(0) => return None,
+            Taken::Lost(_) => {}
+            Taken::Empty => thread::yield_now(),
+            Taken::Ended => break,
+        }
+    }
+    Some(seat.account())
+}
+
+/// A publisher and four seats, each in a thread of its own.
+#[test]
+fn five_threads(rt: HostRuntime) -> Result<(), Fail> {
+    let (publisher, passes) = new(rt.alloc(), 64, 4, ROOM)?;
+    let mut readers = Vec::new(rt.alloc());
+    for pass in passes {
+        let seat = pass.attach();
+        let reader = thread::spawn(&rt, move || read_all(&rt, seat)).map_err(|_| AllocError)?;
+        readers.push(reader)?;
+    }
+    let writer = thread::spawn(&rt, move || publish_all(&rt, publisher, 100_000)).map_err(
+        |_| AllocError,
+    )?;
+    writer.join(&rt);
+    for reader in readers {
+        let account = reader.join(&rt).ok_or("a seat read another packet")?;
+        assert!(rt; account.start == 0 && account.taken.checked_add(account.lost) == Some(100_000));
+    }
     Ok(())
 }
