@@ -16,6 +16,13 @@ use Rattle.ring_steps.specs.Step.{holds}
 use Rattle.packet_ring.specs.Table.{Right, no_right, may_read, may_end, may_write}
 use Rattle.packet_ring.specs.Rule.{IsSized, Knows, Limits, View, bytes_of}
 
+-- a slot's word with the writing bit alone, and with the number 1 alone
+abbrev pub writing_bit : ℕ
+writing_bit = 65536
+
+abbrev pub one_number : ℕ
+one_number = 131072
+
 -- a seat's view once it loaded this head
 abbrev pub looked : Head → Seat → Seat
 looked h x = record x { seen = h.length; saw_closed = h.closed; loads = x.loads + 1 }

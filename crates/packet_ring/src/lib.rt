@@ -17,6 +17,7 @@ mod slots;
 mod strip;
 mod subscribers;
 mod taking;
+mod words;
 
 pub use opening::new;
 pub use passes::Pass;

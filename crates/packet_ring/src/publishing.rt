@@ -9,6 +9,7 @@ use crate::block::{Shared, Token};
 use crate::head::append;
 use crate::packets::put;
 use crate::sending::{begin, finish};
+use crate::words::{NUMBER, WRITING};
 use std::marker::Brand;
 
 /// Publishes a packet in a ring that keeps `keep` of them, after `count` others. It is refused where
@@ -33,10 +34,10 @@ pub(crate) fn publish(
     let unit = (count % (keep as u64 + 1)) as usize + 1;
     let at = unit * (width + 1);
     let oldest = count.saturating_sub(keep as u64);
-    let known = 131072 * oldest;
+    let known = NUMBER * oldest;
     let found = begin::<Brand>(block, token, unit, at, known, tag, bytes);
     if found != known {
-        return Err(found % 65536);
+        return Err(found % WRITING);
     }
     token.settle();
     put(block, token, unit, at + 1, tag, bytes);
@@ -46,7 +47,7 @@ pub(crate) fn publish(
         token,
         unit,
         at,
-        131072 * (count + 1 - oldest) - 65536,
+        NUMBER * (count + 1 - oldest) - WRITING,
     );
     append(block, token, count);
     Ok(())

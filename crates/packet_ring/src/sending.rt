@@ -1,11 +1,12 @@
 //! The steps of the publisher on a slot's word: each is one step of the ring's core.
 ghost use Rattle.std.specs.Prelude.{◌≡◌, ◌+◌, ◌-◌, ◌*◌, ◌%◌, ◌^◌, ◌<◌, ℕ, List, [], false, length};
 ghost use Rattle.ring_steps.specs.declared.views.PublisherPhase.TheVariants as publishing;
-ghost use Rattle.packet_ring.specs.Steps.{Begins, Finishes, IsPublisher, MayEnd, log_of, publisher_of};
+ghost use Rattle.packet_ring.specs.Steps.{Begins, Finishes, IsPublisher, MayEnd, log_of, one_number, publisher_of, writing_bit};
 ghost use Rattle.packet_ring.specs.Rule.{IsSized};
 ghost use Rattle.packet_ring.specs.Table.{no_right};
 
 use crate::block::{Play, Shared, Token};
+use crate::words::WRITING;
 use std::marker::{Brand, PhantomData};
 
 /// Which packet is sent. A call of a begin at `Brand` picks the one that it is given.
@@ -46,13 +47,13 @@ pub(crate) fn begin<N: Sends>(
     requires publisher { IsPublisher token.old.number token.old.me publishing.Between × (token.old.me.right ≡ no_right) × ((publisher_of token.old.me.view).closed ≡ false) }
     requires unit { (unit ≡ length (log_of token.old.me.view) % (block.now.id.units - 2 + 1) + 1) × (unit < block.now.id.units) × (at ≡ unit * (block.now.id.width + 1)) }
     requires packet { IsSized block.now.id.limits.1 N.packet }
-    requires known { (known ≡ 131072 * (length (log_of token.old.me.view) - (block.now.id.units - 2))) × (known < 2 ^ 63) }
+    requires known { (known ≡ one_number * (length (log_of token.old.me.view) - (block.now.id.units - 2))) × (known < 2 ^ 63) }
     ensures same { (token.new.id ≡ token.old.id) × (token.new.number ≡ token.old.number) }
     ensures step { Begins block.now.id.limits.0 unit (log_of token.old.me.view) (publisher_of token.old.me.view) N.packet known token.old.me result token.new.me }
 {
     let _ = tag;
     let _ = bytes;
-    block.compare_exchange::<Beginning<N>>(token, unit, at, known, known + 65536)
+    block.compare_exchange::<Beginning<N>>(token, unit, at, known, known + WRITING)
 }
 
 /// The finish of that slot, once its cells hold the packet.
@@ -60,7 +61,7 @@ pub(crate) fn finish(block: &Shared, token: &mut Token, unit: usize, at: usize, 
     requires same { (token.old.id ≡ block.now.id) × (1 < block.now.id.units) }
     requires publisher { IsPublisher token.old.number token.old.me publishing.Begun × MayEnd token.old.me.right unit (publisher_of token.old.me.view).packet }
     requires unit { (unit ≡ length (log_of token.old.me.view) % (block.now.id.units - 2 + 1) + 1) × (unit < block.now.id.units) × (at ≡ unit * (block.now.id.width + 1)) }
-    requires more { k ≡ 131072 * (length (log_of token.old.me.view) + 1 - (length (log_of token.old.me.view) - (block.now.id.units - 2))) - 65536 }
+    requires more { k ≡ one_number * (length (log_of token.old.me.view) + 1 - (length (log_of token.old.me.view) - (block.now.id.units - 2))) - writing_bit }
     ensures same { (token.new.id ≡ token.old.id) × (token.new.number ≡ token.old.number) }
     ensures step { Finishes (log_of token.old.me.view) (publisher_of token.old.me.view) token.old.me result token.new.me }
 {

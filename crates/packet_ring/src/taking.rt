@@ -11,6 +11,7 @@ use crate::block::{Shared, Token};
 use crate::head::{load_first, load_second};
 use crate::packets::get;
 use crate::slots::{pin, unpin, unpin_failed};
+use crate::words::WRITING;
 use cursor::Taken;
 
 /// The next packet of a seat whose next number is `next`, in a ring that keeps `keep`, or why there is
@@ -49,7 +50,7 @@ pub(crate) fn take(
     let unit = (next % (keep as u64 + 1)) as usize + 1;
     let at = unit * (width + 1);
     let word = pin(block, token, unit, at);
-    if word / 65536 == 2 * (next + 1) {
+    if word / WRITING == 2 * (next + 1) {
         let (tag, len) = get(block, token, unit, at + 1, buf);
         unpin(block, token, unit, at);
         let packet = Taken::Packet {
