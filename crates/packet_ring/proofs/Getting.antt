@@ -4,12 +4,8 @@ use mathlib.Core.Logic.{dite}
 use native.Mathlib.Decide.{dec_lt, ℕ_discrete}
 use Rattle.std.proofs.lemmas.List.{get_or_append_left, get_or-append_right}
 use Rattle.packet_ring.specs.Rule.{digits, bytes_of}
+use Rattle.packet_ring.specs.Packing.{shed}
 use Rattle.packet_ring.specs.Steps.{HasPacket}
-
--- a cell without so many of its bytes
-abbrev pub shed : ℕ → ℕ → ℕ
-shed zero n = n
-shed (suc k) n = shed k (n / 256)
 
 pub shed_more : (k n : ℕ) → shed (suc k) n ≡ shed k n / 256
 shed_more zero n = refl
@@ -70,3 +66,24 @@ copied_more x p buf has n word near room is before i l = let e : suc n ≡ n + 1
     (λ same. ap (λ (k : ℕ). get_or (set buf n (word % 256)) k 0) same ∙ get_or-set_same buf n (word % 256) 0 room ∙ ap (λ (w : ℕ). w % 256) is
     ∙ sym (packet_byte x p has (n + 1) near) ∙ ap (λ (k : ℕ). get_or p k 0) (sym e ∙ ap suc (sym same)))
     (λ other. get_or-set_other buf n i (word % 256) 0 other ∙ before i (omega arith))
+
+-- one byte more of a word is written into a buffer
+module _ (buf : List ℕ) (at k left word : ℕ) (is : left ≡ shed k word) (room : at + k < length buf) where
+  pub spread_left : left / 256 ≡ shed (k + 1) word
+  spread_left = ap (λ (n : ℕ). n / 256) is ∙ sym (shed_more k word) ∙ (let e : suc k ≡ k + 1 = omega arith in ap (λ (j : ℕ). shed j word) e)
+
+  pub spread_before : (i : ℕ) → i < at → get_or (set buf (at + k) (left % 256)) i 0 ≡ get_or buf i 0
+  spread_before i l = get_or-set_other buf (at + k) i (left % 256) 0 (λ e. absurd (omega arith))
+
+  pub spread_bytes : ((i : ℕ) → i < k → get_or buf (at + i) 0 ≡ shed i word % 256) → (i : ℕ) → i < k + 1 → get_or (set buf (at + k) (left % 256)) (at + i) 0 ≡ shed i word % 256
+  spread_bytes so i l = dite (ℕ_discrete i k)
+      (λ same. ap (λ (j : ℕ). get_or (set buf (at + k) (left % 256)) (at + j) 0) same ∙ get_or-set_same buf (at + k) (left % 256) 0 room ∙ ap (λ (n : ℕ). n % 256) is ∙ ap (λ (j : ℕ). shed j word % 256) (sym same))
+      (λ other. get_or-set_other buf (at + k) (at + i) (left % 256) 0 (λ e. other (omega arith)) ∙ so i (omega arith))
+
+-- eight bytes more are copied
+pub copied_word : (x p buf more : List ℕ) → HasPacket x p → (n word : ℕ) → n + 8 < length p → (n + 1) % 8 ≡ 0 → word ≡ get_or x (1 + (n + 1) / 8) 0 → ((i : ℕ) → i < n → get_or more i 0 ≡ get_or buf i 0) → ((i : ℕ) → i < 8 → get_or more (n + i) 0 ≡ shed i word % 256)
+    → ((i : ℕ) → i < n → get_or buf i 0 ≡ get_or p (suc i) 0) → (i : ℕ) → i < n + 8 → get_or more i 0 ≡ get_or p (suc i) 0
+copied_word x p buf more has n word near first is same bytes before i l = dite (dec_lt i n)
+    (λ low. same i low ∙ before i low)
+    (λ high. let k : ℕ = i - n in let at : n + k ≡ i = omega arith in let r : k ≡ suc i % 8 = omega arith in let q : 1 + (n + 1) / 8 ≡ suc (suc i / 8) = omega arith in
+    ap (λ (j : ℕ). get_or more j 0) (sym at) ∙ bytes k (omega arith) ∙ (λ j. shed (r j) (is j) % 256) ∙ ap (λ (m : ℕ). shed (suc i % 8) (get_or x m 0) % 256) q ∙ sym (packet_byte x p has (suc i) (omega arith)))

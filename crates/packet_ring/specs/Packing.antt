@@ -1,5 +1,5 @@
 -- A packet in the cells of a unit: its length in the first, and its bytes in the others, eight in each.
-use Rattle.std.specs.Prelude.{◌≡◌, ℕ, zero, suc, ◌+◌, ◌*◌, ◌<◌, ◌≤◌, List, length, slice_index}
+use Rattle.std.specs.Prelude.{◌≡◌, ℕ, zero, suc, ◌+◌, ◌*◌, ◌/◌, ◌<◌, ◌≤◌, List, length, slice_index}
 use Rattle.packet_ring.specs.Table.{Right, may_write}
 use Rattle.packet_ring.specs.Steps.{HasPacket}
 
@@ -8,6 +8,11 @@ use Rattle.packet_ring.specs.Steps.{HasPacket}
 abbrev pub word_at : (count : ℕ) → (packet : List ℕ) → (place : ℕ) → ℕ
 word_at zero p i = 0
 word_at (suc k) p i = slice_index p i + 256 * word_at k p (suc i)
+
+-- a word without so many of its lowest bytes
+abbrev pub shed : ℕ → ℕ → ℕ
+shed zero n = n
+shed (suc k) n = shed k (n / 256)
 
 -- each number is a byte
 abbrev pub AreBytes : List ℕ → Type 0

@@ -1,6 +1,6 @@
 //! A packet in the cells of a unit: its length in the first, and its tag and its bytes in the others.
-ghost use Rattle.std.specs.Prelude.{◌≡◌, ◌+◌, ◌*◌, ◌^◌, ◌<◌, ◌≤◌, ◌∷◌, length, slice_index, take};
-ghost use Rattle.packet_ring.specs.Packing.{MayWritePacket, word_at};
+ghost use Rattle.std.specs.Prelude.{◌≡◌, ℕ, ◌+◌, ◌*◌, ◌%◌, ◌^◌, ◌<◌, ◌≤◌, ◌∷◌, length, slice_index, take};
+ghost use Rattle.packet_ring.specs.Packing.{MayWritePacket, shed, word_at};
 ghost use Rattle.packet_ring.specs.Steps.{HasPacket, MayRead, MayWrite, next_packet};
 ghost use Rattle.packet_ring.specs.Table.{cells_of};
 
@@ -67,6 +67,22 @@ pub(crate) fn put(
     }
 }
 
+/// Writes a word's eight bytes into a buffer from a place on, the lowest first.
+fn spread(word: u64, buf: &mut [u8], at: usize)
+    requires { at + 8 ≤ length buf.old }
+    ensures size { length buf.new ≡ length buf.old }
+    ensures before { (i : ℕ) → i < at → slice_index buf.new i ≡ slice_index buf.old i }
+    ensures bytes { (i : ℕ) → i < 8 → slice_index buf.new (at + i) ≡ shed i word % 256 }
+{
+    let mut left = word;
+    let mut done = 0;
+    while done < 8 {
+        buf[at + done] = (left % 256) as u8;
+        left /= 256;
+        done += 1;
+    }
+}
+
 /// Copies the packet in the cells of a unit into the buffer, and answers its tag and how many bytes
 /// it has.
 pub(crate) fn get(
@@ -92,6 +108,11 @@ pub(crate) fn get(
         if (copied + 1) % 8 == 0 {
             let cell = 1 + (copied + 1) / 8;
             word = block.read(token, unit, first + cell, cell);
+            if copied + 8 < len {
+                spread(word, buf, copied);
+                copied += 8;
+                continue;
+            }
         } else {
             word /= 256;
         }
