@@ -4,7 +4,7 @@ use Rattle.std.proofs.lemmas.List.{replicate_more}
 use mathlib.Core.Logic.{inr}
 use Rattle.ring_steps.specs.Ring.{new_seat}
 use Rattle.packet_ring.specs.Rule.{View, seat_views}
-use Rattle.packet_ring.specs.Steps.{seat_of}
+use Rattle.packet_ring.specs.Steps.{ends_at, seat_of}
 use Rattle.packet_ring.specs.Views.{RingId, Passing, new_pass, passing_of}
 use Rattle.packet_ring.specs.declared.block.Token.{Token}
 
@@ -26,8 +26,8 @@ first_view n k lt vs v ws all cut = ap (or_first v) (sym cut ∙ all ∙ one_les
 pub rest_views : (n k : ℕ) → k < n → (vs : List View) (v : View) (ws : List View) → vs ≡ seat_views (n - k) → vs ≡ v ∷ ws → ws ≡ seat_views (n - (k + 1))
 rest_views n k lt vs v ws all cut = ap rest_of (sym cut ∙ all ∙ one_less n k lt)
 
-pub pass_of : (z : RingId) (t : Token) → t.id ≡ z → t.me.view ≡ inr new_seat → passing_of t 0 ≡ new_pass z
-pass_of z t same new i = record { ring = same i; seen = []; closed = (seat_of (new i)).saw_closed; loads = (seat_of (new i)).loads }
+pub pass_of : (z : RingId) (t : Token) → t.id ≡ z → t.me.view ≡ inr new_seat → t.me.seen ≡ [] → passing_of t 0 ≡ new_pass z
+pass_of z t same new none i = record { ring = same i; seen = []; closed = ends_at (none i) 0; loads = (seat_of (new i)).loads }
 
 pub one_more : (z : RingId) (ps : List Passing) (k : ℕ) (p : Passing) → ps ≡ replicate k (new_pass z) → p ≡ new_pass z → ps ++ p ∷ [] ≡ replicate (k + 1) (new_pass z)
 one_more z ps k p are is = ap (λ (u : List Passing × Passing). u.0 ++ u.1 ∷ []) {x = (ps, p)} {y = (replicate k (new_pass z), new_pass z)} (λ i. (are i, is i)) ∙ replicate_more k (new_pass z)

@@ -4,7 +4,6 @@ use Rattle.std.specs.Prelude.{slice_get, nat_lt, Bool, ◌==◌, if◌then◌els
 use mathlib.Core.Logic.{inl, inr}
 use mathlib.Core.Option as maybe
 use mathlib.Core.Option.{some-injective, some-ne-none}
-use mathlib.Core.List.{IsPrefix}
 use base.Growing.{prefix_refl}
 use lib.ListN.{get_elem?, length-map}
 use Rattle.ring_steps.specs.declared.words.Head.{Head}
@@ -27,7 +26,7 @@ use Rattle.ring_steps.proofs.Loads.{attach_keeps, detach_keeps, first_load_keeps
 use Rattle.ring_steps.proofs.Writing.{append_keeps}
 use Rattle.ring_steps.proofs.Writing.{close_keeps}
 use Rattle.packet_ring.specs.Table.{State, Home, away, home, Right, keeps, stepped, Allows}
-use Rattle.packet_ring.specs.Rule.{Limits, IsSized, IsPending, View, Knows, Holds, Fits, HomeFits, hold_of, holders, words_of, publisher_view, seat_view}
+use Rattle.packet_ring.specs.Rule.{Limits, IsSized, IsPending, View, Knows, Holds, Fits, with_end, HomeFits, hold_of, holders, words_of, publisher_view, seat_view}
 use Rattle.packet_ring.specs.Steps.{looked, attached, detached, lost_to, first_seen, second_seen, Loads, Appends, Closes}
 
 -- ---- lists
@@ -118,12 +117,13 @@ module _ (phase : SeatPhase) (f : Head → Seat → Seat) (units : ℕ) (idle : 
           head = s.head;
           bits = ap (λ (ws : List ℕ). get_or ws 0 0) fits.words;
           short = (let n = fits.short in let e = fits.sound.slots.numbers.size in omega arith);
-          later = (let n = (fits.sound.slots.seen i x there).0 in let e = fits.sound.slots.numbers.size in omega arith);
-          ended = λ was. let n = (fits.sound.slots.seen i x there).1 was in (fits.sound.slots.numbers.closed ∙ n.1, n.0 ∙ sym fits.sound.slots.numbers.size);
           behind = λ is_missed. let n = subst (λ (φ : SeatPhase). SeatKnows φ s.keep s.log x) is_missed (fits.sound.phases.knows i x there) in let k = n.1 in let e = fits.sound.slots.numbers.size in let u = units_of s t fits units long in omega arith;
           view = refl;
           right = refl;
-          size = ap length fits.log ∙ sym fits.sound.slots.numbers.size;
+          log = s.log;
+          size = sym fits.sound.slots.numbers.size;
+          full = λ n l. (fits.packets n l).0;
+          seen = fits.log;
           grows = pre;
         },
       )
@@ -144,10 +144,17 @@ homes_same : (s : Ring.State) (head : Head) (log : List (List ℕ)) (p : Publish
 homes_same s head log p j away fit = fit
 homes_same s head log p j (home m c) fit = fit
 
+unclosed : (b : Bool) → (b ≡ true → ⊥) → b ≡ false
+unclosed false h = refl
+unclosed true h = absurd (h refl)
+
+is_finished : publishing.Between ≡ publishing.Finished → ⊥
+is_finished e = absurd (cc)
+
 -- a step that stores the head, and changes the publisher's view and the log, and leaves the slots and the seats
-publisher_kept : {L : Limits} (s : Ring.State) (t : State View (List ℕ)) → Fits L s t → (head : Head) (log : List (List ℕ)) (p : Publisher) (new : ℕ) (w : View) (r : Right) → Invariant (record s { head = head; log = log; publisher = p })
-    → length log ≤ 2 ^ 46 → ((n : ℕ) → n < length log → IsSized L.1 (get_or log n [])) → IsPending L.1 p.phase p.packet → new ≡ head_bits head → w ≡ inl (log, p) → Holds L (stepped t 0 new 0 r w keeps log)
-publisher_kept s t fits head log p new w r sound short packets pending bits is = (
+publisher_kept : {L : Limits} (s : Ring.State) (t : State View (List ℕ)) → Fits L s t → (head : Head) (log told : List (List ℕ)) (p : Publisher) (new : ℕ) (w : View) (r : Right) → told ≡ with_end head.closed log → Invariant (record s { head = head; log = log; publisher = p })
+    → length log ≤ 2 ^ 46 → ((n : ℕ) → n < length log → IsSized L.1 (get_or log n [])) → IsPending L.1 p.phase p.packet → new ≡ head_bits head → w ≡ inl (log, p) → Holds L (stepped t 0 new 0 r w keeps told)
+publisher_kept s t fits head log told p new w r all sound short packets pending bits is = (
   record s { head = head; log = log; publisher = p },
   record {
     sound = sound;
@@ -158,7 +165,7 @@ publisher_kept s t fits head log p new w r sound short packets pending bits is =
     short = short;
     words = ap (λ (ws : List ℕ). set ws 0 new) fits.words ∙ ap (λ (n : ℕ). n ∷ map (λ (x : Slot). word_bits x.word) s.slots) bits;
     views = ap (λ (vs : List View). set vs 0 w) fits.views ∙ ap (λ (v : View). v ∷ map seat_view s.seats) is;
-    log = refl;
+    log = all;
     homes = λ j near. homes_same s head log p j (get_or t.homes (suc j) away) (fits.homes j near);
   },
 )
@@ -175,7 +182,7 @@ pub appends : {L : Limits} (units : ℕ) (log : List (List ℕ)) (p : Publisher)
     → Allows (Holds L) units 0 me 0 (λ _. new) (λ _. Appends log p me new)
 appends {L = L} units log p me new is within short stored t held long rooms at pre small =
     let s : Ring.State = held.0 in let fits : Fits L s t = held.1 in let e = publisher_there s t fits log p me is at in let more : List (List ℕ) = s.log ++ s.publisher.packet ∷ [] in
-    let n : length s.log ≡ length log = ap length e.0 in let longer : length more ≡ length s.log + 1 = length-append s.log (s.publisher.packet ∷ []) in let all : t.log ≡ s.log = fits.log in
+    let n : length s.log ≡ length log = ap length e.0 in let longer : length more ≡ length s.log + 1 = length-append s.log (s.publisher.packet ∷ []) in let all : t.log ≡ s.log = fits.log ∙ ap (λ (b : Bool). with_end b s.log) (fits.sound.slots.numbers.closed ∙ unclosed s.publisher.closed (λ was. is_finished (sym (fits.sound.phases.ended was) ∙ ap (λ (q : Publisher). q.phase) e.1 ∙ within))) in
     let same : log ++ p.packet ∷ [] ≡ more = ap (λ (u : List (List ℕ) × Publisher). u.0 ++ u.1.packet ∷ []) {x = (log, p)} {y = (s.log, s.publisher)} (λ i. (sym e.0 i, sym e.1 i)) in
     let w : View = inl (log ++ p.packet ∷ [], record p { phase = publishing.Between; packet = [] }) in (
       w,
@@ -185,27 +192,28 @@ appends {L = L} units log p me new is within short stored t held long rooms at p
       tt,
       (s.publisher.packet ∷ [], ap (λ (l : List (List ℕ)). l ++ s.publisher.packet ∷ []) all),
       prefix_refl more,
-      publisher_kept s t fits (append s).state.head more (append s).state.publisher new w me.right (append_keeps s fits.sound (ap (λ (q : Publisher). q.phase) e.1 ∙ within)) (omega arith) (more_sized L.1 s.log s.publisher.packet fits.packets (subst (λ (φ : PublisherPhase). IsPending L.1 φ s.publisher.packet) (ap (λ (q : Publisher). q.phase) e.1 ∙ within) fits.pending)) tt (stored ∙ (let r : 2 * (length log + 1) ≡ 0 + 2 * (length s.log + 1) = omega arith in r))
+      publisher_kept s t fits (append s).state.head more more (append s).state.publisher new w me.right refl (append_keeps s fits.sound (ap (λ (q : Publisher). q.phase) e.1 ∙ within)) (omega arith) (more_sized L.1 s.log s.publisher.packet fits.packets (subst (λ (φ : PublisherPhase). IsPending L.1 φ s.publisher.packet) (ap (λ (q : Publisher). q.phase) e.1 ∙ within) fits.pending)) tt (stored ∙ (let r : 2 * (length log + 1) ≡ 0 + 2 * (length s.log + 1) = omega arith in r))
           (λ i. inl (same i, record (sym e.1 i) { phase = publishing.Between; packet = [] })),
       record { view = refl; right = refl; seen = sym same },
     )
 
 -- a close
-pub closes : {L : Limits} (units : ℕ) (log : List (List ℕ)) (p : Publisher) (me : Knows) (new : ℕ) → me.view ≡ inl (log, p) → p.phase ≡ publishing.Between → new ≡ 2 * length log + 1
+pub closes : {L : Limits} (units : ℕ) (log : List (List ℕ)) (p : Publisher) (me : Knows) (new : ℕ) → me.view ≡ inl (log, p) → p.phase ≡ publishing.Between → p.closed ≡ false → new ≡ 2 * length log + 1
     → Allows (Holds L) units 0 me 0 (λ _. new) (λ _. Closes log p me new)
-closes {L = L} units log p me new is within stored t held long rooms at pre small =
+closes {L = L} units log p me new is within unended stored t held long rooms at pre small =
     let s : Ring.State = held.0 in let fits : Fits L s t = held.1 in let e = publisher_there s t fits log p me is at in let n : length s.log ≡ length log = ap length e.0 in
+    let all : t.log ≡ s.log = fits.log ∙ ap (λ (b : Bool). with_end b s.log) (fits.sound.slots.numbers.closed ∙ ap (λ (q : Publisher). q.closed) e.1 ∙ unended) in
     let w : View = inl (log, record p { closed = true }) in (
       w,
       keeps,
-      s.log,
-      s.log,
+      s.log ++ [] ∷ [],
+      s.log ++ [] ∷ [],
       tt,
-      subst (λ (l : List (List ℕ)). IsPrefix l s.log) (sym fits.log) (prefix_refl s.log),
-      prefix_refl s.log,
-      publisher_kept s t fits (close s).state.head s.log (close s).state.publisher new w me.right (close_keeps s fits.sound (ap (λ (q : Publisher). q.phase) e.1 ∙ within)) fits.short fits.packets fits.pending (stored ∙ (let r : 2 * length log + 1 ≡ 1 + 2 * length s.log = omega arith in r))
+      ([] ∷ [], ap (λ (l : List (List ℕ)). l ++ [] ∷ []) all),
+      prefix_refl (s.log ++ [] ∷ []),
+      publisher_kept s t fits (close s).state.head s.log (s.log ++ [] ∷ []) (close s).state.publisher new w me.right refl (close_keeps s fits.sound (ap (λ (q : Publisher). q.phase) e.1 ∙ within)) fits.short fits.packets fits.pending (stored ∙ (let r : 2 * length log + 1 ≡ 1 + 2 * length s.log = omega arith in r))
           (λ i. inl (sym e.0 i, record (sym e.1 i) { closed = true })),
-      record { view = refl; right = refl; seen = e.0 },
+      record { view = refl; right = refl; seen = ap (λ (l : List (List ℕ)). l ++ [] ∷ []) e.0 },
     )
 
 -- ---- a take's two loads, and a load outside the calls

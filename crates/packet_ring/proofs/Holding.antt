@@ -1,5 +1,5 @@
 -- A take whose pin holds gives the packet at its cursor.
-use Rattle.std.proofs.Common.{◌≡◌, ◌≢◌, ℕ, zero, suc, ◌+◌, ◌-◌, ◌*◌, ◌/◌, ◌^◌, ◌<◌, ◌≤◌, ◌&&◌, Bool, true, false, not, eqb, ltb, List, [], ◌∷◌, length, get_or, sym, ap, ◌∙◌, subst, arith, eq-eqb, ne_eqb, le-ltb, Some, if◌then◌else◌}
+use Rattle.std.proofs.Common.{◌≡◌, ◌≢◌, ℕ, zero, suc, ◌+◌, ◌-◌, ◌*◌, ◌/◌, ◌^◌, ◌<◌, ◌≤◌, ◌&&◌, Bool, true, false, not, eqb, ltb, List, [], ◌∷◌, get_or, sym, ap, ◌∙◌, subst, arith, eq-eqb, ne_eqb, le-ltb, Some, if◌then◌else◌}
 use mathlib.Core.Logic.{inr}
 use mathlib.Core.List.{IsPrefix}
 use base.Growing.{prefix_trans}
@@ -13,10 +13,10 @@ use Rattle.ring_steps.specs.Ring.{cursor}
 use Rattle.ring_steps.specs.Step.{holds}
 use Rattle.packet_ring.specs.Table.{cells_of}
 use Rattle.packet_ring.specs.Rule.{Knows, View, IsSized}
-use Rattle.packet_ring.specs.Steps.{HasPacket, Loads, Pins, Unpins, first_seen, looked, next_packet, seat_of, took}
+use Rattle.packet_ring.specs.Steps.{HasPacket, HasSeen, Loads, Pins, Unpins, first_seen, looked, next_packet, seat_of, took}
 use Rattle.packet_ring.specs.Tokens.{GotPacket}
 use Rattle.packet_ring.proofs.Pinned.{prefix_get, or_packet}
-use Rattle.packet_ring.proofs.Looks.{length_of, longer, looks}
+use Rattle.packet_ring.proofs.Looks.{length_of, looks}
 
 holds_at : (pins n : ℕ) (b : Bool) (c found : ℕ) → found ≡ pins + 2 ^ 16 * bit b + 2 ^ 17 * n → pins ≤ 1024 → found / 65536 ≡ 2 * (c + 1) → eqb n (c + 1) && not b ≡ true
 holds_at pins n true c found e few is = absurd (omega arith)
@@ -67,11 +67,12 @@ module _ (keep : ℕ) (x : Seat) (old : Knows) (found : ℕ) (first : Knows) (lo
   pinned_holds most unit word pinned step is = held most unit (seat_of first.view) first word pinned step (is ∙ ap (λ (k : ℕ). 2 * (k + 1)) (sym same_cursor))
 
   pub gives : (most unit word last : ℕ) (pinned next : Knows) (step : Pins most unit (seat_of first.view) first word pinned) → Unpins (took (seat_of pinned.view) (next_packet pinned)) pinned last next
-      → cursor x ≤ length old.seen → slice_get pinned.seen (cursor (seat_of first.view)) ≡ Some (next_packet pinned) → GotPacket keep (found / 2) x (next_packet pinned) old next
-  gives most unit word last pinned next step end behind at = let p : List ℕ = next_packet pinned in let z = size in let n : length first.seen ≡ load.head.length = load.size in let far = longer old.seen first.seen load.grows in
-      let there : cursor x < load.head.length = (let ne : load.head.length ≢ cursor x = λ e. other (size ∙ e) in omega arith) in let more : IsPrefix first.seen next.seen = prefix_trans first.seen pinned.seen next.seen step.grows end.grows in record {
+      → HasSeen (cursor x) old.seen → slice_get pinned.seen (cursor (seat_of first.view)) ≡ Some (next_packet pinned) → GotPacket keep (found / 2) x (next_packet pinned) old next
+  gives most unit word last pinned next step end behind at = let p : List ℕ = next_packet pinned in let z = size in
+      let more : IsPrefix first.seen next.seen = prefix_trans first.seen pinned.seen next.seen step.grows end.grows in let look = looks keep x old found first (first_seen keep) load next more in let far = look.far (cursor x) behind in
+      let there : cursor x < load.head.length = (let ne : load.head.length ≢ cursor x = λ e. other (size ∙ e) in omega arith) in record {
         head = load.head;
-        looked_at = looks keep x old found first (first_seen keep) load next more;
+        looked_at = look;
         kept = omega arith;
         there = omega arith;
         at = prefix_get pinned.seen next.seen (cursor x) p end.grows (ap (λ (k : ℕ). slice_get pinned.seen k) (sym same_cursor) ∙ at);

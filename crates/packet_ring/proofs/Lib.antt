@@ -9,6 +9,7 @@ pub mod Shown
 pub mod Sent
 pub mod Rule
 pub mod Reach
+pub mod Ends
 pub mod Heads
 pub mod Pinned
 pub mod Begun

@@ -1,5 +1,5 @@
 -- What a take's loads saw.
-use Rattle.std.proofs.Common.{◌≡◌, ◌≢◌, ℕ, ◌+◌, ◌-◌, ◌*◌, ◌/◌, ◌%◌, ◌<◌, ◌≤◌, Bool, true, false, ltb, List, ◌++◌, length, refl, sym, ap, ◌∙◌, arith, eq-eqb, ne_eqb, lt-ltb, length-append, if◌then◌else◌}
+use Rattle.std.proofs.Common.{◌≡◌, ◌≢◌, ℕ, ◌+◌, ◌-◌, ◌*◌, ◌/◌, ◌%◌, ◌<◌, Bool, true, false, ltb, List, length, refl, sym, ap, ◌∙◌, subst, arith, eq-eqb, ne_eqb, lt-ltb, if◌then◌else◌}
 use mathlib.Core.Logic.{inl, inr}
 use mathlib.Core.List.{IsPrefix}
 use base.Growing.{prefix_refl, prefix_trans}
@@ -10,8 +10,9 @@ use Rattle.ring_steps.specs.Bits.{bit}
 use Rattle.ring_steps.specs.Ring.{cursor}
 use Rattle.packet_ring.specs.Table.{no_right}
 use Rattle.packet_ring.specs.Rule.{Knows, View}
-use Rattle.packet_ring.specs.Steps.{Loads, Pins, Unpins, first_seen, second_seen, looked, lost_to, missed, seat_of}
+use Rattle.packet_ring.specs.Steps.{HasSeen, ends_at, Loads, Pins, Unpins, first_seen, second_seen, looked, lost_to, missed, seat_of}
 use Rattle.packet_ring.specs.Tokens.{Looked, FoundNone, LostSome}
+use Rattle.packet_ring.proofs.Ends.{ends_with, log_seen, seen_on, seen_within}
 
 pub length_of : (b : Bool) (n found : ℕ) → found ≡ bit b + 2 * n → found / 2 ≡ n
 length_of false n found e = omega arith
@@ -25,19 +26,14 @@ pub open_by : (b : Bool) (n found : ℕ) → found ≡ bit b + 2 * n → found %
 open_by false n found e is = refl
 open_by true n found e is = absurd (is (omega arith))
 
-pub longer : (xs ys : List (List ℕ)) → IsPrefix xs ys → length xs ≤ length ys
-longer xs ys pre = let a = length-append xs pre.0 in let e : length (xs ++ pre.0) ≡ length ys = ap length pre.1 in omega arith
-
 -- a call's load, where the token knows more by the call's end
-pub looks : (keep : ℕ) (x : Seat) (old : Knows) (found : ℕ) (first : Knows) (f : Head → Seat → Seat) (load : Loads keep f x old found first) (next : Knows) → IsPrefix first.seen next.seen → Looked load.head (found / 2) x old next
-looks keep x old found first f load next more = let e : found / 2 ≡ load.head.length = length_of load.head.closed load.head.length found load.bits in let n : length first.seen ≡ load.head.length = load.size in
-    let far = longer old.seen first.seen load.grows in let further = longer first.seen next.seen more in let short = load.short in let later = load.later in record {
+pub looks : (keep : ℕ) (x : Seat) (old : Knows) (found : ℕ) (first : Knows) (f : Head → Seat → Seat) (load : Loads keep f x old found first) (next : Knows) → IsPrefix first.seen next.seen → Looked load.head (found / 2) old next
+looks keep x old found first f load next more = let e : found / 2 ≡ load.head.length = length_of load.head.closed load.head.length found load.bits in let short = load.short in let size = load.size in
+    let all : HasSeen (found / 2) first.seen = subst (λ (u : ℕ × List (List ℕ)). HasSeen u.0 u.1) (λ i. ((size ∙ sym e) i, sym load.seen i)) (log_seen load.head.closed load.log load.full) in record {
       size = sym e;
       short = omega arith;
-      later = omega arith;
-      ended = λ was. let now = load.ended was in (now.0, now.1 ∙ sym e);
-      far = omega arith;
-      known = omega arith;
+      far = λ k has. let within = seen_within old.seen load.head.closed load.log k (subst (λ (l : List (List ℕ)). IsPrefix old.seen l) load.seen load.grows) has in omega arith;
+      has = seen_on first.seen next.seen (found / 2) more all;
       grows = prefix_trans old.seen first.seen next.seen load.grows more;
     }
 
@@ -47,11 +43,11 @@ module _ (keep : ℕ) (x : Seat) (old : Knows) (found : ℕ) (first : Knows) (lo
 
   -- a take at the end of the log
   pub finds : (closed : Bool) → load.head.closed ≡ closed → found / 2 ≡ cursor x → FoundNone closed (found / 2) x old first
-  finds closed mark ends = record {
+  finds closed mark ends = let here : found / 2 ≡ length load.log = size ∙ sym load.size in record {
     head = load.head;
     looked_at = looks keep x old found first (first_seen keep) load first (prefix_refl first.seen);
     ends = ends;
-    mark = mark;
+    mark = (λ i. ends_at (load.seen i) (here i)) ∙ ends_with load.head.closed load.log ∙ mark;
     view = load.view ∙ ap (λ (a : Bool). inr (if a then looked load.head x else (if ltb (cursor x) (load.head.length - keep) then lost_to load.head x (load.head.length - keep - cursor x) else record (looked load.head x) { phase = seating.Found }))) (eq-eqb load.head.length (cursor x) (sym size ∙ ends));
     right = load.right ∙ free;
   }
@@ -85,17 +81,13 @@ module _ (keep : ℕ) (x : Seat) (old : Knows) (found : ℕ) (first : Knows) (lo
       let a = looks keep x old found first (first_seen keep) load unpinned more in
       let b = looks keep (seat_of unpinned.view) unpinned later next (second_seen keep) load_again next (prefix_refl next.seen) in
       let e : later / 2 ≡ h.length = sym b.size in
-      let seen : (seat_of unpinned.view).seen ≡ load.head.length = ap (λ (z : Seat). z.seen) is_missed in
-      let first_size = a.size in let a_later = a.later in let b_later = b.later in let a_known = a.known in let a_far = a.far in let b_far = b.far in
       let behind : cursor (seat_of unpinned.view) < h.length - keep = load_again.behind (ap (λ (z : Seat). z.phase) is_missed) in record {
         head = h;
         looked_at = record {
           size = b.size;
           short = b.short;
-          later = omega arith;
-          ended = λ was. let before = a.ended was in let now = b.ended (ap (λ (z : Seat). z.saw_closed) is_missed ∙ before.0) in (now.0, before.1 ∙ sym first_size ∙ sym seen ∙ now.1);
-          far = omega arith;
-          known = b.known;
+          far = λ k had. b.far k (seen_on old.seen unpinned.seen k a.grows had);
+          has = b.has;
           grows = prefix_trans old.seen unpinned.seen next.seen a.grows b.grows;
         };
         behind = omega arith;

@@ -17,7 +17,8 @@ use Rattle.ring_steps.specs.declared.words.Slot.{Slot}
 use Rattle.ring_steps.specs.Bits.{head_bits, word_bits}
 use Rattle.ring_steps.specs.Ring as Ring
 use Rattle.ring_steps.specs.Ring.{cursor, place, slot, word, with_seat, with_slot, fresh_slot}
-use Rattle.ring_steps.specs.Slots.{Invariant, IsHolding}
+use Rattle.ring_steps.specs.Slots.{Invariant, IsHolding, SeatKnows}
+use Rattle.packet_ring.proofs.Ends.{get_with_end, get_without_end}
 use Rattle.ring_steps.specs.Moves.{read_all}
 use Rattle.ring_steps.specs.Step.{with_pins, holds}
 use Rattle.ring_steps.proofs.Places.{at_set, pins_alone, place_within}
@@ -244,7 +245,7 @@ module _ (i : ℕ) (x : Seat) (seen : List (List ℕ)) where
               c,
               own.packet,
               refl,
-              subst (λ (l : List (List ℕ)). slice_get l (cursor x) ≡ Some own.packet) (sym fits.log) own.there,
+              subst (λ (l : List (List ℕ)). slice_get l (cursor x) ≡ Some own.packet) (sym fits.log) (get_with_end s.head.closed s.log (cursor x) own.packet own.there),
               record {
                 size = sym has.0 ∙ own.len;
                 bytes = ap (λ (l : ℕ). take l B) (sym own.len) ∙ sym has.1 ∙ ap (λ (l : ℕ). take l (slot s' j).bytes) own.len ∙ own.bytes;
@@ -355,6 +356,7 @@ module _ (units keep i : ℕ) (size : keep + 2 ≡ units) (x : Seat) (seen : Lis
       → let me : Knows = record { view = inr x; right = may_read its_unit cells; seen = seen } in Allows (Holds L) units (suc i) me its_unit (λ m. (m + (2 ^ 64 - 1)) % 2 ^ 64) (Unpins (took x p) me)
   unpin_allows {L = L} cells p within known t held long rooms at pre small = let s : Ring.State = held.0 in let fits : Fits L s t = held.1 in let many = units_of s t fits units long in let same : s.keep ≡ keep = omega arith in
       let there = seat_there s.seats i x (ap (λ (vs : List View). get_elem? vs (suc i)) (sym fits.views) ∙ at) in
-      let next = subst (λ (l : List (List ℕ)). slice_get l (cursor x) ≡ Some p) fits.log (prefix_get seen t.log (cursor x) p pre known) in
+      let knows = subst (λ (φ : SeatPhase). SeatKnows φ s.keep s.log x) within (fits.sound.phases.knows i x there) in let before = (fits.sound.slots.seen i x there).0 in let here = knows.0 in
+      let next = get_without_end s.head.closed s.log (cursor x) p (omega arith) (subst (λ (l : List (List ℕ)). slice_get l (cursor x) ≡ Some p) fits.log (prefix_get seen t.log (cursor x) p pre known)) in
       subst (λ (k : ℕ). let unit = suc (cursor x % (k + 1)) in let me : Knows = record { view = inr x; right = may_read unit cells; seen = seen } in get_or t.words unit 0 < 2 ^ 64 → Goes (Holds L) t (suc i) me unit (λ m. (m + (2 ^ 64 - 1)) % 2 ^ 64) (Unpins (took x p) me)) same
       (λ low. unpin_goes i x s t fits there seen cells p within next pre low) small

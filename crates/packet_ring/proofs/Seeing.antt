@@ -1,12 +1,11 @@
 -- What a token has seen of the log, as contracts see it.
-use Rattle.std.proofs.Common.{◌≡◌, ◌⊎◌, ℕ, zero, suc, ◌+◌, ◌<◌, ◌≤◌, List, [], ◌∷◌, length, take, refl, sym, ap, ◌∙◌, subst, arith, Option, Some}
+use Rattle.std.proofs.Common.{◌≡◌, ◌⊎◌, ℕ, zero, suc, ◌+◌, ◌^◌, ◌<◌, ◌≤◌, Bool, true, false, List, [], ◌∷◌, ◌++◌, length, take, get_or, refl, sym, ap, ◌∙◌, subst, arith, length-append, Option, Some}
 use Rattle.std.specs.Prelude.{slice_get}
-use Rattle.std.proofs.lemmas.List.{take-append-le, take_all, map-append, length-map, length-take-le}
+use Rattle.std.proofs.lemmas.List.{take-append-le, map-append, length-map, length-take-le}
 use mathlib.Core.Logic.{inl, inr}
 use mathlib.Core.List.{IsPrefix}
-use base.Growing.{prefix_refl}
 use Rattle.cursor.specs.declared.takes.Account.{Account}
-use Rattle.cursor.specs.declared.takes.Delivery.TheVariants.{Got, Lost}
+use Rattle.cursor.specs.declared.takes.Delivery.TheVariants.{Got, Lost, Empty, Ended}
 use Rattle.cursor.specs.Account.{cursor_of}
 use Rattle.cursor.specs.Log.{packet_of}
 use Rattle.ring_steps.specs.declared.words.Head.{Head}
@@ -15,12 +14,15 @@ use Rattle.ring_steps.specs.declared.views.SeatPhase.{SeatPhase}
 use Rattle.ring_steps.specs.declared.views.SeatPhase.TheVariants as seating
 use Rattle.ring_steps.specs.Ring.{cursor}
 use Rattle.packet_ring.specs.Rule.{View}
-use Rattle.packet_ring.specs.Steps.{lost_to, seat_of}
-use Rattle.packet_ring.specs.Tokens.{GotPacket, Looked, LostSome}
-use Rattle.packet_ring.specs.Views.{RingId, IsSeated, IsSubscribed, keep_of, packet_from, packets_from, seen_by, subscribing_of}
-use Rattle.packet_ring.specs.Calls.{IsLongerOf, SeesOn, TakesNext, log_with}
+use Rattle.packet_ring.specs.Steps.{HasSeen, ends_at, lost_to, seat_of}
+use Rattle.packet_ring.specs.Tokens.{FoundNone, GotPacket, Looked, LostSome}
+use Rattle.packet_ring.specs.Views.{RingId, IsReceipted, IsSeated, IsSubscribed, keep_of, packet_from, packets_from, seen_by, subscribing_of}
+use Rattle.packet_ring.specs.Calls.{SeesOn, TakesNext, log_with}
 use Rattle.packet_ring.specs.declared.block.Token.{Token}
 use Rattle.packet_ring.proofs.Pinned.{or_packet}
+use mathlib.Core.Logic.{dite}
+use native.Mathlib.Decide.{dec_lt}
+use Rattle.packet_ring.proofs.Ends.{ended_within, ends_on, ends_with, last_of, or_prefix, seen_on}
 
 -- a list begins with what its beginnings begin with
 pub take_of_prefix : (xs ys : List (List ℕ)) (k : ℕ) → IsPrefix xs ys → k ≤ length xs → take k ys ≡ take k xs
@@ -35,32 +37,20 @@ takes_begin (suc a) (suc b) (x ∷ xs) le = let r = takes_begin a b xs (omega ar
 pub packets_begin : (xs ys : List (List ℕ)) → IsPrefix xs ys → IsPrefix (packets_from xs) (packets_from ys)
 packets_begin xs ys pre = (packets_from pre.0, sym (map-append packet_from xs pre.0) ∙ ap packets_from pre.1)
 
--- a call's last load sees on from what its token knew
-pub sees : (z : RingId) (t t' : Token) (phase : SeatPhase) (known seen : ℕ) (head : Head) → IsSeated z t phase known → Looked head seen (seat_of t.me.view) t.me t'.me → (seat_of t'.me.view).saw_closed ≡ head.closed
-    → SeesOn (seen_by t known) (seat_of t.me.view).saw_closed (seen_by t' seen) (seat_of t'.me.view).saw_closed
-sees z t t' phase known seen head is look mark = let a = is.has in let b = look.far in let c = is.later in let same : take known t'.me.seen ≡ take known t.me.seen = take_of_prefix t.me.seen t'.me.seen known look.grows is.has in record {
-  grows = packets_begin (take known t.me.seen) (take seen t'.me.seen) (subst (λ (l : List (List ℕ)). IsPrefix l (take seen t'.me.seen)) same (takes_begin known seen t'.me.seen (omega arith)));
-  ended = λ was. let now = look.ended was in let d = now.1 in let e : seen ≡ known = omega arith in (ap (λ (k : ℕ). packets_from (take k t'.me.seen)) e ∙ ap packets_from same, mark ∙ now.0);
+-- what a token saw to this place, and sees to that place now
+pub sees_on : (xs ys : List (List ℕ)) (k n : ℕ) → IsPrefix xs ys → HasSeen k xs → HasSeen n ys → k ≤ n → SeesOn (packets_from (take k xs)) (ends_at xs k) (packets_from (take n ys)) (ends_at ys n)
+sees_on xs ys k n pre had has le = let same : take k ys ≡ take k xs = take_of_prefix xs ys k pre had.within in record {
+  grows = packets_begin (take k xs) (take n ys) (subst (λ (l : List (List ℕ)). IsPrefix l (take n ys)) same (takes_begin k n ys le));
+  ended = λ was. let most = ended_within xs ys k n pre was has in let e : n ≡ k = omega arith in (ap (λ (m : ℕ). packets_from (take m ys)) e ∙ ap packets_from same, ap (ends_at ys) e ∙ ends_on xs ys k pre was);
 }
 
--- of two beginnings of one list, cut at their lengths
-pub longer_of : (xs : List (List ℕ)) (a b c : ℕ) → (a ≤ b) × (c ≡ b) ⊎ (b ≤ a) × (c ≡ a) → IsLongerOf (packets_from (take a xs)) (packets_from (take b xs)) (packets_from (take c xs))
-longer_of xs a b c (inl le) = let e : b ≡ c = sym le.1 in subst (λ (k : ℕ). IsLongerOf (packets_from (take a xs)) (packets_from (take b xs)) (packets_from (take k xs))) e
-    (record { first = packets_begin (take a xs) (take b xs) (takes_begin a b xs le.0); second = packets_begin (take b xs) (take b xs) (prefix_refl (take b xs)); one = inr refl })
-longer_of xs a b c (inr le) = let e : a ≡ c = sym le.1 in subst (λ (k : ℕ). IsLongerOf (packets_from (take a xs)) (packets_from (take b xs)) (packets_from (take k xs))) e
-    (record { first = packets_begin (take a xs) (take a xs) (prefix_refl (take a xs)); second = packets_begin (take b xs) (take a xs) (takes_begin b a xs le.0); one = inl refl })
+-- a call's last load sees on from what its token knew
+pub sees : (z : RingId) (t t' : Token) (phase : SeatPhase) (known seen : ℕ) (head : Head) → IsSeated z t phase known → Looked head seen t.me t'.me → SeesOn (seen_by t known) (ends_at t.me.seen known) (seen_by t' seen) (ends_at t'.me.seen seen)
+sees z t t' phase known seen head is look = sees_on t.me.seen t'.me.seen known seen look.grows is.has look.has (look.far known is.has)
 
--- two beginnings of one list, each the first packets of what was seen
-pub longer_seen : (xs us ws : List (List ℕ)) (a b c : ℕ) → IsPrefix us xs → a ≤ length us → IsPrefix ws xs → b ≤ length ws → (a ≤ b) × (c ≡ b) ⊎ (b ≤ a) × (c ≡ a)
-    → IsLongerOf (packets_from (take a us)) (packets_from (take b ws)) (packets_from (take c xs))
-longer_seen xs us ws a b c first in_first second in_second which =
-    subst (λ (u : List (List ℕ) × List (List ℕ)). IsLongerOf (packets_from u.0) (packets_from u.1) (packets_from (take c xs))) (λ i. (take_of_prefix us xs a first in_first i, take_of_prefix ws xs b second in_second i)) (longer_of xs a b c which)
-
--- a token that learned a log
-pub learns_log : (xs us log : List (List ℕ)) (a b c : ℕ) → IsPrefix us xs → a ≤ length us → IsPrefix log xs → b ≡ length log → (a ≤ b) × (c ≡ b) ⊎ (b ≤ a) × (c ≡ a)
-    → IsLongerOf (packets_from (take a us)) (packets_from log) (packets_from (take c xs))
-learns_log xs us log a b c first in_first second all which =
-    subst (λ (l : List (List ℕ)). IsLongerOf (packets_from (take a us)) (packets_from l) (packets_from (take c xs))) (take_all b log (omega arith)) (longer_seen xs us log a b c first in_first second (omega arith) which)
+-- the same packets, after a token knows more
+pub same_seen : (xs ys : List (List ℕ)) (k : ℕ) → IsPrefix xs ys → HasSeen k xs → packets_from (take k ys) ≡ packets_from (take k xs)
+same_seen xs ys k pre had = ap packets_from (take_of_prefix xs ys k pre had.within)
 
 get_begin : (xs : List (List ℕ)) (k n : ℕ) (p : List ℕ) → slice_get xs n ≡ Some p → n < k → slice_get (packets_from (take k xs)) n ≡ Some (packet_from p)
 get_begin xs zero n p at lt = absurd (omega arith)
@@ -81,34 +71,67 @@ module _ (z : RingId) (t t' : Token) (known seen keep : ℕ) (a : Account) (is :
   -- a take that gave a packet
   pub takes_packet : (n tag len : ℕ) (buf : List ℕ) → n ≡ cursor x → GotPacket keep seen x (tag ∷ take len buf) t.me t'.me
       → TakesNext (subscribing_of t known a) (Got n (packet_of tag (take len buf))) (subscribing_of t' seen (record a { taken = a.taken + 1 }))
-  takes_packet n tag len buf at got = let p : List ℕ = tag ∷ take len buf in let c = at_cursor in let many : length (seen_by t' seen) ≡ seen = seen_size t'.me.seen seen got.looked_at.known in let kept = got.kept in
+  takes_packet n tag len buf at got = let p : List ℕ = tag ∷ take len buf in let c = at_cursor in let many : length (seen_by t' seen) ≡ seen = seen_size t'.me.seen seen got.looked_at.has.within in let kept = got.kept in
       let next : cursor_of (record a { taken = a.taken + 1 }) ≡ n + 1 = omega arith in record {
         event = (
           ap (λ (k : ℕ). Some (Some k)) (sym c ∙ sym at),
           (let e = sized in omega arith),
           ap (λ (k : ℕ). slice_get (seen_by t' seen) k) at ∙ get_begin t'.me.seen seen (cursor x) p got.at got.there,
-          ap (λ (k : ℕ). log_with (seen_by t' seen) (seat_of t'.me.view).saw_closed k) next,
+          ap (λ (k : ℕ). log_with (seen_by t' seen) (ends_at t'.me.seen seen) k) next,
         );
         counts = (at ∙ c, refl);
-        sees = sees z t t' seating.Between known seen got.head is.seated got.looked_at (ap (λ (v : View). (seat_of v).saw_closed) got.view);
+        sees = sees z t t' seating.Between known seen got.head is.seated got.looked_at;
         loads = ap (λ (v : View). (seat_of v).loads) got.view;
         ring = same;
       }
 
   -- a take that lost packets
   pub takes_lost : (count : ℕ) → LostSome keep count seen x t.me t'.me → TakesNext (subscribing_of t known a) (Lost count) (subscribing_of t' seen (record a { lost = a.lost + count }))
-  takes_lost count lost = let c = at_cursor in let many : length (seen_by t' seen) ≡ seen = seen_size t'.me.seen seen lost.looked_at.known in let behind = lost.behind in let by = lost.lost in let e = sized in
+  takes_lost count lost = let c = at_cursor in let many : length (seen_by t' seen) ≡ seen = seen_size t'.me.seen seen lost.looked_at.has.within in let behind = lost.behind in let by = lost.lost in let e = sized in
       let next : cursor_of (record a { lost = a.lost + count }) ≡ cursor_of a + count = omega arith in record {
-        event = (cursor_of a, refl, omega arith, omega arith, ap (λ (k : ℕ). log_with (seen_by t' seen) (seat_of t'.me.view).saw_closed k) next);
+        event = (cursor_of a, refl, omega arith, omega arith, ap (λ (k : ℕ). log_with (seen_by t' seen) (ends_at t'.me.seen seen) k) next);
         counts = refl;
-        sees = sees z t t' seating.Between known seen lost.head is.seated lost.looked_at (mark lost.view);
+        sees = sees z t t' seating.Between known seen lost.head is.seated lost.looked_at;
         loads = loaded lost.view;
         ring = same;
       } where
-        mark : (t'.me.view ≡ inr (lost_to lost.head x count)) ⊎ (t'.me.view ≡ inr (lost_to lost.head (record x { loads = x.loads + 1 }) count)) → (seat_of t'.me.view).saw_closed ≡ lost.head.closed
-        mark (inl v) = ap (λ (w : View). (seat_of w).saw_closed) v
-        mark (inr v) = ap (λ (w : View). (seat_of w).saw_closed) v
-
         loaded : (t'.me.view ≡ inr (lost_to lost.head x count)) ⊎ (t'.me.view ≡ inr (lost_to lost.head (record x { loads = x.loads + 1 }) count)) → ((seat_of t'.me.view).loads ≡ x.loads + 1) ⊎ ((seat_of t'.me.view).loads ≡ x.loads + 2)
         loaded (inl v) = inl (ap (λ (w : View). (seat_of w).loads) v)
         loaded (inr v) = inr (ap (λ (w : View). (seat_of w).loads) v ∙ (let r : x.loads + 1 + 1 ≡ x.loads + 2 = omega arith in r))
+
+-- a take that found no further packet
+module _ (z : RingId) (t t' : Token) (known seen : ℕ) (a : Account) (is : IsSubscribed z t known a) (same : t'.id ≡ t.id) where
+  found_end : (closed : Bool) → FoundNone closed seen (seat_of t.me.view) t.me t'.me → Some (Some (cursor_of a)) ≡ Some (Some (length (seen_by t' seen)))
+  found_end closed none = let c : cursor (seat_of t.me.view) ≡ cursor_of a = ap cursor_of is.account in let many : length (seen_by t' seen) ≡ seen = seen_size t'.me.seen seen none.looked_at.has.within in
+      let ends = none.ends in ap (λ (k : ℕ). Some (Some k)) (let e : cursor_of a ≡ length (seen_by t' seen) = omega arith in e)
+
+  pub takes_empty : FoundNone false seen (seat_of t.me.view) t.me t'.me → TakesNext (subscribing_of t known a) Empty (subscribing_of t' seen a)
+  takes_empty none = record { event = (found_end false none, none.mark, refl); counts = refl; sees = sees z t t' seating.Between known seen none.head is.seated none.looked_at; loads = ap (λ (v : View). (seat_of v).loads) none.view; ring = same }
+
+  pub takes_ended : FoundNone true seen (seat_of t.me.view) t.me t'.me → TakesNext (subscribing_of t known a) Ended (subscribing_of t' seen a)
+  takes_ended none = record { event = (found_end true none, none.mark, refl); counts = refl; sees = sees z t t' seating.Between known seen none.head is.seated none.looked_at; loads = ap (λ (v : View). (seat_of v).loads) none.view; ring = same }
+
+-- the logs that a publisher tells by its receipts
+pub more_published : (log : List (List ℕ)) (p : List ℕ) (count : ℕ) → count ≡ length log → HasSeen count log → 1 ≤ length p → HasSeen (count + 1) (log ++ p ∷ [])
+more_published log p count all has some = let a = length-append log (p ∷ []) in let in_log = has.within in record {
+  within = omega arith;
+  full = λ n l. dite (dec_lt n count)
+      (λ old. subst (λ (q : List ℕ). 1 ≤ length q) (sym (or_prefix log (log ++ p ∷ []) n (p ∷ [], refl) (omega arith))) (has.full n old))
+      (λ new. let e : n ≡ length log = omega arith in subst (λ (q : List ℕ). 1 ≤ length q) (sym (ap (λ (k : ℕ). get_or (log ++ p ∷ []) k []) e ∙ last_of log p)) some);
+}
+
+pub open_receipt : (log : List (List ℕ)) (p : List ℕ) (count : ℕ) (told : List (List ℕ)) → count ≡ length log → HasSeen count log → 1 ≤ length p → count < 2 ^ 46 → told ≡ log ++ p ∷ [] → IsReceipted told (count + 1) false
+open_receipt log p count told all has some few is = let a = length-append log (p ∷ []) in let size : count + 1 ≡ length (log ++ p ∷ []) = omega arith in record {
+  has = subst (HasSeen (count + 1)) (sym is) (more_published log p count all has some);
+  some = λ _. omega arith;
+  few = omega arith;
+  mark = (λ i. ends_at (is i) (size i)) ∙ ends_with false (log ++ p ∷ []);
+}
+
+pub closed_receipt : (log : List (List ℕ)) (count : ℕ) (told : List (List ℕ)) → count ≡ length log → HasSeen count log → count ≤ 2 ^ 46 → told ≡ log ++ [] ∷ [] → IsReceipted told count true
+closed_receipt log count told all has few is = record {
+  has = subst (HasSeen count) (sym is) (seen_on log (log ++ [] ∷ []) count ([] ∷ [], refl) has);
+  some = λ e. absurd (cc);
+  few = few;
+  mark = (λ i. ends_at (is i) (all i)) ∙ ends_with true log;
+}

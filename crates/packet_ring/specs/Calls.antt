@@ -18,12 +18,6 @@ pub record SeesOn (seen : List Packet) (closed : Bool) (seen' : List Packet) (cl
   pub grows : IsPrefix seen seen'
   pub ended : closed ≡ true → (seen' ≡ seen) × (closed' ≡ true)
 
--- of two beginnings of one log, the longer, which the other begins
-pub record IsLongerOf (a b longer : List Packet) : Type 0 where
-  pub first : IsPrefix a longer
-  pub second : IsPrefix b longer
-  pub one : (longer ≡ a) ⊎ (longer ≡ b)
-
 -- the broadcast log of these packets, with one seat, which is at this cursor
 abbrev pub log_with : List Packet → (closed : Bool) → (cursor : ℕ) → Log
 log_with packets closed c = record { packets = packets; closed = closed; cursors = Some c ∷ [] }

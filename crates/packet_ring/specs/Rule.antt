@@ -1,6 +1,6 @@
 -- What holds of the block between any two steps: its words, and the views of its tokens, are those of a
 -- state of the ring that has the invariant.
-use Rattle.std.specs.Prelude.{◌≡◌, ◌⊎◌, ℕ, ◌+◌, ◌/◌, ◌%◌, ◌^◌, ◌==◌, ◌<◌, ◌≤◌, true, false, List, [], ◌∷◌, ◌++◌, map, length, take, drop, slice_index_or, replicate, if◌then◌else◌}
+use Rattle.std.specs.Prelude.{◌≡◌, ◌⊎◌, ℕ, ◌+◌, ◌/◌, ◌%◌, ◌^◌, ◌==◌, ◌<◌, ◌≤◌, Bool, true, false, List, [], ◌∷◌, ◌++◌, map, length, take, drop, slice_index_or, replicate, if◌then◌else◌}
 use mathlib.Core.Logic.{inl, inr}
 use base.Stored.{Coded, coded×, coded⊎, coded_ℕ, coded_list, coded_via}
 use Rattle.ring_steps.specs.declared.views.Publisher.{Publisher}
@@ -91,6 +91,11 @@ IsPending m φ p = IsSized m p
 abbrev pub Limits : Type 0
 Limits = ℕ × ℕ
 
+-- the log as tokens know it: its packets, and after them, once it is closed, an empty one, as no packet is
+abbrev pub with_end : (closed : Bool) → List (List ℕ) → List (List ℕ)
+with_end false log = log
+with_end true log = log ++ [] ∷ []
+
 -- the block is in this state of the ring
 pub record Fits (L : Limits) (s : Ring.State) (t : State View (List ℕ)) : Type 0 where
   pub sound : Invariant s
@@ -101,7 +106,7 @@ pub record Fits (L : Limits) (s : Ring.State) (t : State View (List ℕ)) : Type
   pub short : length s.log ≤ 2 ^ 46
   pub words : t.words ≡ words_of s
   pub views : t.views ≡ views_of s
-  pub log : t.log ≡ s.log
+  pub log : t.log ≡ with_end s.head.closed s.log
   pub homes : (j : ℕ) → j ≤ s.keep → HomeFits s j (slice_index_or t.homes (Prim.Native.Nat.suc j) away)
 
 abbrev pub Holds : Limits → State View (List ℕ) → Type 0

@@ -1,5 +1,5 @@
 -- What each kind of atomic step tells the token that makes it.
-use Rattle.std.specs.Prelude.{◌≡◌, ◌≢◌, ℕ, ◌≤◌, ◌<◌, ◌+◌, ◌-◌, ◌^◌, ◌==◌, false, true, nat_lt, List, [], ◌∷◌, ◌++◌, length, take, drop, Some, slice_get, slice_index_or, if◌then◌else◌}
+use Rattle.std.specs.Prelude.{◌≡◌, ◌≢◌, ℕ, ◌≤◌, ◌<◌, ◌+◌, ◌-◌, ◌^◌, ◌==◌, Bool, false, true, nat_lt, List, [], ◌∷◌, ◌++◌, length, take, drop, Some, slice_get, slice_index_or, if◌then◌else◌}
 use mathlib.Core.Logic.{inl, inr}
 use mathlib.Core.List.{IsPrefix}
 use Rattle.ring_steps.specs.declared.words.Head.{Head}
@@ -14,7 +14,7 @@ use Rattle.ring_steps.specs.Bits.{head_bits, word_bits}
 use Rattle.ring_steps.specs.Ring.{cursor, new_publisher, new_seat}
 use Rattle.ring_steps.specs.Step.{holds}
 use Rattle.packet_ring.specs.Table.{Right, no_right, may_read, may_end, may_write}
-use Rattle.packet_ring.specs.Rule.{IsSized, Knows, Limits, View, bytes_of}
+use Rattle.packet_ring.specs.Rule.{IsSized, Knows, Limits, View, bytes_of, with_end}
 
 -- a slot's word with the writing bit alone, and with the number 1 alone
 abbrev pub writing_bit : ℕ
@@ -39,14 +39,14 @@ pub record Loads (keep : ℕ) (f : Head → Seat → Seat) (x : Seat) (me : Know
   pub head : Head
   pub bits : found ≡ head_bits head
   pub short : head.length ≤ 2 ^ 46
-  -- the log that the seat saw before was no longer, and is this one if it was closed
-  pub later : x.seen ≤ head.length
-  pub ended : x.saw_closed ≡ true → (head.closed ≡ true) × (x.seen ≡ head.length)
   -- after a pin that failed, the packet at the cursor is no longer kept
   pub behind : x.phase ≡ seating.Missed → cursor x < head.length - keep
   pub view : next.view ≡ inr (f head x)
   pub right : next.right ≡ me.right
-  pub size : length next.seen ≡ head.length
+  pub log : List (List ℕ)
+  pub size : length log ≡ head.length
+  pub full : (n : ℕ) → n < length log → 1 ≤ length (slice_index_or log n [])
+  pub seen : next.seen ≡ with_end head.closed log
   pub grows : IsPrefix me.seen next.seen
 
 -- an append by the publisher: its log grows by the pending packet, and it has seen the whole of it
@@ -59,7 +59,19 @@ pub record Appends (log : List (List ℕ)) (p : Publisher) (me : Knows) (stored 
 pub record Closes (log : List (List ℕ)) (p : Publisher) (me : Knows) (stored : ℕ) (next : Knows) : Type 0 where
   pub view : next.view ≡ inl (log, record p { closed = true })
   pub right : next.right ≡ me.right
-  pub seen : next.seen ≡ log
+  pub seen : next.seen ≡ log ++ [] ∷ []
+
+-- so many packets were seen, none of which is empty
+pub record HasSeen (count : ℕ) (seen : List (List ℕ)) : Type 0 where
+  pub within : count ≤ length seen
+  pub full : (n : ℕ) → n < count → 1 ≤ length (slice_index_or seen n [])
+
+-- what was seen has the log's end after so many packets
+abbrev pub ends_at : (seen : List (List ℕ)) → (count : ℕ) → Bool
+ends_at [] k = false
+ends_at ([] ∷ xs) Prim.Native.Nat.zero = true
+ends_at ((b ∷ p) ∷ xs) Prim.Native.Nat.zero = false
+ends_at (x ∷ xs) (Prim.Native.Nat.suc k) = ends_at xs k
 
 -- the cells hold a packet: its length, and its bytes
 pub record HasPacket (cells packet : List ℕ) : Type 0 where

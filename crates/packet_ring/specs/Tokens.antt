@@ -10,7 +10,7 @@ use Rattle.ring_steps.specs.Ring.{cursor}
 use Rattle.ring_steps.specs.declared.views.PublisherPhase.TheVariants as publishing
 use Rattle.packet_ring.specs.Table.{no_right}
 use Rattle.packet_ring.specs.Rule.{Knows}
-use Rattle.packet_ring.specs.Steps.{log_of, publisher_of, seat_of, looked, lost_to, took}
+use Rattle.packet_ring.specs.Steps.{HasSeen, ends_at, log_of, publisher_of, seat_of, looked, lost_to, took}
 
 -- a publish: the publisher's log has this packet more, of which it wrote each byte, and it is between calls
 pub record Published (packet : List ℕ) (me next : Knows) : Type 0 where
@@ -26,21 +26,19 @@ pub record Pinned (seats pins : ℕ) (me next : Knows) : Type 0 where
   pub few : pins ≤ seats
   pub grows : IsPrefix me.seen next.seen
 
--- a call of a seat whose last load saw this head, over a log of so many packets: all that the token had seen
--- begins that log, and a log that it saw closed is still that log, closed
-pub record Looked (head : Head) (seen : ℕ) (x : Seat) (me next : Knows) : Type 0 where
+-- a call of a seat whose last load saw this head, over a log of so many packets: no more were seen before,
+-- and so many are seen now
+pub record Looked (head : Head) (seen : ℕ) (me next : Knows) : Type 0 where
   pub size : head.length ≡ seen
   pub short : seen ≤ 2 ^ 46
-  pub later : x.seen ≤ seen
-  pub ended : x.saw_closed ≡ true → (head.closed ≡ true) × (x.seen ≡ seen)
-  pub far : length me.seen ≤ seen
-  pub known : seen ≤ length next.seen
+  pub far : (k : ℕ) → HasSeen k me.seen → k ≤ seen
+  pub has : HasSeen seen next.seen
   pub grows : IsPrefix me.seen next.seen
 
 -- a take that gave this packet, of which the take's one load saw that it is there and is kept
 pub record GotPacket (keep seen : ℕ) (x : Seat) (packet : List ℕ) (me next : Knows) : Type 0 where
   pub head : Head
-  pub looked_at : Looked head seen x me next
+  pub looked_at : Looked head seen me next
   pub kept : seen - keep ≤ cursor x
   pub there : cursor x < seen
   pub at : slice_get next.seen (cursor x) ≡ Some packet
@@ -50,16 +48,16 @@ pub record GotPacket (keep seen : ℕ) (x : Seat) (packet : List ℕ) (me next :
 -- a take that found no further packet in a log that was closed, or open
 pub record FoundNone (closed : Bool) (seen : ℕ) (x : Seat) (me next : Knows) : Type 0 where
   pub head : Head
-  pub looked_at : Looked head seen x me next
+  pub looked_at : Looked head seen me next
   pub ends : seen ≡ cursor x
-  pub mark : head.closed ≡ closed
+  pub mark : ends_at next.seen seen ≡ closed
   pub view : next.view ≡ inr (looked head x)
   pub right : next.right ≡ no_right
 
 -- a take that lost so many packets, at least one: by its one load, or by its second one after a pin that failed
 pub record LostSome (keep count seen : ℕ) (x : Seat) (me next : Knows) : Type 0 where
   pub head : Head
-  pub looked_at : Looked head seen x me next
+  pub looked_at : Looked head seen me next
   pub behind : cursor x < seen - keep
   pub lost : count ≡ seen - keep - cursor x
   pub view : (next.view ≡ inr (lost_to head x count)) ⊎ (next.view ≡ inr (lost_to head (record x { loads = x.loads + 1 }) count))

@@ -9,7 +9,7 @@ use Rattle.ring_steps.specs.declared.views.SeatPhase.{SeatPhase}
 use Rattle.ring_steps.specs.declared.views.SeatPhase.TheVariants as seating
 use Rattle.packet_ring.specs.Table.{no_right}
 use Rattle.packet_ring.specs.Lent.{BlockId}
-use Rattle.packet_ring.specs.Steps.{IsPublisher, IsSeat, log_of, publisher_of, seat_of}
+use Rattle.packet_ring.specs.Steps.{HasSeen, IsPublisher, IsSeat, ends_at, log_of, publisher_of, seat_of}
 use Rattle.packet_ring.specs.declared.block.Token.{Token}
 
 -- which ring it is
@@ -63,8 +63,8 @@ receipted z log closed = record { ring = z; log = log; closed = closed }
 abbrev pub number_of : Receipted → ℕ
 number_of r = if r.closed then length r.log else length r.log - 1
 
--- a pass: its ring, the longest log that it has seen or was told of, whether its last load saw that closed, and
--- how many loads its seat made
+-- a pass: its ring, the longest log that it has seen or was told of, whether that is closed, and how many loads
+-- its seat made
 pub record Passing : Type 0 where
   pub ring : RingId
   pub seen : List Packet
@@ -79,15 +79,19 @@ pub record Subscribing : Type 0 where
   pub loads : ℕ
   pub account : Account
 
+-- the receipt of what was told: so many packets
+abbrev pub receipt_of : RingId → (log : List (List ℕ)) → (count : ℕ) → (closed : Bool) → Receipted
+receipt_of z log count closed = receipted z (packets_from (take count log)) closed
+
 -- the first `known` packets that a token has seen
 abbrev pub seen_by : Token → (known : ℕ) → List Packet
 seen_by t known = packets_from (take known t.me.seen)
 
 abbrev pub passing_of : Token → (known : ℕ) → Passing
-passing_of t known = record { ring = t.id; seen = seen_by t known; closed = (seat_of t.me.view).saw_closed; loads = (seat_of t.me.view).loads }
+passing_of t known = record { ring = t.id; seen = seen_by t known; closed = ends_at t.me.seen known; loads = (seat_of t.me.view).loads }
 
 abbrev pub subscribing_of : Token → (known : ℕ) → Account → Subscribing
-subscribing_of t known a = record { ring = t.id; seen = seen_by t known; closed = (seat_of t.me.view).saw_closed; loads = (seat_of t.me.view).loads; account = a }
+subscribing_of t known a = record { ring = t.id; seen = seen_by t known; closed = ends_at t.me.seen known; loads = (seat_of t.me.view).loads; account = a }
 
 -- a pass that did nothing yet
 abbrev pub new_pass : RingId → Passing
@@ -101,15 +105,15 @@ pub record IsPublishing (z : RingId) (t : Token) (count : ℕ) : Type 0 where
   pub goes_on : (publisher_of t.me.view).closed ≡ false
   pub counted : count ≡ length (log_of t.me.view)
   pub few : count ≤ 2 ^ 46
+  pub full : HasSeen count (log_of t.me.view)
 
 -- a token of this ring is a seat's, in this phase, and knows of so many packets
 pub record IsSeated (z : RingId) (t : Token) (phase : SeatPhase) (known : ℕ) : Type 0 where
   pub same : t.id ≡ z
   pub seat : IsSeat t.number t.me phase
   pub free : t.me.right ≡ no_right
-  pub has : known ≤ length t.me.seen
+  pub has : HasSeen known t.me.seen
   pub short : known ≤ 2 ^ 46
-  pub later : (seat_of t.me.view).seen ≤ known
 
 -- such a token is attached, with this account
 pub record IsSubscribed (z : RingId) (t : Token) (known : ℕ) (a : Account) : Type 0 where
@@ -117,11 +121,12 @@ pub record IsSubscribed (z : RingId) (t : Token) (known : ℕ) (a : Account) : T
   pub account : (seat_of t.me.view).account ≡ a
   pub within : cursor_of a ≤ known
 
--- a log that was told has so many packets, the last of which is a receipt's, or is closed
+-- a log that was told has so many packets, the last of which is a receipt's, or it is closed after them
 pub record IsReceipted (log : List (List ℕ)) (count : ℕ) (closed : Bool) : Type 0 where
-  pub counted : count ≡ length log
+  pub has : HasSeen count log
   pub some : closed ≡ false → 1 ≤ count
   pub few : count ≤ 2 ^ 46
+  pub mark : ends_at log count ≡ closed
 
 -- a block's sizes: what it keeps, how many cells a unit has, and how many bytes a packet at most
 pub record HasSizes (z : RingId) (keep width packet_bytes : ℕ) : Type 0 where

@@ -1,5 +1,5 @@
 //! The steps on the head: each is one step of the ring's core.
-ghost use Rattle.core.specs.Prelude.{◌≡◌, ◌+◌, ◌-◌, ◌*◌, ◌<◌, ◌^◌, length};
+ghost use Rattle.core.specs.Prelude.{◌≡◌, ◌+◌, ◌-◌, ◌*◌, ◌<◌, ◌^◌, false, length};
 ghost use Rattle.ring_steps.specs.declared.views.PublisherPhase.TheVariants as publishing;
 ghost use Rattle.ring_steps.specs.declared.views.SeatPhase.TheVariants as seating;
 ghost use Rattle.packet_ring.specs.Steps.{Appends, Closes, IsPublisher, IsSeat, Loads, attached, detached, first_seen, log_of, publisher_of, seat_of, second_seen};
@@ -96,7 +96,7 @@ pub(crate) fn append(block: &Shared, token: &mut Token, len: u64)
 /// The store of a close, of the head with its closed bit.
 pub(crate) fn close(block: &Shared, token: &mut Token, len: u64)
     requires same { (token.old.id ≡ block.now.id) × (0 < block.now.id.units) }
-    requires publisher { IsPublisher token.old.number token.old.me publishing.Between }
+    requires publisher { IsPublisher token.old.number token.old.me publishing.Between × ((publisher_of token.old.me.view).closed ≡ false) }
     requires len { (len ≡ length (log_of token.old.me.view)) × (len < 2 ^ 47) }
     ensures same { (token.new.id ≡ token.old.id) × (token.new.number ≡ token.old.number) }
     ensures step { Closes (log_of token.old.me.view) (publisher_of token.old.me.view) token.old.me (2 * len + 1) token.new.me }

@@ -1,8 +1,8 @@
 //! Seats of a ring that nobody reads from, and how a seat is attached.
-ghost use Rattle.std.specs.Prelude.{◌≡◌, ◌+◌, ◌*◌, ◌^◌, ◌<◌, ◌≤◌, length};
+ghost use Rattle.std.specs.Prelude.{◌≡◌, ◌⊎◌, ◌+◌, ◌*◌, ◌^◌, ◌<◌, ◌≤◌, length};
 ghost use Rattle.std.specs.Arc.{arc_value};
 ghost use Rattle.ring_steps.specs.declared.views.SeatPhase.TheVariants as seating;
-ghost use Rattle.packet_ring.specs.Calls.{IsLongerOf, SeesOn};
+ghost use Rattle.packet_ring.specs.Calls.{SeesOn};
 ghost use Rattle.packet_ring.specs.Views.{IsSeated, Passing, passing_of};
 
 use crate::allocated::Block;
@@ -59,11 +59,13 @@ impl Pass {
         }
     }
 
-    /// The seat knows of the receipt's log, too. Makes no load.
+    /// The seat knows of the receipt's log, too, and whether that is closed. Makes no load.
     pub fn learn(&mut self, receipt: &Receipt)
         requires ring { receipt.now.ring ≡ self.old.ring }
-        ensures same { self.new ≡ record self.old { seen = self.new.seen } }
-        ensures longer { IsLongerOf self.old.seen receipt.now.log self.new.seen }
+        ensures same { self.new ≡ record self.old { seen = self.new.seen; closed = self.new.closed } }
+        ensures own { SeesOn self.old.seen self.old.closed self.new.seen self.new.closed }
+        ensures told { SeesOn receipt.now.log receipt.now.closed self.new.seen self.new.closed }
+        ensures one { (self.new.seen ≡ self.old.seen) ⊎ (self.new.seen ≡ receipt.now.log) }
     {
         self.token.learn(&receipt.told);
         if self.known < receipt.length {

@@ -1,7 +1,7 @@
 //! The publisher of a ring.
 ghost use Rattle.std.specs.Prelude.{◌≡◌, ◌↔◌, ◌+◌, ◌*◌, ◌^◌, ◌<◌, ◌≤◌, true, false, length, IfOk, IfErr, IsErrOf};
 ghost use Rattle.std.specs.Arc.{arc_value};
-ghost use Rattle.cursor.specs.declared.refusals.Refused.TheVariants.{TooLong};
+ghost use Rattle.cursor.specs.declared.refusals.Refused.TheVariants.{TooLong, Worn};
 ghost use Rattle.cursor.specs.Log.{packet_of};
 ghost use Rattle.packet_ring.specs.Calls.{AppendsTo, Refuses};
 ghost use Rattle.packet_ring.specs.Views.{IsPublishing, Publishing, packet_bytes_of, publishing_of, receipted};
@@ -45,6 +45,7 @@ impl Publisher {
         ensures appended { IfOk result (λ _. AppendsTo self.old (packet_of tag bytes.now) self.new) }
         ensures receipt { IfOk result (λ r. r ≡ receipted self.new.ring self.new.log false) }
         ensures refused { IfErr result (λ refused. Refuses self.old (packet_of tag bytes.now) refused self.new) }
+        ensures worn { IsErrOf result Worn ↔ ((length bytes.now ≤ packet_bytes_of self.old.ring) × (length self.old.log ≡ 2 ^ 46)) }
         ensures too_long { IsErrOf result TooLong ↔ (packet_bytes_of self.old.ring < length bytes.now) }
     {
         let block: &Block = &self.ring;

@@ -1,6 +1,6 @@
 //! What a publisher gives its callers for each packet.
 ghost use Rattle.std.specs.Prelude.{◌≡◌, ◌+◌, ◌^◌, ◌<◌, ◌≤◌, length};
-ghost use Rattle.packet_ring.specs.Views.{IsReceipted, Receipted, number_of, receipted, packets_from};
+ghost use Rattle.packet_ring.specs.Views.{IsReceipted, Receipted, number_of, receipt_of};
 
 use crate::reached::Reached;
 use std::marker::Model;
@@ -16,7 +16,7 @@ pub struct Receipt {
 impl Model for Receipt {
     ghost Value = { Receipted };
 
-    ghost view = { λ r. receipted r.told.id (packets_from r.told.log) r.closed };
+    ghost view = { λ r. receipt_of r.told.id r.told.log r.length r.closed };
 
     ghost invariant = { λ r. IsReceipted r.told.log r.length r.closed };
 }

@@ -1,8 +1,8 @@
 //! Seats that are attached, and read from the ring.
-ghost use Rattle.std.specs.Prelude.{◌≡◌, ◌+◌, ◌*◌, ◌^◌, ◌<◌, ◌≤◌, length};
+ghost use Rattle.std.specs.Prelude.{◌≡◌, ◌⊎◌, ◌+◌, ◌*◌, ◌^◌, ◌<◌, ◌≤◌, length};
 ghost use Rattle.std.specs.Arc.{arc_value};
 ghost use Rattle.cursor.specs.Account.{cursor_of};
-ghost use Rattle.packet_ring.specs.Calls.{IsLongerOf, SeesOn, TakesNext};
+ghost use Rattle.packet_ring.specs.Calls.{SeesOn, TakesNext};
 ghost use Rattle.packet_ring.specs.Views.{IsSubscribed, Subscribing, packet_bytes_of, subscribing_of};
 
 use crate::allocated::Block;
@@ -60,11 +60,13 @@ impl Subscriber {
         (Pass { ring, token, known }, left)
     }
 
-    /// The seat knows of the receipt's log, too. Makes no load.
+    /// The seat knows of the receipt's log, too, and whether that is closed. Makes no load.
     pub fn learn(&mut self, receipt: &Receipt)
         requires ring { receipt.now.ring ≡ self.old.ring }
-        ensures same { self.new ≡ record self.old { seen = self.new.seen } }
-        ensures longer { IsLongerOf self.old.seen receipt.now.log self.new.seen }
+        ensures same { self.new ≡ record self.old { seen = self.new.seen; closed = self.new.closed } }
+        ensures own { SeesOn self.old.seen self.old.closed self.new.seen self.new.closed }
+        ensures told { SeesOn receipt.now.log receipt.now.closed self.new.seen self.new.closed }
+        ensures one { (self.new.seen ≡ self.old.seen) ⊎ (self.new.seen ≡ receipt.now.log) }
     {
         self.token.learn(&receipt.told);
         if self.known < receipt.length {
@@ -75,8 +77,11 @@ impl Subscriber {
     /// Both seats know of what either knew of. Makes no load.
     pub fn meet(&mut self, other: &mut Subscriber)
         requires ring { other.old.ring ≡ self.old.ring }
-        ensures same { (self.new ≡ record self.old { seen = self.new.seen }) × (other.new ≡ record other.old { seen = self.new.seen }) }
-        ensures longer { IsLongerOf self.old.seen other.old.seen self.new.seen }
+        ensures same { self.new ≡ record self.old { seen = self.new.seen; closed = self.new.closed } }
+        ensures same_other { other.new ≡ record other.old { seen = self.new.seen; closed = other.new.closed } }
+        ensures own { SeesOn self.old.seen self.old.closed self.new.seen self.new.closed × SeesOn other.old.seen other.old.closed self.new.seen self.new.closed }
+        ensures others { SeesOn self.old.seen self.old.closed other.new.seen other.new.closed × SeesOn other.old.seen other.old.closed other.new.seen other.new.closed }
+        ensures one { (self.new.seen ≡ self.old.seen) ⊎ (self.new.seen ≡ other.old.seen) }
     {
         let mine = self.token.tell();
         other.token.learn(&mine);

@@ -3,7 +3,7 @@ ghost use Rattle.std.specs.Prelude.{◌≡◌, ◌+◌, ◌-◌, ◌^◌, ◌<�
 ghost use Rattle.ring_steps.specs.declared.views.SeatPhase.TheVariants as seating;
 ghost use Rattle.ring_steps.specs.Ring.{cursor};
 ghost use Rattle.cursor.specs.Taps.{FitsBuffer};
-ghost use Rattle.packet_ring.specs.Steps.{IsSeat, seat_of};
+ghost use Rattle.packet_ring.specs.Steps.{HasSeen, IsSeat, seat_of};
 ghost use Rattle.packet_ring.specs.Table.{no_right};
 ghost use Rattle.packet_ring.specs.Tokens.{Takes};
 
@@ -28,7 +28,7 @@ pub(crate) fn take(
     requires same { (token.old.id ≡ block.now.id) × (block.now.id.units ≡ keep + 2) × (block.now.id.width ≡ width) }
     requires sizes { (keep ≤ 4095) × (1 < width) × (width ≤ 16384) × (block.now.id.limits.1 ≤ length buf.old + 1) }
     requires seat { IsSeat token.old.number token.old.me seating.Between × (token.old.me.right ≡ no_right) }
-    requires next { (next ≡ cursor (seat_of token.old.me.view)) × (next ≤ length token.old.me.seen) × (next < 2 ^ 62) }
+    requires next { (next ≡ cursor (seat_of token.old.me.view)) × HasSeen next token.old.me.seen × (next < 2 ^ 62) }
     ensures same { (token.new.id ≡ token.old.id) × (token.new.number ≡ token.old.number) × (length buf.new ≡ length buf.old) }
     ensures fits { FitsBuffer result.0 (block.now.id.limits.1 - 1) }
     ensures takes { Takes keep result.0 result.1 buf.new token.old.me token.new.me }

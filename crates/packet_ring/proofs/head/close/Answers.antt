@@ -6,9 +6,9 @@ use Rattle.packet_ring.proofs.Heads.{closes}
 use Rattle.packet_ring.proofs.head.close.Goals as goal
 
 pub store-requires : goal.store-requires
-store-requires c = let z = c.args.block.now.id in let me = c.args.token.now.me in let log = log_of me.view in let p = publisher_of me.view in let is = c.requires.publisher in let n = 2 * c.args.len + 1 in (
+store-requires c = let z = c.args.block.now.id in let me = c.args.token.now.me in let log = log_of me.view in let p = publisher_of me.view in let is = c.requires.publisher.0 in let n = 2 * c.args.len + 1 in (
   c.requires.same.0,
   c.requires.same.1,
   sym (zero-mul (z.width + 1)),
-  subst (λ (k : ℕ). Allows (Holds z.limits) z.units k me 0 (λ m. n) (λ m. Closes log p me n)) (sym is.at) (closes z.units log p me n is.publisher is.within (ap (λ (k : ℕ). 2 * k + 1) c.requires.len.0)),
+  subst (λ (k : ℕ). Allows (Holds z.limits) z.units k me 0 (λ m. n) (λ m. Closes log p me n)) (sym is.at) (closes z.units log p me n is.publisher is.within c.requires.publisher.1 (ap (λ (k : ℕ). 2 * k + 1) c.requires.len.0)),
 )

@@ -11,7 +11,7 @@ loop-preserved c = let k : ℕ = c.loop.counter in let n : ℕ = c.args.seats in
       others.0 ∙ inv.0,
       omega arith,
       rest_views n k c.loop-test.true c.loop.rest.views t.me.view rest.views inv.2 others.2,
-      c.in_ok-push.ensures.items ∙ one_more z c.loop.passes.items k _ inv.3 (pass_of z t (token.0 ∙ inv.0) new),
+      c.in_ok-push.ensures.items ∙ one_more z c.loop.passes.items k _ inv.3 (pass_of z t (token.0 ∙ inv.0) new token.3),
       refl,
       refl,
     )

@@ -1,12 +1,14 @@
-use Rattle.std.proofs.Common.{◌≡◌, ◌≢◌, ℕ, ◌+◌, ◌-◌, ◌*◌, ◌/◌, ◌%◌, ◌≤◌, List, ◌∷◌, sym, ap, ◌∙◌, subst, arith, Some, take}
+use Rattle.std.proofs.Common.{◌≡◌, ◌≢◌, ℕ, suc, ◌<◌, true, false, length, ◌+◌, ◌-◌, ◌*◌, ◌/◌, ◌%◌, ◌≤◌, List, ◌∷◌, sym, ap, ◌∙◌, subst, arith, Some, take}
 use Rattle.std.specs.Prelude.{slice_get}
 use Rattle.ring_steps.specs.declared.views.Seat.{Seat}
 use Rattle.ring_steps.specs.Ring.{cursor}
 use Rattle.packet_ring.specs.declared.block.Token.{Token}
 use Rattle.packet_ring.specs.Rule.{Knows}
-use Rattle.packet_ring.specs.Steps.{next_packet, seat_of, took, Unpins}
-use Rattle.packet_ring.specs.Tokens.{GotPacket}
-use Rattle.packet_ring.proofs.Holding.{Held, pinned_holds, gives}
+use Rattle.packet_ring.specs.Steps.{HasSeen, next_packet, seat_of, took, Unpins}
+use Rattle.packet_ring.specs.Tokens.{GotPacket, LostSome}
+use Rattle.packet_ring.proofs.Holding.{Held, pinned_holds, gives, seat_found}
+use Rattle.packet_ring.proofs.Looks.{closed_by, open_by, finds, loses, loses_later}
+use Rattle.std.proofs.lemmas.List.{length-take-le}
 use Rattle.packet_ring.proofs.taking.take.Goals as goal
 
 pub get-tag-requires-clause-packet : goal.get-tag-requires-clause-packet
@@ -37,6 +39,41 @@ returns-then-word-next-clause-takes c = let old : Knows = c.args.token.now.me in
     let have : Held z.limits.1 (seat_of first.view) pinned = pinned_holds keep x old found first load other kept z.limits.1 (c.args.next % (c.args.keep + 1) + 1) c.pin-word.result pinned step (c.if-word-next.true ∙ ap (λ (k : ℕ). 2 * (k + 1)) n) in
     let next : Knows = c.unpin.new.token.me in
     let end : Unpins (took (seat_of pinned.view) (next_packet pinned)) pinned c.unpin.result next = subst (λ (t : Token). Unpins (took (seat_of t.me.view) (next_packet t.me)) t.me c.unpin.result next) c.get-tag.ensures.same c.unpin.ensures.step in
-    let gave : GotPacket keep (found / 2) x (next_packet pinned) old next = gives keep x old found first load other kept z.limits.1 (c.args.next % (c.args.keep + 1) + 1) c.pin-word.result c.unpin.result pinned next step end (let near = c.requires.next.1 in omega arith) have.at in
+    let gave : GotPacket keep (found / 2) x (next_packet pinned) old next = gives keep x old found first load other kept z.limits.1 (c.args.next % (c.args.keep + 1) + 1) c.pin-word.result c.unpin.result pinned next step end (subst (λ (k : ℕ). HasSeen k old.seen) n c.requires.next.1) have.at in
     let p : List ℕ = c.get-tag.result.0 ∷ take c.get-tag.result.1 c.get-tag.new.buf in let packet : next_packet pinned ≡ p = sym c.get-tag.ensures.packet in let same : keep ≡ c.args.keep = omega arith in
     (n, subst (λ (k : ℕ). GotPacket k (found / 2) x p old next) same (subst (λ (q : List ℕ). GotPacket keep (found / 2) x q old next) packet gave))
+
+pub returns-then-head-eq1-clause-takes : goal.returns-then-head-eq1-clause-takes
+returns-then-head-eq1-clause-takes c = let old : Knows = c.args.token.now.me in let x : Seat = seat_of old.view in let z = c.args.block.now.id in let keep : ℕ = z.units - 2 in let found : ℕ = c.load_first-head.result in let first : Knows = c.load_first-head.new.token.me in let load = c.load_first-head.ensures.step in
+    let n : c.args.next ≡ cursor x = c.requires.next.0 in let size = c.requires.same.1 in let free = c.requires.seat.1 in
+    finds keep x old found first load free true (closed_by load.head.closed load.head.length found load.bits c.if-head-eq1.true) (c.if-count-next.true ∙ n)
+
+pub returns-else-head-eq1-clause-takes : goal.returns-else-head-eq1-clause-takes
+returns-else-head-eq1-clause-takes c = let old : Knows = c.args.token.now.me in let x : Seat = seat_of old.view in let z = c.args.block.now.id in let keep : ℕ = z.units - 2 in let found : ℕ = c.load_first-head.result in let first : Knows = c.load_first-head.new.token.me in let load = c.load_first-head.ensures.step in
+    let n : c.args.next ≡ cursor x = c.requires.next.0 in let size = c.requires.same.1 in let free = c.requires.seat.1 in
+    finds keep x old found first load free false (open_by load.head.closed load.head.length found load.bits c.if-head-eq1.false) (c.if-count-next.true ∙ n)
+
+pub returns-then-next-oldest-clause-takes : goal.returns-then-next-oldest-clause-takes
+returns-then-next-oldest-clause-takes c = let old : Knows = c.args.token.now.me in let x : Seat = seat_of old.view in let z = c.args.block.now.id in let keep : ℕ = z.units - 2 in let found : ℕ = c.load_first-head.result in let first : Knows = c.load_first-head.new.token.me in let load = c.load_first-head.ensures.step in
+    let n : c.args.next ≡ cursor x = c.requires.next.0 in let size = c.requires.same.1 in let free = c.requires.seat.1 in
+    let oldest = c.saturating_sub-oldest.ensures in let low = c.if-next-oldest.true in let same : keep ≡ c.args.keep = omega arith in let behind : cursor x < found / 2 - keep = omega arith in
+    let count : found / 2 - keep - cursor x ≡ c.saturating_sub-oldest.result - c.args.next = omega arith in
+    subst (λ (u : ℕ × ℕ). LostSome u.0 u.1 (found / 2) x old first) (λ i. (same i, count i)) (loses keep x old found first load free behind)
+
+pub returns-then-word-next-clause-fits : goal.returns-then-word-next-clause-fits
+returns-then-word-next-clause-fits c = let old : Knows = c.args.token.now.me in let x : Seat = seat_of old.view in let z = c.args.block.now.id in let keep : ℕ = z.units - 2 in let found : ℕ = c.load_first-head.result in let first : Knows = c.load_first-head.new.token.me in let load = c.load_first-head.ensures.step in
+    let n : c.args.next ≡ cursor x = c.requires.next.0 in let size = c.requires.same.1 in let free = c.requires.seat.1 in
+    let pinned : Knows = c.pin-word.new.token.me in let step = c.pin-word.ensures.step in let low = c.if-next-oldest.false in let oldest = c.saturating_sub-oldest.ensures in
+    let other : found / 2 ≢ cursor x = λ e. c.if-count-next.false (e ∙ sym n) in let kept : found / 2 - keep ≤ cursor x = omega arith in
+    let have : Held z.limits.1 (seat_of first.view) pinned = pinned_holds keep x old found first load other kept z.limits.1 (c.args.next % (c.args.keep + 1) + 1) c.pin-word.result pinned step (c.if-word-next.true ∙ ap (λ (k : ℕ). 2 * (k + 1)) n) in
+    let most = have.sized.1 in let room = c.get-tag.ensures.room in let taken = length-take-le c.get-tag.result.1 c.get-tag.new.buf (omega arith) in
+    let all : suc (length (take c.get-tag.result.1 c.get-tag.new.buf)) ≡ length (next_packet pinned) = ap length c.get-tag.ensures.packet in omega arith
+
+pub returns-clause-takes : goal.returns-clause-takes
+returns-clause-takes c = let old : Knows = c.args.token.now.me in let x : Seat = seat_of old.view in let z = c.args.block.now.id in let keep : ℕ = z.units - 2 in let found : ℕ = c.load_first-head.result in let first : Knows = c.load_first-head.new.token.me in let load = c.load_first-head.ensures.step in
+    let n : c.args.next ≡ cursor x = c.requires.next.0 in let size = c.requires.same.1 in let free = c.requires.seat.1 in
+    let pinned : Knows = c.pin-word.new.token.me in let step = c.pin-word.ensures.step in let low = c.if-next-oldest.false in let oldest = c.saturating_sub-oldest.ensures in let later : ℕ = c.load_second-later.result in let last = c.saturating_sub.ensures in
+    let other : found / 2 ≢ cursor x = λ e. c.if-count-next.false (e ∙ sym n) in let kept : found / 2 - keep ≤ cursor x = omega arith in let same : keep ≡ c.args.keep = omega arith in
+    let count : later / 2 - keep - cursor x ≡ c.saturating_sub.result - c.args.next = omega arith in
+    subst (λ (u : ℕ × ℕ). LostSome u.0 u.1 (later / 2) x old c.load_second-later.new.token.me) (λ i. (same i, count i))
+    (loses_later keep x old found first load (seat_found keep x old found first load other kept) z.limits.1 (c.args.next % (c.args.keep + 1) + 1) c.pin-word.result c.unpin_failed.result pinned c.unpin_failed.new.token.me step c.unpin_failed.ensures.step later c.load_second-later.new.token.me c.load_second-later.ensures.step)
