@@ -1,11 +1,12 @@
 //! Header fields, and looking one up.
-ghost use Rattle.std.specs.Prelude.{◌≡◌};
+ghost use Rattle.std.specs.Prelude.{◌≡◌, IfOk};
 ghost use Rattle.std.specs.Option.{option_copied};
 ghost use Rattle.rtsp_message.specs.Headers.{value_of};
 ghost use Rattle.rtsp_message.specs.Lengths.{announced as announced_by, body_len as body_len_of};
 
 use crate::MAX_BODY;
 use base_syntax::{Bytes, Items, is_same_name, read_number};
+use std::alloc::{AllocError, Global};
 
 /// A header field (RFC 2326, 12).
 #[derive(Drop)]
@@ -44,4 +45,19 @@ pub(crate) fn body_len(headers: &Headers) -> usize
     ensures { result ≡ body_len_of headers.now }
 {
     announced(headers).unwrap_or(0) as usize
+}
+
+/// A copy of header fields.
+pub(crate) fn copy_headers(alloc: Global, headers: &Headers) -> Result<Headers, AllocError>
+    ensures { IfOk result (λ copied. copied ≡ headers.now) }
+{
+    let mut copied = Headers::empty(alloc);
+    let fields = headers.as_slice();
+    for header in fields {
+        copied.push(Header {
+            name: Bytes::from_slice(alloc, header.name.as_slice())?,
+            value: Bytes::from_slice(alloc, header.value.as_slice())?,
+        })?;
+    }
+    Ok(copied)
 }

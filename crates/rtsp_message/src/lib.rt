@@ -3,6 +3,8 @@
 #![tactic(auto)]
 
 mod byte_class;
+#[cfg(test)]
+mod copy_tests;
 mod fault;
 mod front;
 mod head;

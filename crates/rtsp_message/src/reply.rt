@@ -37,6 +37,31 @@ impl Fields {
             content_type: None,
         }
     }
+
+    /// A copy of them. The only error is want of memory.
+    pub fn copy(&self, alloc: Global) -> Result<Fields, AllocError>
+        ensures { IfOk result (λ copied. copied ≡ self.now) }
+    {
+        Ok(Fields {
+            session: copy_value(alloc, &self.session)?,
+            public: copy_value(alloc, &self.public)?,
+            allow: copy_value(alloc, &self.allow)?,
+            unsupported: copy_value(alloc, &self.unsupported)?,
+            transport: copy_value(alloc, &self.transport)?,
+            rtp_info: copy_value(alloc, &self.rtp_info)?,
+            content_base: copy_value(alloc, &self.content_base)?,
+            content_type: copy_value(alloc, &self.content_type)?,
+        })
+    }
+}
+
+fn copy_value(alloc: Global, value: &Option<Bytes>) -> Result<Option<Bytes>, AllocError>
+    ensures { IfOk result (λ copied. copied ≡ value.now) }
+{
+    match value {
+        None => Ok(None),
+        Some(text) => Ok(Some(Bytes::from_slice(alloc, text.as_slice())?)),
+    }
 }
 
 /// A reply (RFC 2326, 7).
@@ -48,6 +73,20 @@ pub struct Reply {
     pub fields: Fields,
     /// Empty where there is no body.
     pub body: Bytes,
+}
+
+impl Reply {
+    /// A copy of it. The only error is want of memory.
+    pub fn copy(&self, alloc: Global) -> Result<Reply, AllocError>
+        ensures { IfOk result (λ copied. copied ≡ self.now) }
+    {
+        Ok(Reply {
+            status: self.status,
+            cseq: self.cseq,
+            fields: self.fields.copy(alloc)?,
+            body: Bytes::from_slice(alloc, self.body.as_slice())?,
+        })
+    }
 }
 
 /// Appends the text of a reply. After an `Err` `out` is as before.

@@ -1,9 +1,10 @@
 //! Requests.
-ghost use Rattle.std.specs.Prelude.{◌≡◌};
+ghost use Rattle.std.specs.Prelude.{◌≡◌, IfOk};
 ghost use Rattle.std.specs.Option.{option_copied};
 
-use crate::headers::{Headers, header_value};
+use crate::headers::{Headers, copy_headers, header_value};
 use base_syntax::Bytes;
+use std::alloc::{AllocError, Global};
 
 /// A request as it came (RFC 2326, 6). Its texts are bytes.
 #[derive(Drop)]
@@ -26,5 +27,19 @@ impl Request {
         ensures { option_copied result ≡ value_of self.now.headers name.now }
     {
         header_value(&self.headers, name)
+    }
+
+    /// A copy of it. The only error is want of memory.
+    pub fn copy(&self, alloc: Global) -> Result<Request, AllocError>
+        ensures { IfOk result (λ copied. copied ≡ self.now) }
+    {
+        Ok(Request {
+            method: Bytes::from_slice(alloc, self.method.as_slice())?,
+            uri: Bytes::from_slice(alloc, self.uri.as_slice())?,
+            version: Bytes::from_slice(alloc, self.version.as_slice())?,
+            cseq: self.cseq,
+            headers: copy_headers(alloc, &self.headers)?,
+            body: Bytes::from_slice(alloc, self.body.as_slice())?,
+        })
     }
 }
