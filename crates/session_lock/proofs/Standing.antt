@@ -1,0 +1,149 @@
+-- What each call leaves of a book.
+use Rattle.std.proofs.Common.{◌≡◌, ℕ, ◌+◌, ◌≤◌, ◌<◌, ◌==◌, ◌&&◌, Bool, true, false, not, cond, List, [], ◌∷◌, length, is_none, is_some, Option, None, Some, refl, ap, sym, ◌∙◌, subst, arith}
+use Rattle.std.specs.List.{filter}
+use Rattle.std.specs.Option.{option_and_then, option_map, option_map_or}
+use Rattle.std.proofs.lemmas.Bool.{eq-eqb, eqb-true}
+use Rattle.mounts.proofs.Differing.{unequal}
+use Rattle.mounts.proofs.Firsts.{found_all, found_passes}
+use Rattle.mounts.proofs.Indexed.{some_at}
+use Rattle.session_state.specs.declared.act.Act.{Act}
+use Rattle.session_state.specs.declared.entry.Entry.{Entry}
+use Rattle.session_state.specs.declared.entry.Entry.TheVariants.{Back, Connect, HangUp}
+use Rattle.session_state.specs.declared.session.Session.{Session}
+use Rattle.session_state.specs.History.{History, act_of, is_play_of, last_of}
+use Rattle.session_state.specs.Legal.{Comes, IsBack, IsHangUp, IsLegal}
+use Rattle.session_state.specs.Lookups.{IsSessionOf, is_open, open_count}
+use Rattle.session_state.specs.Judged.{session_kept}
+use Rattle.session_state.specs.Stands.{Stands, Tables, kept_of}
+use Rattle.session_state.specs.Streams.{ends_of, is_out, takes_or_gives_back}
+use Rattle.session_state.proofs.Coming.{none_lives}
+use Rattle.session_state.proofs.Plays.{out_below}
+use Rattle.session_lock.specs.declared.spares.MountPasses.{MountPasses}
+use Rattle.session_lock.specs.Books.{IsKept}
+use Rattle.session_lock.specs.Entries.{Written}
+use Rattle.session_lock.specs.Held.{Held, IsOutOf}
+use Rattle.session_lock.specs.Spares.{AreSpare, IsSpareOf, out_count, unended, with_pass, without}
+use Rattle.session_lock.proofs.Spared.{ended_so, moved_so}
+
+-- who is open is kept
+pub one_open : (history : History) (tables : Tables) (conn : ℕ) → Stands history tables → is_open conn history ≡ true → 1 ≤ open_count history
+one_open history tables conn stands there =
+    let some = kept_some tables.connections (stands.are_open conn ∙ there) in
+    let gone = stands.gone in
+    omega (arith, some, gone)
+  where
+    kept_some : (connections : List (ℕ × Option Session)) → is_some (kept_of conn connections) ≡ true → 1 ≤ length connections
+    kept_some [] is = absurd (cc)
+    kept_some (one ∷ others) is = omega arith
+
+pub mount_told : (seats : ℕ) (history : History) (tables : Tables) (conn : ℕ) (told : Option ℕ) → tables.mounts.seats ≡ seats → Stands history tables
+    → told ≡ option_map (λ (one : Session). one.mount) (session_kept tables conn) → is_open conn history ≡ true
+    → (session : Option Session) × IsSessionOf seats conn history session × (told ≡ option_map (λ (one : Session). one.mount) session)
+mount_told seats history tables conn told same stands is there = by (kept_of conn tables.connections) refl (stands.are_open conn ∙ there)
+  where
+    by : (kept : Option (Option Session)) → kept_of conn tables.connections ≡ kept → is_some (kept_of conn tables.connections) ≡ true
+        → (session : Option Session) × IsSessionOf seats conn history session × (told ≡ option_map (λ (one : Session). one.mount) session)
+    by None at some = absurd (cc)
+    by (Some session) at some = (
+      session,
+      subst (λ n. IsSessionOf n conn history session) same (stands.sessions conn session at),
+      is ∙ ap (λ k. option_map (λ (one : Session). one.mount) (option_and_then (λ kept. kept) k)) at,
+    )
+
+-- a test that all pass leaves all
+all_kept : {X : Type 0} (q : X → Bool) (xs : List X) → ((x : X) → q x ≡ true) → filter q xs ≡ xs
+all_kept q [] passes = refl
+all_kept q (x ∷ xs) passes = ap (λ b. cond b (x ∷ filter q xs) (filter q xs)) (passes x) ∙ ap (λ ys. x ∷ ys) (all_kept q xs passes)
+
+same_filter : {X : Type 0} (p q : X → Bool) (xs : List X) → ((x : X) → p x ≡ q x) → filter p xs ≡ filter q xs
+same_filter p q [] same = refl
+same_filter p q (x ∷ xs) same = ap (λ b. cond b (x ∷ filter p xs) (filter p xs)) (same x) ∙ ap (λ ys. cond (q x) (x ∷ ys) ys) (same_filter p q xs same)
+
+flip : (a b : ℕ) → (a == b) ≡ (b == a)
+flip a b = by (a == b) refl
+  where
+    by : (is : Bool) → (a == b) ≡ is → is ≡ (b == a)
+    by true is = sym (eq-eqb b a (sym (eqb-true a b is)))
+    by false is = sym (unequal b a (λ e. let other = eq-eqb a b (sym e) in absurd (cc)))
+
+out_after : (history : History) (of given mount seat : ℕ) → is_out mount seat (Back of given ∷ history) ≡ cond (of == mount && given == seat) false (is_out mount seat history)
+out_after history of given mount seat = by (of == mount && given == seat)
+  where
+    by : (is : Bool) → option_map_or (λ entry. is_play_of mount seat (act_of entry)) (cond is (Some (Back of given)) (last_of (takes_or_gives_back mount seat) history)) false
+        ≡ cond is false (is_out mount seat history)
+    by true = refl
+    by false = refl
+
+module _ {P : Type 0} (seats : ℕ) where
+  -- a new book
+  pub opens : (tables : Tables) (written : Written) (held : Held P) → Stands [] tables → tables.mounts.seats ≡ seats → written.history ≡ [] → held.mounts ≡ [] → IsKept seats tables written held
+  opens tables written held stands same none empty = record {
+    legal = subst (IsLegal seats) (sym none) tt;
+    stands = subst (λ h. Stands h tables) (sym none) stands;
+    seats_are = same;
+    spare = subst (λ h. AreSpare seats h held.mounts) (sym none) (subst (AreSpare seats []) (sym empty) (record { each = tt; all = λ number owner live. absurd (none_lives number owner live); once = tt }));
+    room = let few = ap open_count none in let out = ap out_count empty in omega (arith, few, out);
+  }
+
+  none_ended : (entry : Entry) (mounts : List (MountPasses P)) → ((owner : ℕ) → ends_of owner entry ≡ false) → unended entry mounts ≡ mounts
+  none_ended entry mounts on = all_kept (λ (one : MountPasses P). not (ends_of one.owner entry)) mounts (λ one. ap not (on one.owner))
+
+  module _ (tables after : Tables) (written later : Written) (held : Held P) (kept : IsKept seats tables written held) (same : after.mounts.seats ≡ tables.mounts.seats) where
+    pub legal_there : IsLegal tables.mounts.seats written.history
+    legal_there = subst (λ n. IsLegal n written.history) (sym kept.seats_are) kept.legal
+
+    pub connected : (conn : ℕ) → Comes written.history conn × Stands (Connect conn ∷ written.history) after → later.history ≡ Connect conn ∷ written.history
+        → open_count written.history + out_count held.mounts + 1 ≤ later.room → IsKept seats after later held
+    connected conn come is enough = record {
+      legal = subst (IsLegal seats) (sym is) (kept.legal, come.0);
+      stands = subst (λ h. Stands h after) (sym is) come.1;
+      seats_are = same ∙ kept.seats_are;
+      spare = subst (λ h. AreSpare seats h held.mounts) (sym is) (subst (AreSpare seats (Connect conn ∷ written.history)) (none_ended (Connect conn) held.mounts (λ owner. refl))
+          (ended_so seats written.history (Connect conn) held.mounts refl (λ mount seat. refl) kept.spare));
+      room = let open_after = ap open_count is in omega (arith, open_after, enough);
+    }
+
+    pub hung_up : (conn : ℕ) (act : Act) (left : Held P) → IsHangUp tables.mounts.seats written.history conn act × Stands (HangUp conn act ∷ written.history) after
+        → later.history ≡ HangUp conn act ∷ written.history → left.mounts ≡ without conn held.mounts → out_count left.mounts ≤ out_count held.mounts → written.room ≤ later.room + 1
+        → is_open conn written.history ≡ true → IsKept seats after later left
+    hung_up conn act left gone is dropped fewer room there = record {
+      legal = subst (IsLegal seats) (sym is) (kept.legal, subst (λ n. IsHangUp n written.history conn act) kept.seats_are gone.0);
+      stands = subst (λ h. Stands h after) (sym is) gone.1;
+      seats_are = same ∙ kept.seats_are;
+      spare = subst (λ h. AreSpare seats h left.mounts) (sym is) (subst (AreSpare seats (HangUp conn act ∷ written.history)) (sym (dropped ∙ without_is conn act held.mounts))
+          (ended_so seats written.history (HangUp conn act) held.mounts refl (λ mount seat. refl) kept.spare));
+      room =
+          let open_after = ap open_count is in
+          let one = one_open written.history tables conn kept.stands there in
+          let enough = kept.room in
+          omega (arith, open_after, one, enough, fewer, room);
+    }
+      where
+        without_is : (conn : ℕ) (act : Act) (mounts : List (MountPasses P)) → without conn mounts ≡ unended (HangUp conn act) mounts
+        without_is conn act mounts = same_filter (λ (one : MountPasses P). not (one.owner == conn)) (λ one. not (conn == one.owner)) mounts (λ one. ap not (flip one.owner conn))
+
+    pub given_back : (mount seat : ℕ) (pass : P) (left : Held P) → IsBack written.history mount seat × Stands (Back mount seat ∷ written.history) after
+        → later.history ≡ Back mount seat ∷ written.history → left.mounts ≡ with_pass mount seat (Some pass) held.mounts → out_count left.mounts + 1 ≡ out_count held.mounts
+        → written.room ≤ later.room + 1 → IsKept seats after later left
+    given_back mount seat pass left back is put fewer room = record {
+      legal = subst (IsLegal seats) (sym is) (kept.legal, back.0);
+      stands = subst (λ h. Stands h after) (sym is) back.1;
+      seats_are = same ∙ kept.seats_are;
+      spare = subst (λ h. AreSpare seats h left.mounts) (sym is) (subst (AreSpare seats (Back mount seat ∷ written.history)) (sym put)
+          (moved_so seats written.history (Back mount seat) mount seat (Some pass) held.mounts refl (λ owner. refl) (λ of other. out_after written.history mount seat of other) kept.spare));
+      room = let open_after = ap open_count is in let enough = kept.room in omega (arith, open_after, enough, fewer, room);
+    }
+
+  -- a seat that is out in the history has no pass
+  pub out_there : (history : History) (mounts : List (MountPasses P)) (mount seat : ℕ) → IsLegal seats history → AreSpare seats history mounts → IsBack history mount seat → IsOutOf mounts mount seat
+  out_there history mounts mount seat legal spare back =
+      let found = spare.all mount back.owner back.live in
+      let is = found_all (IsSpareOf seats history) (λ (one : MountPasses P). one.number == mount) mounts found.0 spare.each found.1 in
+      let number = eqb-true found.0.number mount (found_passes (λ (one : MountPasses P). one.number == mount) mounts found.0 found.1) in
+      let few = out_below mount seat seats history legal back.out in
+      let at = some_at found.0.passes seat (subst (λ n. seat < n) (sym is.seats_are) few) in
+      record { one = found.0; there = found.1; is = at.1 ∙ ap Some (none_at at.0 (is.out seat at.0 at.1 ∙ ap (λ n. is_out n seat history) number ∙ back.out)) }
+    where
+      none_at : (place : Option P) → is_none place ≡ true → place ≡ None
+      none_at None is = refl
+      none_at (Some pass) is = absurd (cc)

@@ -1,0 +1,32 @@
+-- What a book remembers, and how it is kept.
+use Rattle.std.specs.Prelude.{◌≡◌, ◌≢◌, ◌+◌, ◌≤◌, ℕ, List, length, Option, None, Some}
+use Rattle.session_state.specs.declared.method.Method.TheVariants as methods
+use Rattle.session_state.specs.History.{History}
+use Rattle.session_state.specs.Legal.{IsLegal}
+use Rattle.session_state.specs.Lookups.{open_count}
+use Rattle.session_state.specs.Methods.{method_of}
+use Rattle.session_state.specs.Stands.{Stands, Tables}
+use Rattle.session_lock.specs.declared.spares.MountPasses.{MountPasses}
+use Rattle.session_lock.specs.Entries.{Written}
+use Rattle.session_lock.specs.Held.{Held}
+use Rattle.session_lock.specs.Spares.{AreSpare, out_count}
+
+-- How many seats each mount has, what has happened, and the spare passes of the mounts that live.
+pub record Remembered (P : Type 0) : Type 0 where
+  pub seats : ℕ
+  pub history : History
+  pub spares : List (MountPasses P)
+
+-- an offer of passes comes with ANNOUNCE, one for each seat, and with no other method
+abbrev pub IsOffer : {P : Type 0} → (seats : ℕ) → (method : List ℕ) → Option (List P) → Type 0
+IsOffer seats method None = method_of method ≢ Some methods.Announce
+IsOffer seats method (Some offer) = (method_of method ≡ Some methods.Announce) × (length offer ≡ seats)
+
+-- The history is legal, the tables stand for it, the passes are the spare ones, and there is room for the hang-up of each
+-- connection that is open and for the return of each seat that is out.
+pub record IsKept {P : Type 0} (seats : ℕ) (tables : Tables) (written : Written) (held : Held P) : Type 0 where
+  pub legal : IsLegal seats written.history
+  pub stands : Stands written.history tables
+  pub seats_are : tables.mounts.seats ≡ seats
+  pub spare : AreSpare seats written.history held.mounts
+  pub room : open_count written.history + out_count held.mounts ≤ written.room

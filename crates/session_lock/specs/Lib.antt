@@ -1,0 +1,4 @@
+pub mod Spares
+pub mod Held
+pub mod Entries
+pub mod Books

@@ -1,0 +1,130 @@
+//! The spare passes of the mounts that live.
+ghost use Rattle.std.specs.Prelude.{◌≡◌, ◌<◌, ◌≤◌, ◌+◌, ◌^◌, ◌∷◌, ◌++◌, [], None, Some, OnOk, position, ◌==◌};
+ghost use Rattle.session_lock.specs.Held.{IsOutOf};
+ghost use Rattle.session_lock.specs.Spares.{of_number, of_owner, out_count, out_of, pass_at, with_pass, without};
+
+use crate::passes::Passes;
+use std::alloc::{AllocError, Global};
+use std::marker::Model;
+
+/// The spare passes of a mount.
+#[derive(Drop)]
+pub struct MountPasses<P> {
+    /// The mount's number.
+    pub number: u64,
+    /// The connection that announced it.
+    pub owner: u64,
+    pub passes: Passes<P>,
+}
+
+/// The spare passes of the mounts that live.
+#[derive(Drop)]
+pub(crate) struct Spares<P> {
+    mounts: Vec<MountPasses<P>>,
+    // How many seats of these mounts are out.
+    out: usize,
+}
+
+impl<P> Model for Spares<P> {
+    ghost use Rattle.std.specs.Prelude.{◌-◌, vec_capacity, vec_len};
+    ghost use Rattle.session_lock.specs.Held.{Held, IsHeld};
+
+    ghost Value = { Held P };
+
+    ghost view = { λ s. record { mounts = s.mounts.items; room = vec_capacity s.mounts - vec_len s.mounts } };
+
+    ghost invariant = { λ s. IsHeld s.mounts.items s.out };
+}
+
+impl<P: Drop> Spares<P> {
+    /// No mount. Takes no memory.
+    pub(crate) fn new(alloc: Global) -> Spares<P>
+        ensures { result.mounts ≡ [] }
+    {
+        Spares {
+            mounts: Vec::new(alloc),
+            out: 0,
+        }
+    }
+
+    /// How many seats are out.
+    pub(crate) fn count_out(&self) -> usize
+        ensures { result ≡ out_count self.now.mounts }
+    {
+        self.out
+    }
+
+    /// Makes room for one mount more.
+    pub(crate) fn reserve(&mut self) -> Result<(), AllocError>
+        ensures ok { OnOk result (0 < self.new.room) }
+        ensures kept { self.new.mounts ≡ self.old.mounts }
+    {
+        self.mounts.reserve(1)
+    }
+
+    /// Adds a mount, none of whose seats is out, in room that was made for it. Takes no memory.
+    pub(crate) fn begin(&mut self, one: MountPasses<P>)
+        requires room { 0 < self.old.room }
+        requires number { of_number one.number self.old.mounts ≡ None }
+        requires owner { of_owner one.owner self.old.mounts ≡ None }
+        requires free { out_of one ≡ 0 }
+        ensures added { self.new.mounts ≡ self.old.mounts ++ one ∷ [] }
+        ensures out { out_count self.new.mounts ≡ out_count self.old.mounts }
+    {
+        self.mounts.push(one).unwrap();
+    }
+
+    /// Drops the passes of the mount that a connection owns, if it owns one. Takes no memory.
+    pub(crate) fn end_of(&mut self, owner: u64)
+        ensures dropped { self.new.mounts ≡ without owner self.old.mounts }
+        ensures out { out_count self.new.mounts ≤ out_count self.old.mounts }
+    {
+        if let Some(place) = place_owned_by(self.mounts.as_slice(), owner) {
+            self.out -= self.mounts[place].passes.count_out();
+            self.mounts.remove(place);
+        }
+    }
+
+    /// Takes the pass of a seat away. `None` where the seat is out, or isn't there. Takes no memory.
+    pub(crate) fn take(&mut self, number: u64, seat: usize) -> Option<P>
+        requires { out_count self.old.mounts < 2 ^ 63 }
+        ensures pass { result ≡ pass_at number seat self.old.mounts }
+        ensures taken { self.new.mounts ≡ with_pass number seat None self.old.mounts }
+        ensures out { out_count self.new.mounts ≤ out_count self.old.mounts + 1 }
+    {
+        let Some(place) = place_numbered(self.mounts.as_slice(), number) else {
+            return None;
+        };
+        let pass = self.mounts[place].passes.take(seat);
+        if pass.is_some() {
+            self.out += 1;
+        }
+        pass
+    }
+
+    /// Puts the pass of a seat back that is out. Takes no memory.
+    pub(crate) fn put(&mut self, number: u64, seat: usize, pass: P)
+        requires { IsOutOf self.old.mounts number seat }
+        ensures put { self.new.mounts ≡ with_pass number seat (Some pass) self.old.mounts }
+        ensures out { out_count self.new.mounts + 1 ≡ out_count self.old.mounts }
+    {
+        if let Some(place) = place_numbered(self.mounts.as_slice(), number) {
+            self.mounts[place].passes.put(seat, pass);
+            self.out -= 1;
+        }
+    }
+}
+
+/// The place of the mount of a number.
+fn place_numbered<P>(mounts: &[MountPasses<P>], number: u64) -> Option<usize>
+    ensures { result ≡ position (λ one. one.number == number) mounts.now }
+{
+    mounts.iter().position(|one| one.number == number)
+}
+
+/// The place of the mount that a connection owns.
+fn place_owned_by<P>(mounts: &[MountPasses<P>], owner: u64) -> Option<usize>
+    ensures { result ≡ position (λ one. one.owner == owner) mounts.now }
+{
+    mounts.iter().position(|one| one.owner == owner)
+}
