@@ -131,3 +131,8 @@ module _ {P : Type 0} where
       let read = ap out_of at.read in
       let less = less_out one.passes seat pass is in
       omega (arith, all, part, read, less)
+
+  -- where each pass is there, none is out
+  pub none_out : (offer : List P) → count_by is_none (map (λ pass. Some pass) offer) ≡ 0
+  none_out [] = refl
+  none_out (pass ∷ offer) = none_out offer

@@ -4,3 +4,5 @@ pub mod Counting
 pub mod Spared
 pub mod Played
 pub mod Standing
+pub mod OneReply
+pub mod Requested

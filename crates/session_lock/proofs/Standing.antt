@@ -55,11 +55,11 @@ all_kept : {X : Type 0} (q : X → Bool) (xs : List X) → ((x : X) → q x ≡ 
 all_kept q [] passes = refl
 all_kept q (x ∷ xs) passes = ap (λ b. cond b (x ∷ filter q xs) (filter q xs)) (passes x) ∙ ap (λ ys. x ∷ ys) (all_kept q xs passes)
 
-same_filter : {X : Type 0} (p q : X → Bool) (xs : List X) → ((x : X) → p x ≡ q x) → filter p xs ≡ filter q xs
+pub same_filter : {X : Type 0} (p q : X → Bool) (xs : List X) → ((x : X) → p x ≡ q x) → filter p xs ≡ filter q xs
 same_filter p q [] same = refl
 same_filter p q (x ∷ xs) same = ap (λ b. cond b (x ∷ filter p xs) (filter p xs)) (same x) ∙ ap (λ ys. cond (q x) (x ∷ ys) ys) (same_filter p q xs same)
 
-flip : (a b : ℕ) → (a == b) ≡ (b == a)
+pub flip : (a b : ℕ) → (a == b) ≡ (b == a)
 flip a b = by (a == b) refl
   where
     by : (is : Bool) → (a == b) ≡ is → is ≡ (b == a)
@@ -85,7 +85,7 @@ module _ {P : Type 0} (seats : ℕ) where
     room = let few = ap open_count none in let out = ap out_count empty in omega (arith, few, out);
   }
 
-  none_ended : (entry : Entry) (mounts : List (MountPasses P)) → ((owner : ℕ) → ends_of owner entry ≡ false) → unended entry mounts ≡ mounts
+  pub none_ended : (entry : Entry) (mounts : List (MountPasses P)) → ((owner : ℕ) → ends_of owner entry ≡ false) → unended entry mounts ≡ mounts
   none_ended entry mounts on = all_kept (λ (one : MountPasses P). not (ends_of one.owner entry)) mounts (λ one. ap not (on one.owner))
 
   module _ (tables after : Tables) (written later : Written) (held : Held P) (kept : IsKept seats tables written held) (same : after.mounts.seats ≡ tables.mounts.seats) where

@@ -1,17 +1,26 @@
 //! The book.
-ghost use Rattle.std.specs.Prelude.{◌≡◌, ◌≤◌, ◌+◌, ◌∷◌, [], true, false, None, Some, IfOk, IfSome, IfNone, OnErr, length, Option};
+ghost use Rattle.std.specs.Prelude.{◌≡◌, ◌≤◌, ◌+◌, ◌∷◌, [], ℕ, true, false, None, Some, IfOk, IfErr, IfSome, IfNone, IsSome, MatchBool, OnErr, length, Option};
 ghost use Rattle.std.specs.Option.{option_map};
 ghost use Rattle.session_state.specs.declared.act.Act.TheVariants as acts;
 ghost use Rattle.session_state.specs.declared.entry.Entry.TheVariants as entries;
 ghost use Rattle.session_state.specs.declared.fault.ConnectFault.TheVariants as faults;
 ghost use Rattle.session_state.specs.declared.session.Session.{Session};
-ghost use Rattle.session_state.specs.Legal.{Comes, IsBack, IsHangUp, IsLegal};
+ghost use Rattle.session_state.specs.History.{accepts, how_many};
+ghost use Rattle.session_state.specs.Legal.{Comes, IsBack, IsHangUp, IsLegal, IsReplyOf};
+ghost use Rattle.session_state.specs.Methods.{is_announce};
 ghost use Rattle.session_state.specs.Lookups.{IsSessionOf, came, is_open};
-ghost use Rattle.session_lock.specs.Spares.{AreSpare, unended, with_pass};
+ghost use Rattle.session_lock.specs.Asks.{IsFaultOf};
+ghost use Rattle.session_lock.specs.Books.{IsOffer};
+ghost use Rattle.session_lock.specs.Entries.{method_accepted};
+ghost use Rattle.session_lock.specs.Requests.{back_after, passes_after};
+ghost use Rattle.session_lock.specs.Spares.{AreSpare, handed_out, unended, with_pass};
 
-use crate::entries::Entries;
+use crate::answer::{Answer, AskFault, NoMemory};
+use crate::copies::{copies_of, make_room, room_for};
+use crate::entries::{Entries, accepted_method};
 use crate::spares::Spares;
-use session_state::{Act, ConnectFault, Entry, World};
+use rtsp_message::Request;
+use session_state::{Act, ConnectFault, Entry, Given, Method, World, read_method};
 use std::alloc::Global;
 use std::collections::hash_map::RandomState;
 use std::marker::Model;
@@ -127,5 +136,96 @@ impl<P: Drop> Book<P> {
         self.spares.put(mount, seat, pass);
         self.entries.add(Entry::Back { mount, seat });
         None
+    }
+
+    /// Answers a request of an open connection. An ANNOUNCE comes with an offer of passes, one for each seat, and is given
+    /// them back unless it is accepted; a PLAY that takes a seat is handed its pass. The only error is want of memory, and
+    /// then nothing has changed: all copies and all room are made before anything is decided. Makes the room for the return
+    /// of the seat.
+    pub fn call(
+        &mut self,
+        conn: u64,
+        request: &Request,
+        given: &Given,
+        offer: Option<Vec<P>>,
+    ) -> Result<Answer<P>, NoMemory<P>>
+        requires open { is_open conn self.old.history ≡ true }
+        requires offer { IsOffer self.old.seats request.now.method (option_map (λ passes. passes.items) offer) }
+        ensures reply { IfOk result (λ answer. IsReplyOf self.old.seats self.old.history conn request.now given.now answer.reply answer.act) }
+        ensures history { IfOk result (λ answer. self.new.history ≡ entries.Request conn request.now given.now answer.reply answer.act ∷ self.old.history) }
+        ensures spares { IfOk result (λ answer. self.new.spares ≡ passes_after conn (how_many (accepts is_announce) self.old.history + 1) (method_accepted request.now answer.reply) answer.act (option_map (λ passes. passes.items) offer) self.old.spares) }
+        ensures pass { IfOk result (λ answer. answer.pass ≡ handed_out answer.act self.old.spares) }
+        ensures play { IfOk result (λ answer. (mount seat : ℕ) → answer.act ≡ acts.Play mount seat → IsSome answer.pass) }
+        ensures back { IfOk result (λ answer. answer.back ≡ back_after (method_accepted request.now answer.reply) offer) }
+        ensures seats { self.new.seats ≡ self.old.seats }
+        ensures err { OnErr result (self.new ≡ self.old) }
+        ensures handed_back { IfErr result (λ refused. refused.back ≡ offer) }
+    {
+        let Ok(copies) = copies_of(self.alloc, &self.world, conn, request, given) else {
+            return Err(NoMemory { back: offer });
+        };
+        let Ok(room) = room_for(self.alloc, &offer) else {
+            return Err(NoMemory { back: offer });
+        };
+        let Ok(()) = make_room(&mut self.entries, &mut self.spares) else {
+            return Err(NoMemory { back: offer });
+        };
+        let Ok((reply, act)) = self.world.decide(self.alloc, conn, request, given) else {
+            return Err(NoMemory { back: offer });
+        };
+        let method = accepted_method(request, &reply);
+        let number = self.entries.announced() + 1;
+        self.entries.add(copies.into_entry(conn, act));
+        let (pass, back) = self.spares.settle(conn, number, method, act, offer, room);
+        Ok(Answer {
+            reply,
+            act,
+            pass,
+            back,
+        })
+    }
+
+    /// `call`, with its conditions tested: the first that isn't met is told, and the offer comes back. After an error nothing
+    /// has changed.
+    pub fn ask(
+        &mut self,
+        conn: u64,
+        request: &Request,
+        given: &Given,
+        offer: Option<Vec<P>>,
+    ) -> Result<Answer<P>, AskFault<P>>
+        ensures open { IfOk result (λ answer. is_open conn self.old.history ≡ true) }
+        ensures offered { IfOk result (λ answer. IsOffer self.old.seats request.now.method (option_map (λ passes. passes.items) offer)) }
+        ensures reply { IfOk result (λ answer. IsReplyOf self.old.seats self.old.history conn request.now given.now answer.reply answer.act) }
+        ensures history { IfOk result (λ answer. self.new.history ≡ entries.Request conn request.now given.now answer.reply answer.act ∷ self.old.history) }
+        ensures spares { IfOk result (λ answer. self.new.spares ≡ passes_after conn (how_many (accepts is_announce) self.old.history + 1) (method_accepted request.now answer.reply) answer.act (option_map (λ passes. passes.items) offer) self.old.spares) }
+        ensures pass { IfOk result (λ answer. answer.pass ≡ handed_out answer.act self.old.spares) }
+        ensures play { IfOk result (λ answer. (mount seat : ℕ) → answer.act ≡ acts.Play mount seat → IsSome answer.pass) }
+        ensures back { IfOk result (λ answer. answer.back ≡ back_after (method_accepted request.now answer.reply) offer) }
+        ensures seats { self.new.seats ≡ self.old.seats }
+        ensures fault { IfErr result (IsFaultOf self.old.seats self.old.history conn request.now.method offer) }
+        ensures err { OnErr result (self.new ≡ self.old) }
+    {
+        if !self.is_open(conn) {
+            return Err(AskFault::NotOpen { back: offer });
+        }
+        if !is_offer(self.seats, request, &offer) {
+            return Err(AskFault::BadOffer { back: offer });
+        }
+        match self.call(conn, request, given, offer) {
+            Ok(answer) => Ok(answer),
+            Err(refused) => Err(AskFault::NoMemory { back: refused.back }),
+        }
+    }
+}
+
+/// Whether passes are offered as a request asks for them: one for each seat with ANNOUNCE, and none with another method.
+fn is_offer<P>(seats: usize, request: &Request, offer: &Option<Vec<P>>) -> bool
+    ensures { MatchBool result (IsOffer seats request.now.method (option_map (λ passes. passes.items) offer.now)) (IsOffer seats request.now.method (option_map (λ passes. passes.items) offer.now) → ⊥) }
+{
+    let announces = read_method(request.method.as_slice()) == Some(Method::Announce);
+    match offer {
+        None => !announces,
+        Some(passes) => announces && passes.len() == seats,
     }
 }

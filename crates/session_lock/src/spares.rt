@@ -1,9 +1,14 @@
 //! The spare passes of the mounts that live.
 ghost use Rattle.std.specs.Prelude.{◌≡◌, ◌<◌, ◌≤◌, ◌+◌, ◌^◌, ◌∷◌, ◌++◌, [], None, Some, OnOk, position, ◌==◌};
+ghost use Rattle.std.specs.Prelude.{vec_len, vec_capacity};
+ghost use Rattle.std.specs.Option.{option_map};
+ghost use Rattle.session_state.specs.declared.method.Method.TheVariants as methods;
 ghost use Rattle.session_lock.specs.Held.{IsOutOf};
-ghost use Rattle.session_lock.specs.Spares.{of_number, of_owner, out_count, out_of, pass_at, with_pass, without};
+ghost use Rattle.session_lock.specs.Requests.{CanBegin, back_after, pass_after, passes_after};
+ghost use Rattle.session_lock.specs.Spares.{handed_out, left_by, of_number, of_owner, out_count, out_of, pass_at, with_pass, without};
 
 use crate::passes::Passes;
+use session_state::{Act, Method};
 use std::alloc::{AllocError, Global};
 use std::marker::Model;
 
@@ -100,6 +105,59 @@ impl<P: Drop> Spares<P> {
             self.out += 1;
         }
         pass
+    }
+
+    /// Does what an accepted request does to the passes, by its method: hands out the pass of the seat that it takes, and
+    /// what is left of the offer. Takes no memory.
+    pub(crate) fn settle(
+        &mut self,
+        owner: u64,
+        number: u64,
+        method: Option<Method>,
+        act: Act,
+        offer: Option<Vec<P>>,
+        room: Vec<Option<P>>,
+    ) -> (Option<P>, Option<Vec<P>>)
+        requires begins { method ≡ Some methods.Announce → CanBegin self.old owner number }
+        requires empty { room.items ≡ [] }
+        requires enough { (passes : _) → offer ≡ Some passes → vec_len passes ≤ vec_capacity room }
+        requires bounded { out_count self.old.mounts < 2 ^ 63 }
+        ensures mounts { self.new.mounts ≡ passes_after owner number method act (option_map (λ passes. passes.items) offer) self.old.mounts }
+        ensures pass { result.0 ≡ pass_after method act self.old.mounts }
+        ensures back { result.1 ≡ back_after method offer }
+        ensures out { out_count self.new.mounts ≤ out_count self.old.mounts + 1 }
+    {
+        match method {
+            Some(Method::Announce) => {
+                if let Some(passes) = offer {
+                    let passes = Passes::of(room, passes);
+                    self.begin(MountPasses {
+                        number,
+                        owner,
+                        passes,
+                    });
+                }
+                (None, None)
+            }
+            Some(Method::Teardown) => {
+                self.end_of(owner);
+                (None, offer)
+            }
+            _ => (self.hand_out(act), offer),
+        }
+    }
+
+    /// Hands out the pass of the seat that an act takes. Takes no memory.
+    fn hand_out(&mut self, act: Act) -> Option<P>
+        requires { out_count self.old.mounts < 2 ^ 63 }
+        ensures pass { result ≡ handed_out act self.old.mounts }
+        ensures left { self.new.mounts ≡ left_by act self.old.mounts }
+        ensures out { out_count self.new.mounts ≤ out_count self.old.mounts + 1 }
+    {
+        match act {
+            Act::Play { mount, seat } => self.take(mount, seat),
+            _ => None,
+        }
     }
 
     /// Puts the pass of a seat back that is out. Takes no memory.

@@ -1,0 +1,102 @@
+//! The copies that the history keeps of a request.
+ghost use Rattle.std.specs.Prelude.{◌≡◌, ◌≤◌, ◌<◌, ◌+◌, ◌^◌, [], IfOk, OnOk, IsSome, Option, Some, vec_len, vec_capacity, Vec};
+ghost use Rattle.session_state.specs.History.{History};
+ghost use Rattle.session_state.specs.Judged.{IsReplyIn};
+ghost use Rattle.session_state.specs.Legal.{IsLegal};
+ghost use Rattle.session_state.specs.Lookups.{open_count};
+ghost use Rattle.session_state.specs.Stands.{Stands, kept_of};
+ghost use Rattle.session_lock.specs.Spares.{out_count};
+
+use crate::entries::Entries;
+use crate::spares::Spares;
+use base_syntax::Items;
+use rtsp_message::{Reply, Request};
+use session_state::{Act, Entry, Given, World};
+use std::alloc::{AllocError, Global};
+
+/// What the history keeps of a request, beside its connection and its act.
+#[derive(Drop)]
+pub(crate) struct Copies {
+    pub request: Request,
+    pub given: Given,
+    pub reply: Reply,
+}
+
+impl Copies {
+    ghost use Rattle.session_state.specs.declared.entry.Entry.TheVariants as entries;
+
+    /// The entry of the request. Takes no memory.
+    pub(crate) fn into_entry(self, conn: u64, act: Act) -> Entry
+        ensures { result ≡ entries.Request conn self.request self.given self.reply act }
+    {
+        Entry::Request {
+            conn,
+            request: self.request,
+            given: self.given,
+            reply: self.reply,
+            act,
+        }
+    }
+}
+
+/// Copies a request and what is handed in with it, and makes the reply that it will get.
+pub(crate) fn copies_of(
+    alloc: Global,
+    world: &World,
+    conn: u64,
+    request: &Request,
+    given: &Given,
+) -> Result<Copies, AllocError>
+    requires { IsSome (kept_of conn world.now.connections) }
+    ensures request { IfOk result (λ copies. copies.request ≡ request.now) }
+    ensures given { IfOk result (λ copies. copies.given ≡ given.now) }
+    ensures reply { IfOk result (λ copies. (history : History) → IsLegal world.now.mounts.seats history → Stands history world.now → IsReplyIn world.now history conn request.now given.now copies.reply) }
+{
+    Ok(Copies {
+        request: request.copy(alloc)?,
+        given: copy_given(alloc, given)?,
+        reply: world.reply_of(alloc, conn, request, given)?,
+    })
+}
+
+fn copy_given(alloc: Global, given: &Given) -> Result<Given, AllocError>
+    ensures { IfOk result (λ copied. copied ≡ given.now) }
+{
+    Ok(Given {
+        word: given.word,
+        points: Items::new(Vec::from_slice(alloc, given.points.as_slice())?),
+    })
+}
+
+/// Makes the room that a request may need: for its entry, for the return of the seat that it takes, and for the passes of
+/// the mount that it announces.
+pub(crate) fn make_room<P: Drop>(
+    entries: &mut Entries,
+    spares: &mut Spares<P>,
+) -> Result<(), AllocError>
+    requires { open_count entries.old.history + out_count spares.old.mounts ≤ entries.old.room }
+    ensures entries { OnOk result (open_count entries.new.history + out_count spares.new.mounts + 2 ≤ entries.new.room) }
+    ensures spares { OnOk result (0 < spares.new.room) }
+    ensures history { entries.new.history ≡ entries.old.history }
+    ensures mounts { spares.new.mounts ≡ spares.old.mounts }
+    ensures kept { entries.old.room ≤ entries.new.room }
+    ensures bounded { out_count spares.new.mounts < 2 ^ 63 }
+{
+    let promised = entries.open() + spares.count_out();
+    entries.reserve(promised + 2)?;
+    spares.reserve()
+}
+
+/// Room for the passes of an offer.
+pub(crate) fn room_for<P: Drop>(
+    alloc: Global,
+    offer: &Option<Vec<P>>,
+) -> Result<Vec<Option<P>>, AllocError>
+    ensures empty { IfOk result (λ room. room.items ≡ []) }
+    ensures enough { IfOk result (λ room. (passes : _) → offer.now ≡ Some passes → vec_len passes ≤ vec_capacity room) }
+{
+    match offer {
+        None => Ok(Vec::new(alloc)),
+        Some(passes) => Vec::with_capacity(alloc, passes.len()),
+    }
+}
