@@ -4,5 +4,4 @@ pub mod Counting
 pub mod Spared
 pub mod Played
 pub mod Standing
-pub mod OneReply
 pub mod Requested

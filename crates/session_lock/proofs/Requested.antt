@@ -32,7 +32,7 @@ use Rattle.session_lock.specs.Entries.{Written, method_accepted}
 use Rattle.session_lock.specs.Held.{Held}
 use Rattle.session_lock.specs.Requests.{CanBegin, passes_after, pass_after}
 use Rattle.session_lock.specs.Spares.{AreSpare, IsSpareOf, handed_out, left_by, of_number, of_owner, out_count, pass_at, unended, with_pass, without}
-use Rattle.session_lock.proofs.OneReply.{one_reply}
+use Rattle.session_state.proofs.OneReply.{one_reply}
 use Rattle.session_lock.proofs.Played.{out_counted, plays_on}
 use Rattle.session_lock.proofs.Spared.{begun_so, ended_so, moved_so, unnumbered}
 use Rattle.session_lock.proofs.Standing.{flip, none_ended, same_filter}
@@ -241,7 +241,7 @@ looked_up history tables conn request stands some = record { mounts = stands.mou
 pub same_reply : (history : History) (tables : Tables) (conn : ℕ) (request : messages.Request) (given : Given) (one other : Reply) → IsLegal tables.mounts.seats history → Stands history tables
     → IsSome (kept_of conn tables.connections) → IsReplyIn tables history conn request given one → IsReplyIn tables history conn request given other → one ≡ other
 same_reply history tables conn request given one other legal stands some is also =
-    one_reply (asked_of tables history conn request) given one other is.0 also.0 (looked_up history tables conn request stands some) legal is.1 also.1
+    one_reply (asked_of tables history conn request) (looked_up history tables conn request stands some) legal given one other is.0 also.0 is.1 also.1
 
 -- an open connection is kept
 pub kept_open : (history : History) (tables : Tables) (conn : ℕ) → Stands history tables → is_open conn history ≡ true → IsSome (kept_of conn tables.connections)

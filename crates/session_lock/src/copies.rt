@@ -9,7 +9,6 @@ ghost use Rattle.session_lock.specs.Spares.{out_count};
 
 use crate::entries::Entries;
 use crate::spares::Spares;
-use base_syntax::Items;
 use rtsp_message::{Reply, Request};
 use session_state::{Act, Entry, Given, World};
 use std::alloc::{AllocError, Global};
@@ -54,17 +53,8 @@ pub(crate) fn copies_of(
 {
     Ok(Copies {
         request: request.copy(alloc)?,
-        given: copy_given(alloc, given)?,
+        given: given.copy(alloc)?,
         reply: world.reply_of(alloc, conn, request, given)?,
-    })
-}
-
-fn copy_given(alloc: Global, given: &Given) -> Result<Given, AllocError>
-    ensures { IfOk result (λ copied. copied ≡ given.now) }
-{
-    Ok(Given {
-        word: given.word,
-        points: Items::new(Vec::from_slice(alloc, given.points.as_slice())?),
     })
 }
 
