@@ -1,6 +1,6 @@
 -- What a request leaves of a book.
-use Rattle.std.proofs.Common.{◌≡◌, ◌≢◌, ℕ, zero, suc, ◌+◌, ◌≤◌, ◌<◌, ◌==◌, ◌&&◌, Bool, true, false, not, cond, if◌then◌else◌, List, [], ◌∷◌, ◌++◌, length, is_none, is_some, IsSome, get_or, slice_get, Option, None, Some, refl, ap, sym, ◌∙◌, subst, arith}
-use Rattle.std.specs.List.{AllByRecursion, filter}
+use Rattle.std.proofs.Common.{◌≡◌, ℕ, zero, suc, ◌+◌, ◌≤◌, ◌<◌, ◌==◌, ◌&&◌, Bool, true, false, not, cond, if◌then◌else◌, List, [], ◌∷◌, is_none, is_some, IsSome, get_or, slice_get, Option, None, Some, refl, ap, sym, ◌∙◌, subst, arith}
+use Rattle.std.specs.List.{AllByRecursion}
 use Rattle.std.specs.Option.{option_and_then, option_map, option_map_or}
 use Rattle.std.proofs.lemmas.Bool.{eq-eqb, eqb-true}
 use Rattle.mounts.proofs.Firsts.{found_all, found_passes}
@@ -18,11 +18,11 @@ use Rattle.session_state.specs.declared.method.Method.TheVariants as methods
 use Rattle.session_state.specs.declared.session.Session.{Session}
 use Rattle.session_state.specs.Checks.{LooksUp}
 use Rattle.session_state.specs.History.{History, accepted, accepts, accepts_from, act_of, how_many, is_play_of, last_of}
-use Rattle.session_state.specs.Judged.{IsReplyIn, asked_of, session_kept}
+use Rattle.session_state.specs.Judged.{IsReplyIn, asked_of}
 use Rattle.session_state.specs.Legal.{IsLegal, IsReplyOf}
 use Rattle.session_state.specs.Lookups.{IsSessionOf, is_open, open_count}
 use Rattle.session_state.specs.Methods.{is_announce, is_teardown, method_of}
-use Rattle.session_state.specs.Stands.{Stands, Tables, kept_of}
+use Rattle.session_state.specs.Stands.{Stands, Tables, kept_of, session_kept}
 use Rattle.session_state.specs.Streams.{IsLive, ends_of, is_out, takes_or_gives_back}
 use Rattle.session_state.proofs.Announced.{owned_none}
 use Rattle.session_state.proofs.Plays.{plays_free}
@@ -31,7 +31,7 @@ use Rattle.session_lock.specs.Books.{IsKept, IsOffer}
 use Rattle.session_lock.specs.Entries.{Written, method_accepted}
 use Rattle.session_lock.specs.Held.{Held}
 use Rattle.session_lock.specs.Requests.{CanBegin, passes_after, pass_after}
-use Rattle.session_lock.specs.Spares.{AreSpare, IsSpareOf, handed_out, left_by, of_number, of_owner, out_count, pass_at, unended, with_pass, without}
+use Rattle.session_lock.specs.Spares.{AreSpare, IsSpareOf, handed_out, left_by, of_owner, out_count, pass_at, unended, without}
 use Rattle.session_state.proofs.OneReply.{one_reply}
 use Rattle.session_lock.proofs.Played.{out_counted, plays_on}
 use Rattle.session_lock.proofs.Spared.{begun_so, ended_so, moved_so, unnumbered}

@@ -13,8 +13,7 @@ use Rattle.session_state.specs.declared.session.Session.{Session}
 use Rattle.session_state.specs.History.{History, act_of, is_play_of, last_of}
 use Rattle.session_state.specs.Legal.{Comes, IsBack, IsHangUp, IsLegal}
 use Rattle.session_state.specs.Lookups.{IsSessionOf, is_open, open_count}
-use Rattle.session_state.specs.Judged.{session_kept}
-use Rattle.session_state.specs.Stands.{Stands, Tables, kept_of}
+use Rattle.session_state.specs.Stands.{Stands, Tables, kept_of, session_kept}
 use Rattle.session_state.specs.Streams.{ends_of, is_out, takes_or_gives_back}
 use Rattle.session_state.proofs.Coming.{none_lives}
 use Rattle.session_state.proofs.Plays.{out_below}
