@@ -14,4 +14,6 @@ pub use passes::Passes;
 pub use spares::MountPasses;
 
 #[cfg(test)]
+mod exchange_tests;
+#[cfg(test)]
 mod tests;

@@ -89,8 +89,8 @@ impl World {
     }
 
     /// Decides a request of an open connection: what it is answered, and what its connection has to do. Looks at the request,
-    /// at the connection's session and at its mount: up to `MAX_MOUNTS` of them by number, and never at other connections. The
-    /// only error is want of memory, and then nothing has changed.
+    /// at the connection's session and at the table of mounts, which has at most `MAX_MOUNTS`, and never at another connection's
+    /// session or at what has happened. The only error is want of memory, and then nothing has changed.
     pub fn decide(
         &mut self,
         alloc: Global,
