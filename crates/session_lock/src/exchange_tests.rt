@@ -156,7 +156,7 @@ fn is_as(book: &mut Book<u16>, alloc: Global, row: &Row) -> bool {
         && answer.act == row.act
         && answer.pass == row.pass
         && back == row.back
-        && book.kept() == kept + 1
+        && book.kept() == kept.wrapping_add(1)
 }
 
 /// Whether a pass is handed back, and nothing is added.

@@ -15,6 +15,8 @@ mod check;
 mod check_tests;
 mod checking;
 #[cfg(test)]
+mod decision_rows;
+#[cfg(test)]
 mod decisions_tests;
 mod entry;
 mod fault;
