@@ -35,19 +35,22 @@ one_open history tables conn stands there =
     kept_some [] is = absurd (cc)
     kept_some (one ∷ others) is = omega arith
 
+-- the session that is kept of an open connection is its session in the history
+pub session_told : (seats : ℕ) (history : History) (tables : Tables) (conn : ℕ) → tables.mounts.seats ≡ seats → Stands history tables
+    → is_open conn history ≡ true → IsSessionOf seats conn history (session_kept tables conn)
+session_told seats history tables conn same stands there = by (kept_of conn tables.connections) refl (stands.are_open conn ∙ there)
+  where
+    by : (kept : Option (Option Session)) → kept_of conn tables.connections ≡ kept → is_some (kept_of conn tables.connections) ≡ true
+        → IsSessionOf seats conn history (session_kept tables conn)
+    by None at some = absurd (cc)
+    by (Some session) at some =
+        subst (λ told. IsSessionOf seats conn history told) (sym (ap (λ k. option_and_then (λ kept. kept) k) at))
+          (subst (λ n. IsSessionOf n conn history session) same (stands.sessions conn session at))
+
 pub mount_told : (seats : ℕ) (history : History) (tables : Tables) (conn : ℕ) (told : Option ℕ) → tables.mounts.seats ≡ seats → Stands history tables
     → told ≡ option_map (λ (one : Session). one.mount) (session_kept tables conn) → is_open conn history ≡ true
     → (session : Option Session) × IsSessionOf seats conn history session × (told ≡ option_map (λ (one : Session). one.mount) session)
-mount_told seats history tables conn told same stands is there = by (kept_of conn tables.connections) refl (stands.are_open conn ∙ there)
-  where
-    by : (kept : Option (Option Session)) → kept_of conn tables.connections ≡ kept → is_some (kept_of conn tables.connections) ≡ true
-        → (session : Option Session) × IsSessionOf seats conn history session × (told ≡ option_map (λ (one : Session). one.mount) session)
-    by None at some = absurd (cc)
-    by (Some session) at some = (
-      session,
-      subst (λ n. IsSessionOf n conn history session) same (stands.sessions conn session at),
-      is ∙ ap (λ k. option_map (λ (one : Session). one.mount) (option_and_then (λ kept. kept) k)) at,
-    )
+mount_told seats history tables conn told same stands is there = (session_kept tables conn, session_told seats history tables conn same stands there, is)
 
 -- a test that all pass leaves all
 all_kept : {X : Type 0} (q : X → Bool) (xs : List X) → ((x : X) → q x ≡ true) → filter q xs ≡ xs

@@ -1,6 +1,6 @@
 //! The book.
 ghost use Rattle.std.specs.Prelude.{◌≡◌, ◌≤◌, ◌+◌, ◌∷◌, [], ℕ, true, false, None, Some, IfOk, IfErr, IfSome, IfNone, IsSome, MatchBool, OnErr, length, Option};
-ghost use Rattle.std.specs.Option.{option_map};
+ghost use Rattle.std.specs.Option.{option_copied, option_map};
 ghost use Rattle.session_state.specs.declared.act.Act.TheVariants as acts;
 ghost use Rattle.session_state.specs.declared.entry.Entry.TheVariants as entries;
 ghost use Rattle.session_state.specs.declared.fault.ConnectFault.TheVariants as faults;
@@ -20,7 +20,7 @@ use crate::copies::{copies_of, make_room, room_for};
 use crate::entries::{Entries, accepted_method};
 use crate::spares::Spares;
 use rtsp_message::Request;
-use session_state::{Act, ConnectFault, Entry, Given, Method, World, read_method};
+use session_state::{Act, ConnectFault, Entry, Given, Method, Session, World, read_method};
 use std::alloc::Global;
 use std::collections::hash_map::RandomState;
 use std::marker::Model;
@@ -75,6 +75,13 @@ impl<P: Drop> Book<P> {
         ensures { result ≡ is_open conn self.now.history }
     {
         self.world.is_open(conn)
+    }
+
+    /// The session of an open connection, as it stands now. `None` without a session.
+    pub fn session_of(&self, conn: u64) -> Option<&Session>
+        ensures open { is_open conn self.now.history ≡ true → IsSessionOf self.now.seats conn self.now.history (option_copied result) }
+    {
+        self.world.session_of(conn)
     }
 
     /// The number of the mount of an open connection's session. `None` without a session.

@@ -126,7 +126,7 @@ impl World {
     }
 
     /// The session of a connection.
-    pub(crate) fn session_of(&self, conn: u64) -> Option<&Session>
+    pub fn session_of(&self, conn: u64) -> Option<&Session>
         ensures { option_copied result ≡ session_kept self.now conn }
     {
         self.connections.get(&conn)?.as_ref()

@@ -47,6 +47,16 @@ impl TrackChannels {
         }
     }
 
+    /// The same channels once more. Takes no memory.
+    pub fn copy(&self) -> TrackChannels
+        ensures { result ≡ self.now }
+    {
+        TrackChannels {
+            pairs: self.pairs,
+            tags: self.tags,
+        }
+    }
+
     /// The channels of a track, if it is set up.
     pub fn pair_of(&self, track: usize) -> Option<ChannelPair>
         ensures value { result ≡ pair_at self.now track }

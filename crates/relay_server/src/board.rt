@@ -1,0 +1,84 @@
+//! The mounts that are being recorded, by number.
+use crate::notice::Notice;
+use base_syntax::Items;
+use std::alloc::{AllocError, Global};
+use std::sync::{Arc, Mutex, Wait};
+use transport_header::Point;
+
+/// A mount that is being recorded.
+#[derive(Drop)]
+struct Posted {
+    mount: u64,
+    notice: Arc<Notice, Global>,
+}
+
+/// The mounts that are being recorded, at most 64, each with what tells of its packets.
+///
+/// Its lock is held for a walk over the mounts, and no other lock is taken meanwhile.
+#[derive(Drop)]
+pub(crate) struct Board {
+    mounts: Mutex<Vec<Posted>>,
+}
+
+impl Board {
+    pub(crate) fn new(alloc: Global) -> Board {
+        Board {
+            mounts: Mutex::new(Vec::new(alloc)),
+        }
+    }
+
+    /// A mount is being recorded. Where memory is refused, its points aren't told and its players aren't woken by
+    /// the waker.
+    pub(crate) fn add(
+        &self,
+        rt: &impl Wait,
+        mount: u64,
+        notice: &Arc<Notice, Global>,
+    ) -> Result<(), AllocError> {
+        let notice = Arc::try_clone(notice)?;
+        let mut mounts = self.mounts.lock(rt);
+        mounts.push(Posted { mount, notice })?;
+        Ok(())
+    }
+
+    /// A mount has ended.
+    pub(crate) fn remove(&self, rt: &impl Wait, mount: u64) {
+        let mut mounts = self.mounts.lock(rt);
+        mounts.retain(|posted| posted.mount != mount);
+    }
+
+    /// Where the tracks of a mount stand. Nothing is told of a mount that isn't recorded.
+    pub(crate) fn points(
+        &self,
+        rt: &impl Wait,
+        alloc: Global,
+        mount: u64,
+    ) -> Result<Items<Option<Point>>, AllocError> {
+        match self.notice_of(rt, mount)? {
+            Some(notice) => notice.points(rt, alloc),
+            None => Ok(Items::empty(alloc)),
+        }
+    }
+
+    fn notice_of(
+        &self,
+        rt: &impl Wait,
+        mount: u64,
+    ) -> Result<Option<Arc<Notice, Global>>, AllocError> {
+        let mounts = self.mounts.lock(rt);
+        for posted in mounts.iter() {
+            if posted.mount == mount {
+                return Ok(Some(Arc::try_clone(&posted.notice)?));
+            }
+        }
+        Ok(None)
+    }
+
+    /// Wakes the players of each mount that packets came to.
+    pub(crate) fn wake_marked(&self, rt: &impl Wait) {
+        let mounts = self.mounts.lock(rt);
+        for posted in mounts.iter() {
+            posted.notice.wake_if_marked();
+        }
+    }
+}

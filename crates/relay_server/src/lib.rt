@@ -1,0 +1,33 @@
+//! The server: connections over sockets, the threads that read and play, and what they share.
+#![tactic(auto)]
+
+mod bell;
+mod board;
+mod connection;
+mod ending;
+mod frames;
+mod gate;
+mod line;
+#[cfg(test)]
+mod loopback;
+mod maker;
+mod notice;
+mod options;
+mod posting;
+mod server;
+mod shared;
+mod socket;
+#[cfg(test)]
+mod tests;
+mod words;
+
+pub use connection::run_connection;
+pub use ending::ConnectionEnd;
+pub use gate::{Gate, OpenGate};
+pub use line::Line;
+pub use maker::{Maker, RingMaker, Seat};
+pub use options::Options;
+pub use server::run_server;
+pub use shared::{Shared, SharedBook};
+pub use socket::{HangUp, Socket};
+pub use words::Words;

@@ -1,0 +1,165 @@
+//! Clients over loopback, for tests.
+use crate::gate::Gate;
+use crate::maker::{Maker, RingMaker, Seat};
+use crate::options::Options;
+use crate::server::run_server;
+use crate::shared::SharedBook;
+use crate::words::Words;
+use log::Log;
+use packet_ring::Pass;
+use session_lock::Book;
+use std::alloc::{AllocError, Global};
+use std::collections::hash_map::RandomState;
+use std::io::{Read, Write};
+use std::net::{Net, SocketAddr, TcpListener, TcpStream};
+use std::sync::{Arc, Mutex, Wait};
+use std::thread::{JoinHandle, Threads};
+use std::time::{Clock, Duration};
+use std::{io, thread};
+
+/// Answers this word each time.
+#[derive(Drop)]
+pub(crate) struct OneWord;
+
+impl Words for OneWord {
+    fn word(&mut self) -> u32 {
+        0x0000_abcd
+    }
+}
+
+/// What is announced: one track of video.
+pub(crate) const ANNOUNCE: &str =
+    "ANNOUNCE rtsp://127.0.0.1:8554/cam RTSP/1.0\r\nCSeq: 2\r\nContent-Length: 137\r\n\r\nv=0\r\no=- 0 0 IN IP4 127.0.0.1\r\ns=No Name\r\nc=IN IP4 127.0.0.1\r\nt=0 0\r\nm=video 0 RTP/AVP 96\r\na=rtpmap:96 H264/90000\r\na=control:streamid=0\r\n";
+
+/// A peer of a server, which gives up when nothing comes for ten seconds.
+#[derive(Drop)]
+pub(crate) struct Client {
+    stream: TcpStream,
+    alloc: Global,
+}
+
+impl Client {
+    pub(crate) fn connect<R: Net<Stream = TcpStream>>(
+        rt: &R,
+        alloc: Global,
+        addr: SocketAddr,
+    ) -> io::Result<Client> {
+        let stream = TcpStream::connect(rt, addr)?;
+        stream.set_read_timeout(Some(Duration::from_secs(10)))?;
+        Ok(Client { stream, alloc })
+    }
+
+    pub(crate) fn say(&mut self, bytes: &[u8]) -> io::Result<()> {
+        self.stream.write_all(bytes)
+    }
+
+    /// The next so many bytes, or fewer where there are no more.
+    pub(crate) fn bytes(&mut self, count: usize) -> io::Result<Vec<u8>> {
+        let mut all = Vec::new(self.alloc);
+        for _ in 0..count {
+            let mut byte = [0];
+            if self.stream.read(&mut byte)? == 0 {
+                break;
+            }
+            all.push(byte[0])?;
+        }
+        Ok(all)
+    }
+
+    /// The next bytes up to an empty line, or up to the end.
+    pub(crate) fn head(&mut self) -> io::Result<Vec<u8>> {
+        let mut all = Vec::new(self.alloc);
+        for _ in 0..100_000u32 {
+            let mut byte = [0];
+            if all.as_slice().ends_with(b"\r\n\r\n") || self.stream.read(&mut byte)? == 0 {
+                break;
+            }
+            all.push(byte[0])?;
+        }
+        Ok(all)
+    }
+
+    /// Asks, and answers the head of the reply.
+    pub(crate) fn ask(&mut self, request: &[u8]) -> io::Result<Vec<u8>> {
+        self.say(request)?;
+        self.head()
+    }
+}
+
+/// The number behind the status code's place in a reply.
+pub(crate) fn status(head: &[u8]) -> u16 {
+    let mut code = 0u16;
+    for byte in head.get(9..12).unwrap_or(b"") {
+        code = code
+            .wrapping_mul(10)
+            .wrapping_add(u16::from(byte.wrapping_sub(b'0')));
+    }
+    code
+}
+
+/// A server that is running in a thread of its own.
+#[derive(Drop)]
+pub(crate) struct Running {
+    pub(crate) addr: SocketAddr,
+    pub(crate) book: SharedBook<Seat<Pass>>,
+    thread: JoinHandle<Result<(), AllocError>>,
+}
+
+impl Running {
+    /// Waits until the server has ended.
+    pub(crate) fn end<R: Threads>(self, rt: &R) -> Result<SharedBook<Seat<Pass>>, AllocError> {
+        let Running {
+            addr: _,
+            book,
+            thread,
+        } = self;
+        thread.join(rt)?;
+        Ok(book)
+    }
+}
+
+/// What a test's server is told.
+#[derive(Clone, Copy)]
+pub(crate) struct Set {
+    pub(crate) accept: u64,
+    pub(crate) seats: usize,
+    pub(crate) hang_up_ended: bool,
+}
+
+/// Starts a server whose rings keep 512 packets of at most 1,024 bytes.
+pub(crate) fn start<R, G>(
+    rt: R,
+    alloc: Global,
+    set: Set,
+    hasher: RandomState,
+    gate: G,
+) -> io::Result<Running>
+where
+    R: Threads
+        + Wait
+        + Clock
+        + Log
+        + Net<Listener = TcpListener, Stream = TcpStream>
+        + Copy
+        + Send
+        + Sync
+        + 'static,
+    G: Gate + Drop + Send + Sync + 'static,
+{
+    let listener = TcpListener::bind(&rt, "127.0.0.1:0")?;
+    let addr = listener.local_addr()?;
+    let seats = set.seats.min(1024);
+    let book = Arc::new(alloc, Mutex::new(Book::new(alloc, seats, hasher)))?;
+    let theirs = Arc::try_clone(&book)?;
+    let options = Options {
+        accept: Some(set.accept),
+        gather: 1,
+        hang_up_ended: set.hang_up_ended,
+    };
+    let maker = RingMaker::new(512, seats, 1024);
+    let thread = thread::spawn(&rt, move || {
+        run_server(rt, alloc, &listener, options, maker, theirs, OneWord, gate)
+    })
+    .map_err(|_| AllocError)?;
+    Ok(Running { addr, book, thread })
+}

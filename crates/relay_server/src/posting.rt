@@ -1,0 +1,104 @@
+//! The feed of a mount, with what its players are told beside the packets.
+ghost use Rattle.std.specs.Prelude.{◌≡◌, ◌%◌, ◌/◌, ◌⊎◌, ◌<◌, ◌≤◌, length, IfSome, IfNone};
+ghost use Rattle.publisher.specs.Rtp.{point_of as point_in};
+
+use crate::bell::Bell;
+use crate::notice::Notice;
+use cursor::{Feed, Refused};
+use publisher::point_of;
+use std::alloc::Global;
+use std::sync::{Arc, Wait};
+use transport_header::Point;
+
+/// The bytes of an RTP packet's fixed header (RFC 3550, 5.1).
+const FIXED_HEADER: usize = 12;
+
+/// A feed that tells of each packet that it takes: where its track stands now, and that there is something to take.
+#[derive(Drop)]
+pub(crate) struct Posting<R, F> {
+    rt: R,
+    feed: F,
+    notice: Arc<Notice, Global>,
+    bell: Arc<Bell, Global>,
+    /// Whether the waking thread knows of the mount; else its players are woken at each packet.
+    pub(crate) posted: bool,
+}
+
+impl<R, F> Posting<R, F> {
+    pub(crate) fn new(
+        rt: R,
+        feed: F,
+        notice: Arc<Notice, Global>,
+        bell: Arc<Bell, Global>,
+    ) -> Posting<R, F> {
+        Posting {
+            rt,
+            feed,
+            notice,
+            bell,
+            posted: false,
+        }
+    }
+}
+
+impl<R: Drop, F: Feed> Posting<R, F> {
+    /// No packet comes any more. The players are woken to see it.
+    pub(crate) fn end(self) {
+        let Posting {
+            rt: _,
+            feed,
+            notice,
+            bell: _,
+            posted: _,
+        } = self;
+        feed.close();
+        notice.wake();
+    }
+
+    pub(crate) fn notice(&self) -> &Arc<Notice, Global> {
+        &self.notice
+    }
+}
+
+impl<R: Wait + Drop, F: Feed> Feed for Posting<R, F> {
+    ghost told = { λ p. F.told p.feed };
+
+    ghost packet_bytes = { λ p. F.packet_bytes p.feed };
+
+    ghost may_refuse = { F.may_refuse };
+
+    ghost publish_gives = { λ old packet answer new. F.publish_gives old.feed packet answer new.feed };
+
+    fn publish(&mut self, tag: u8, bytes: &[u8]) -> Result<u64, Refused> {
+        let number = self.feed.publish(tag, bytes)?;
+        if let Some((track, point)) = point_to_post(tag, bytes) {
+            self.notice.post(&self.rt, track, point);
+        }
+        if self.posted {
+            self.notice.mark();
+            self.bell.ring();
+        } else {
+            self.notice.wake();
+        }
+        Ok(number)
+    }
+
+    fn packet_bytes(&self) -> usize {
+        self.feed.packet_bytes()
+    }
+
+    fn close(self) {
+        self.feed.close();
+    }
+}
+
+/// The track of a packet of RTP, and its point; RTCP has an odd tag and no point.
+fn point_to_post(tag: u8, bytes: &[u8]) -> Option<(usize, Point)>
+    ensures some { IfSome result (λ r. (tag % 2 ≡ 0) × (r.0 ≡ tag / 2) × (r.1 ≡ point_in bytes.now)) }
+    ensures none { IfNone result ((tag % 2 ≡ 1) ⊎ (length bytes.now < 12)) }
+{
+    if tag % 2 == 1 || bytes.len() < FIXED_HEADER {
+        return None;
+    }
+    Some((usize::from(tag / 2), point_of(bytes)))
+}

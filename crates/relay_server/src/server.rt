@@ -1,0 +1,194 @@
+//! The listening thread, and the threads of connections.
+use crate::bell::wake_players;
+use crate::connection::run_connection;
+use crate::ending::ConnectionEnd;
+use crate::gate::Gate;
+use crate::line::Line;
+use crate::maker::{RingMaker, Seat};
+use crate::notice::low_half;
+use crate::options::Options;
+use crate::shared::{Shared, SharedBook};
+use crate::socket::Socket;
+use crate::words::Words;
+use interleaved::{Reading, Writing, write_all};
+use log::{Log, warn};
+use packet_ring::Pass;
+use rtsp_message::{Status, put_plain};
+use std::alloc::{AllocError, Global};
+use std::io::Write;
+use std::net::{SocketAddr, TcpListener, TcpStream};
+use std::sync::atomic::Ordering;
+use std::sync::{Arc, Wait};
+use std::thread;
+use std::thread::Threads;
+use std::time::{Clock, Duration};
+
+/// What the threads of a server share whose mounts are rings.
+type RingShared<V, G> = Shared<RingMaker, V, G>;
+
+/// How long the server waits after it couldn't accept, in milliseconds, so that a lack of descriptors doesn't keep it
+/// busy.
+const AFTER_NO_ACCEPT: u64 = 100;
+
+/// Serves connections of a listener: each is read by a thread of its own. Returns once as many as `options.accept` says
+/// were accepted and have ended, else never; or with an error where memory or a thread is wanting for what all
+/// connections share.
+pub fn run_server<R, V, G>(
+    rt: R,
+    alloc: Global,
+    listener: &TcpListener,
+    options: Options,
+    maker: RingMaker,
+    book: SharedBook<Seat<Pass>>,
+    words: V,
+    gate: G,
+) -> Result<(), AllocError>
+where
+    R: Threads + Wait + Clock + Log + Copy + Send + Sync + 'static,
+    V: Words + Drop + Send + 'static,
+    G: Gate + Drop + Send + Sync + 'static,
+{
+    let shared = Shared::new(alloc, maker, book, words, gate, options.hang_up_ended)?;
+    let shared = Arc::new(alloc, shared)?;
+    let theirs = Arc::try_clone(&shared)?;
+    let gather = Duration::from_millis(options.gather);
+    let waking = thread::spawn(&rt, move || {
+        wake_players(&rt, &theirs.bell, &theirs.board, gather)
+    })?;
+    accept_all(rt, alloc, listener, options.accept, &shared);
+    wait_for_all(&rt, &shared);
+    shared.bell.stop();
+    waking.join(&rt);
+    Ok(())
+}
+
+/// Accepts connections, for good or as many as are to be accepted.
+fn accept_all<R, V, G>(
+    rt: R,
+    alloc: Global,
+    listener: &TcpListener,
+    most: Option<u64>,
+    shared: &Arc<RingShared<V, G>, Global>,
+)
+where
+    R: Threads + Wait + Clock + Log + Copy + Send + Sync + 'static,
+    V: Words + Drop + Send + 'static,
+    G: Gate + Drop + Send + Sync + 'static,
+{
+    let mut accepted = 0u64;
+    for _ in rt.forever() {
+        if most == Some(accepted) {
+            return;
+        }
+        match listener.accept() {
+            Ok((stream, peer)) => {
+                accepted = accepted.saturating_add(1);
+                welcome(rt, alloc, shared, stream, peer);
+            }
+            Err(_) => thread::sleep(&rt, Duration::from_millis(AFTER_NO_ACCEPT)),
+        }
+    }
+}
+
+/// Lets a connection come and starts its thread. Where one or the other is refused, it is told 503 and closed.
+fn welcome<R, V, G>(
+    rt: R,
+    alloc: Global,
+    shared: &Arc<RingShared<V, G>, Global>,
+    stream: TcpStream,
+    peer: SocketAddr,
+)
+where
+    R: Threads + Wait + Clock + Log + Copy + Send + Sync + 'static,
+    V: Words + Drop + Send + 'static,
+    G: Gate + Drop + Send + Sync + 'static,
+{
+    // Without it frames would only leave later.
+    let _ = stream.set_nodelay(true);
+    let connected = shared.book.lock(&rt).connect();
+    let Ok(conn) = connected else {
+        refuse(stream);
+        return;
+    };
+    let stream = match Arc::new(alloc, stream) {
+        Ok(stream) => stream,
+        Err(refused) => {
+            let _ = shared.book.lock(&rt).hangup(conn);
+            refuse(refused.value);
+            return;
+        }
+    };
+    if start(rt, alloc, shared, conn, &stream, peer).is_err() {
+        let _ = shared.book.lock(&rt).hangup(conn);
+        if let Ok(socket) = Socket::of(&stream) {
+            refuse(socket);
+        }
+    }
+}
+
+/// Starts the thread of a connection.
+fn start<R, V, G>(
+    rt: R,
+    alloc: Global,
+    shared: &Arc<RingShared<V, G>, Global>,
+    conn: u64,
+    stream: &Arc<TcpStream, Global>,
+    peer: SocketAddr,
+) -> Result<(), AllocError>
+where
+    R: Threads + Wait + Clock + Log + Copy + Send + Sync + 'static,
+    V: Words + Drop + Send + 'static,
+    G: Gate + Drop + Send + Sync + 'static,
+{
+    let reader = Reading::new(Socket::of(stream)?);
+    let writer = Writing::new(Socket::of(stream)?);
+    let wire = Socket::of(stream)?;
+    let theirs = Arc::try_clone(shared)?;
+    let same = Arc::try_clone(shared)?;
+    shared.live.fetch_add(1, Ordering::SeqCst);
+    let started = thread::spawn(&rt, move || {
+        let line = Line::new(alloc, writer);
+        let end = run_connection(rt, alloc, theirs, conn, reader, line, wire);
+        tell_end(&rt, peer, end);
+        leave(&same);
+    });
+    match started {
+        Ok(_) => Ok(()),
+        Err(_) => {
+            leave(shared);
+            Err(AllocError)
+        }
+    }
+}
+
+/// A warning where a connection ended by a fault, a failed read or write, or for want of memory or a thread.
+fn tell_end<R: Log>(rt: &R, peer: SocketAddr, end: ConnectionEnd) {
+    if end != ConnectionEnd::Done {
+        warn!(rt; "{peer}: {end}");
+    }
+}
+
+/// One thread less. Whoever waits for the last of them is woken.
+fn leave<V, G>(shared: &RingShared<V, G>) {
+    if shared.live.fetch_sub(1, Ordering::SeqCst) == 1 {
+        shared.live.wake_all();
+    }
+}
+
+/// Waits until no connection has a thread.
+fn wait_for_all<V, G>(rt: &impl Wait, shared: &RingShared<V, G>) {
+    for _ in rt.forever() {
+        let live = shared.live.load(Ordering::SeqCst);
+        if live == 0 {
+            return;
+        }
+        shared.live.park(rt, low_half(live));
+    }
+}
+
+/// Tells a connection that can't be served so. It is closed with the socket.
+fn refuse<W: Write + Drop>(stream: W) {
+    let mut text = [0; 128];
+    let len = put_plain(&mut text, Status::ServiceUnavailable, None);
+    let _ = write_all(&mut Writing::new(stream), &text[..len]);
+}
