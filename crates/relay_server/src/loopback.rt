@@ -22,6 +22,10 @@ use std::{io, thread};
 pub(crate) struct OneWord;
 
 impl Words for OneWord {
+    ghost use Rattle.std.specs.Prelude.{◌≡◌};
+
+    ghost gives = { λ _ word _. word ≡ 43981 };
+
     fn word(&mut self) -> u32 {
         0x0000_abcd
     }

@@ -1,7 +1,7 @@
 //! Connections over loopback.
 use crate::gate::{Gate, OpenGate};
 use crate::loopback::{ANNOUNCE, Client, Set, start, status};
-use std::alloc::Global;
+use std::alloc::{AllocError, Global};
 use std::collections::hash_map::RandomState;
 use std::net::{Net, SocketAddr, TcpStream};
 use std::sync::Arc;
@@ -146,5 +146,137 @@ fn connections_are_served_side_by_side(rt: HostRuntime) -> Result<(), Fail> {
     drop((held, other));
     let _book = server.end(&rt)?;
     assert!(rt; !gave_up.load(Ordering::SeqCst));
+    Ok(())
+}
+
+/// A request in the session of this number, below ten.
+fn asking(alloc: Global, method: &str, number: u8) -> Result<String, AllocError> {
+    format!(in alloc;
+        "{method} rtsp://127.0.0.1:8554/cam RTSP/1.0\r\nCSeq: 7\r\nSession: 0000000{number}0000abcd\r\n\r\n"
+    )
+}
+
+/// A client that plays `cam` in the session of this number, which is the next one.
+fn player<R: Net<Stream = TcpStream>>(
+    rt: &R,
+    alloc: Global,
+    addr: SocketAddr,
+    number: u8,
+) -> io::Result<Client> {
+    let mut client = Client::connect(rt, alloc, addr)?;
+    client.ask(SETUP_OUT)?;
+    client.ask(&play(number))?;
+    Ok(client)
+}
+
+/// An RTP packet of 1,000 bytes with this number, as a frame on channel 0.
+fn numbered(alloc: Global, number: u16) -> Result<Vec<u8>, AllocError> {
+    let mut frame = Vec::from_elem(alloc, 0, 1004)?;
+    frame[..6].copy_from_slice(b"\x24\x00\x03\xe8\x80\x60");
+    frame[6..8].copy_from_slice(&number.to_be_bytes());
+    Ok(frame)
+}
+
+/// The number in a packet's frame.
+fn number_in(frame: &[u8]) -> u16 {
+    match frame {
+        [_, _, _, _, _, _, high, low, ..] => u16::from_be_bytes([*high, *low]),
+        _ => u16::MAX,
+    }
+}
+
+#[test]
+fn a_player_that_reads_nothing_hurts_no_other(rt: HostRuntime) -> Result<(), Fail> {
+    let alloc = rt.alloc();
+    let set = Set {
+        accept: 4,
+        seats: 3,
+        hang_up_ended: true,
+    };
+    let server = start(rt, alloc, set, RandomState::new(&rt)?, OpenGate)?;
+    let mut camera = publisher(&rt, alloc, server.addr)?;
+    let mut first = player(&rt, alloc, server.addr, 2)?;
+    let mut second = player(&rt, alloc, server.addr, 3)?;
+    let mut stalled = player(&rt, alloc, server.addr, 4)?;
+    for batch in 0..10u16 {
+        for place in 0..100 {
+            camera.say(numbered(alloc, batch * 100 + place)?.as_slice())?;
+        }
+        for place in 0..100 {
+            assert!(rt; number_in(first.bytes(1004)?.as_slice()) == batch * 100 + place);
+            assert!(rt; number_in(second.bytes(1004)?.as_slice()) == batch * 100 + place);
+        }
+    }
+    camera.ask(asking(alloc, "TEARDOWN", 1)?.as_bytes())?;
+    // The mount has ended, and players are hung up when they have read what was kept for them.
+    assert!(rt; first.bytes(1)?.is_empty() && second.bytes(1)?.is_empty());
+    let mut next = 0;
+    for _ in 0..1000u16 {
+        let frame = stalled.bytes(1004)?;
+        if frame.is_empty() {
+            break;
+        }
+        assert!(rt; number_in(frame.as_slice()) >= next);
+        next = number_in(frame.as_slice()).saturating_add(1);
+    }
+    assert!(rt; next == 1000);
+    drop((camera, first, second, stalled));
+    let _book = server.end(&rt)?;
+    Ok(())
+}
+
+#[test]
+fn a_seat_is_free_again_behind_a_pause(rt: HostRuntime) -> Result<(), Fail> {
+    let alloc = rt.alloc();
+    let set = Set {
+        accept: 3,
+        seats: 1,
+        hang_up_ended: false,
+    };
+    let server = start(rt, alloc, set, RandomState::new(&rt)?, OpenGate)?;
+    let mut camera = publisher(&rt, alloc, server.addr)?;
+    let mut first = player(&rt, alloc, server.addr, 2)?;
+    let mut second = Client::connect(&rt, alloc, server.addr)?;
+    second.ask(SETUP_OUT)?;
+    assert!(rt; status(second.ask(&play(3))?.as_slice()) == 453);
+    assert!(rt; status(first.ask(asking(alloc, "PAUSE", 2)?.as_bytes())?.as_slice()) == 200);
+    assert!(rt; status(second.ask(&play(3))?.as_slice()) == 200);
+    camera.say(FRAME)?;
+    assert!(rt; second.bytes(16)?.as_slice().ends_with(&FRAME[4..]));
+    // What came while it paused isn't sent to the first one.
+    assert!(rt;
+        status(
+            first
+                .ask(asking(alloc, "TEARDOWN", 2)?.as_bytes())?
+                .as_slice()
+        ) == 200
+    );
+    drop((camera, first, second));
+    let book = server.end(&rt)?;
+    assert!(rt; !book.lock(&rt).is_open(1));
+    Ok(())
+}
+
+#[test]
+fn connections_that_cannot_be_served_are_told_so(rt: HostRuntime) -> Result<(), Fail> {
+    let alloc = rt.alloc();
+    let set = Set {
+        accept: 2,
+        seats: 1,
+        hang_up_ended: false,
+    };
+    let server = start(rt, alloc, set, RandomState::new(&rt)?, OpenGate)?;
+    let mut odd = Client::connect(&rt, alloc, server.addr)?;
+    assert!(rt;
+        odd.ask(b"HELLO\r\n")?.as_slice() == b"RTSP/1.0 400 Bad Request\r\n\r\n".as_slice()
+    );
+    assert!(rt; odd.bytes(1)?.is_empty());
+    for _ in 0..1024 {
+        let _ = server.book.lock(&rt).connect();
+    }
+    let mut late = Client::connect(&rt, alloc, server.addr)?;
+    assert!(rt; late.head()?.as_slice() == b"RTSP/1.0 503 Service Unavailable\r\n\r\n".as_slice());
+    assert!(rt; late.bytes(1)?.is_empty());
+    let _book = server.end(&rt)?;
     Ok(())
 }
