@@ -1,13 +1,13 @@
 -- What a request's URI names among the mounts that live is one thing.
-use Rattle.std.proofs.Common.{◌≡◌, ℕ, ◌∷◌, List, Option, None, Some, inl, inr, length, length-append, refl, sym, ap, subst, ◌∙◌, arith}
+use Rattle.std.proofs.Common.{◌≡◌, ℕ, List, Option, Some, inl, inr, refl, sym, ap, subst, ◌∙◌}
 use Rattle.mounts.specs.declared.mount.Mount.{Mount}
 use Rattle.mounts.specs.declared.target.Target.{Target}
 use Rattle.mounts.specs.declared.uri.Uri.TheVariants.{At}
 use Rattle.mounts.specs.Mounts.{IsSound, Table, named, numbered, owned_by}
 use Rattle.mounts.specs.Names.{GoesOn}
-use Rattle.mounts.specs.Uri.{IsUri, slash}
+use Rattle.mounts.specs.Uri.{IsUri}
 use Rattle.mounts.proofs.Lookups.{found_is_numbered, looked_up, only_name, only_owner}
-use Rattle.mounts.proofs.OneAnswer.{one_mount, one_rest, one_uri}
+use Rattle.mounts.proofs.OneAnswer.{one_mount, one_uri, shorter}
 use Rattle.session_state.specs.Streams.{IsSetUpOn}
 
 -- a text that is the URI of a target is that of no other
@@ -31,10 +31,7 @@ owned_is_numbered table owner mount sound at =
 
 -- a path goes on after a name in one way
 pub one_behind : (path name : List ℕ) (rest behind : Option (List ℕ)) → GoesOn path name rest → GoesOn path name behind → rest ≡ behind
-one_behind path name None None g h = refl
-one_behind path name None (Some r) g h = let long = ap length (sym g ∙ h) in absurd (omega (arith, long, length-append name (slash ∷ r)))
-one_behind path name (Some r) None g h = let long = ap length (sym h ∙ g) in absurd (omega (arith, long, length-append name (slash ∷ r)))
-one_behind path name (Some r) (Some s) g h = ap Some (one_rest path name r s g h)
+one_behind path name rest behind g h = (shorter path name name rest behind g h refl).1
 
 -- the path of a SETUP names one mount, with one rest
 pub one_set_up : (mounts : List Mount) (conn : ℕ) (path : List ℕ) (number other : ℕ) (rest behind : Option (List ℕ)) → IsSetUpOn mounts conn path number rest → IsSetUpOn mounts conn path other behind

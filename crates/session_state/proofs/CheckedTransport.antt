@@ -6,6 +6,7 @@ use Rattle.transport_header.specs.declared.spec.Spec.{Spec}
 use Rattle.transport_header.specs.declared.spec.Mode.TheVariants as modes
 use Rattle.transport_header.specs.Chosen.{IsAcceptable, IsFirstAcceptable}
 use Rattle.transport_header.specs.Transport.{specs_of}
+use Rattle.transport_header.proofs.OneChoice.{first_is_one}
 use Rattle.mounts.specs.declared.mount.Mount.{Mount}
 use Rattle.mounts.specs.declared.target.Target.{Target}
 use Rattle.mounts.specs.Mounts.{numbered, owned_by}
@@ -31,18 +32,6 @@ rest_of x xs none k d below = none (suc k) d (omega arith)
 none_at : (before : List Spec) (spec : Spec) (after : List Spec) → NoneAcceptable (before ++ spec ∷ after) → ¬ IsAcceptable spec
 none_at [] spec after none = none 0 spec (omega arith)
 none_at (x ∷ xs) spec after none = none_at xs spec after (rest_of x (xs ++ spec ∷ after) none)
-
-first_at : (xs ys : List Spec) (a b : Spec) (ls rs : List Spec) → xs ++ a ∷ ls ≡ ys ++ b ∷ rs → NoneAcceptable xs → IsAcceptable a → NoneAcceptable ys → IsAcceptable b → a ≡ b
-first_at [] [] a b ls rs same none_a ok_a none_b ok_b = cc
-first_at [] (y ∷ ys) a b ls rs same none_a ok_a none_b ok_b = let head : y ≡ a = cc in absurd (none_b 0 y (omega arith) (rw head ok_a))
-first_at (x ∷ xs) [] a b ls rs same none_a ok_a none_b ok_b = let head : x ≡ b = cc in absurd (none_a 0 x (omega arith) (rw head ok_b))
-first_at (x ∷ xs) (y ∷ ys) a b ls rs same none_a ok_a none_b ok_b =
-    let tail : xs ++ a ∷ ls ≡ ys ++ b ∷ rs = cc in
-    first_at xs ys a b ls rs tail (rest_of x xs none_a) ok_a (rest_of y ys none_b) ok_b
-
--- one spec is the first acceptable one
-one_first : (specs : List Spec) (a b : Spec) → IsFirstAcceptable specs a → IsFirstAcceptable specs b → a ≡ b
-one_first specs a b g h = first_at g.0 h.0 a b g.1 h.1 (sym g.2 ∙ h.2) g.3 g.4 h.3 h.4
 
 -- no spec is asked for where none is acceptable
 pub none_asked : (asked : Asked) (text : List ℕ) (specs : List Spec) → field asked (codes "Transport") ≡ Some text → specs ≡ specs_of text → NoneAcceptable specs → Passes asked HasTransport → ⊥
@@ -120,7 +109,7 @@ asked_spec asking delivery is history = (is.text, is.field_is, subst (λ specs. 
 only_spec : (asking : Asking) (delivery : Delivery) (is : IsDelivery asking delivery) (history : History) (spec : Spec) → AsksFor (asked_in asking history) spec → spec ≡ is.spec
 only_spec asking delivery is history spec h =
     let same : h.0 ≡ is.text = same_some h.0 is.text _ h.1 is.field_is in
-    one_first delivery.specs spec is.spec (subst (λ specs. IsFirstAcceptable specs spec) (ap specs_of same ∙ sym is.specs_are) h.2) is.first
+    first_is_one delivery.specs spec is.spec (subst (λ specs. IsFirstAcceptable specs spec) (ap specs_of same ∙ sym is.specs_are) h.2) is.first
 
 pub may_record : (asking : Asking) (target : Target) (mount : Mount) (track : Option ℕ) (delivery : Delivery) → IsNamedForSetup asking target mount track → IsDelivery asking delivery
     → (delivery.recording ≡ true → mount.owner ≡ asking.conn) → IsPassing asking (HasTransport ∷ MayRecord ∷ [])

@@ -2,14 +2,9 @@
 use Rattle.std.proofs.Common.{◌≡◌, ◌==◌, ◌++◌, ℕ, Bool, List, [], ◌∷◌, Option, None, Some, Result, Ok, Err, MatchResult, IfOk, sym, ap, subst, ◌∙◌, append_assoc}
 use Rattle.std.specs.Option.{option_and_then, option_copied}
 use Rattle.rtsp_message.specs.declared.request.Request as messages
-use Rattle.sdp.specs.declared.sections.Sections.{Sections}
 use Rattle.mounts.specs.declared.mount.Mount.{Mount}
-use Rattle.mounts.specs.declared.target.Target.{Target}
-use Rattle.mounts.specs.declared.uri.Uri.TheVariants.{At}
 use Rattle.mounts.specs.Mounts.{Table, numbered}
-use Rattle.mounts.specs.Uri.{IsUri}
 use Rattle.mounts.proofs.Firsts.{found_all}
-use Rattle.mounts.proofs.OneAnswer.{one_uri}
 use Rattle.session_state.specs.declared.accepted.Accepted.{Accepted}
 use Rattle.session_state.specs.declared.asking.Asking.{Asking}
 use Rattle.session_state.specs.declared.check.Check.{Check}
@@ -26,20 +21,11 @@ use Rattle.session_state.specs.Judged.{IsFine, asked_of}
 use Rattle.session_state.specs.Lookups.{IsSession}
 use Rattle.session_state.specs.Methods.{is_announce, method_of}
 use Rattle.session_state.specs.Stands.{Stands, Tables, kept_of, session_kept}
-use Rattle.session_state.specs.Streams.{Announces, AreLive, IsLiveMount}
+use Rattle.session_state.specs.Streams.{AreLive, IsLiveMount}
 use Rattle.session_state.proofs.CheckedSetUp.{has_number}
 use Rattle.session_state.proofs.Identifiers.{is_beginning}
+use Rattle.session_state.proofs.Namesakes.{one_announcement}
 use Rattle.session_state.proofs.Nth.{one_nth}
-
--- an announcement has one name
-one_name : (entry other : Entry) (owner who : ℕ) (name second : List ℕ) (a b : Sections) → entry ≡ other → Announces entry owner name a → Announces other who second b → name ≡ second
-one_name entry other owner who name second a b same one two =
-    let both = sym one.asks.is ∙ same ∙ two.asks.is in
-    let request : two.asks.request ≡ one.asks.request = cc in
-    let uri : IsUri one.asks.request.uri (At two.target) = subst (λ (r : messages.Request). IsUri r.uri (At two.target)) request two.uri in
-    let is = one_uri one.asks.request.uri (At one.target) (At two.target) one.uri uri in
-    let target : one.target ≡ two.target = cc in
-    sym one.path ∙ ap (λ (t : Target). t.path) target ∙ two.path
 
 -- what is the n-th of some entries is the n-th of more
 nth_of_more : (that : Entry → Bool) (n : ℕ) (history front before later : History) (moment : Moment) → history ≡ front ++ before → IsNth that n before later moment → IsNth that n history (front ++ later) moment
@@ -59,7 +45,7 @@ session_name seats conn history session mounts mount live is at =
     let earlier = nth_of_more (accepts is_announce) is.mount.number history front is.begin.before old.live.later old.live.moment cut old.live.nth in
     let nth = subst (λ n. IsNth (accepts is_announce) n history new.live.later new.live.moment) number new.live.nth in
     let moment = one_nth (accepts is_announce) is.mount.number history new.live.later (front ++ old.live.later) new.live.moment old.live.moment nth earlier in
-    one_name new.live.moment.entry old.live.moment.entry mount.owner is.mount.owner mount.name is.mount.name mount.description is.mount.description moment.entry new.announced old.announced
+    (one_announcement new.live.moment.entry old.live.moment.entry mount.owner is.mount.owner mount.name is.mount.name mount.description is.mount.description moment.entry new.announced old.announced).name_is
     ∙ sym is.name_is
 
 -- The tables tell this of a request.

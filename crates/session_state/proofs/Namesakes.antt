@@ -6,6 +6,8 @@ use Rattle.std.proofs.lemmas.List.Folds.{find_at}
 use Rattle.rtsp_message.specs.declared.request.Request as messages
 use Rattle.rtsp_message.specs.declared.reply.Reply.{Reply}
 use Rattle.sdp.specs.declared.sections.Sections.{Sections}
+use Rattle.sdp.specs.Readings.{Reads}
+use Rattle.sdp.proofs.OneReading.{one_reading}
 use Rattle.mounts.specs.declared.mount.Mount.{Mount}
 use Rattle.mounts.specs.declared.target.Target.{Target}
 use Rattle.mounts.specs.declared.uri.Uri.TheVariants.{At}
@@ -32,15 +34,25 @@ pub record HasName (history : History) (number owner : ℕ) (name : List ℕ) : 
   pub description : Sections
   pub announced : Announces live.moment.entry owner name description
 
--- An announcement has one name.
-one_name : (entry other : Entry) (owner who : ℕ) (name second : List ℕ) (a b : Sections) → entry ≡ other → Announces entry owner name a → Announces other who second b → name ≡ second
-one_name entry other owner who name second a b same one two =
+-- An announcement announces one thing.
+pub record SayOne (owner who : ℕ) (name second : List ℕ) (description other : Sections) : Type 0 where
+  pub owner_is : owner ≡ who
+  pub name_is : name ≡ second
+  pub description_is : description ≡ other
+
+pub one_announcement : (entry also : Entry) (owner who : ℕ) (name second : List ℕ) (description other : Sections) → entry ≡ also → Announces entry owner name description → Announces also who second other
+    → SayOne owner who name second description other
+one_announcement entry also owner who name second description other same one two =
     let both = sym one.asks.is ∙ same ∙ two.asks.is in
     let request : two.asks.request ≡ one.asks.request = cc in
     let uri : IsUri one.asks.request.uri (At two.target) = subst (λ (r : messages.Request). IsUri r.uri (At two.target)) request two.uri in
     let is = one_uri one.asks.request.uri (At one.target) (At two.target) one.uri uri in
     let target : one.target ≡ two.target = cc in
-    sym one.path ∙ ap (λ (t : Target). t.path) target ∙ two.path
+    record {
+      owner_is = cc;
+      name_is = sym one.path ∙ ap (λ (t : Target). t.path) target ∙ two.path;
+      description_is = one_reading one.body (subst (λ (r : messages.Request). Reads r.body other) request two.body);
+    }
 
 -- who announces a mount takes no name of one that lives
 new_name : (seats : ℕ) (before : History) (who owner : ℕ) (request : messages.Request) (given : Given) (reply : Reply) (act : Act) (name : List ℕ) (description : Sections) (number other : ℕ)
@@ -61,7 +73,7 @@ new_name seats before who owner request given reply act name description number 
     let live : IsLive before number found.0.owner = subst (λ n. IsLive before n found.0.owner) numbers lives.live in
     let nth = subst (λ n. IsNth (accepts is_announce) n before lives.live.later lives.live.moment) numbers lives.live.nth in
     let moment = one_nth (accepts is_announce) number before lives.live.later has.live.later lives.live.moment has.live.moment nth has.live.nth in
-    let named = one_name lives.live.moment.entry has.live.moment.entry found.0.owner other found.0.name name found.0.description has.description moment.entry lives.announced has.announced in
+    let named = (one_announcement lives.live.moment.entry has.live.moment.entry found.0.owner other found.0.name name found.0.description has.description moment.entry lives.announced has.announced).name_is in
     let there = sym (find_at (λ mount. mount.number == number) is.mounts) ∙ found.1 in
     key_at (λ (mount : Mount). mount.name) (λ n. n ≢ free.0.path) is.mounts (position_or_len (λ mount. mount.number == number) is.mounts) found.0 (names_apart free.0.path is.mounts free.1.free) there
     (named ∙ sym path)

@@ -4,10 +4,7 @@ use Rattle.std.specs.List.{find}
 use Rattle.std.specs.Str.{bytes_eq}
 use Rattle.std.specs.Cmp.Lexicographic.{bytes_decides}
 use Rattle.std.proofs.lemmas.Bool.{eqb-true, eq-eqb}
-use Rattle.rtsp_message.specs.declared.request.Request as messages
 use Rattle.sdp.specs.declared.sections.Sections.{Sections}
-use Rattle.sdp.specs.Readings.{Reads}
-use Rattle.sdp.proofs.OneReading.{one_reading}
 use Rattle.mounts.specs.declared.mount.Mount.{Mount}
 use Rattle.mounts.specs.declared.target.Target.{Target}
 use Rattle.mounts.specs.declared.uri.Uri.TheVariants.{At}
@@ -15,15 +12,14 @@ use Rattle.mounts.specs.Find.{IsFoundIn}
 use Rattle.mounts.specs.Mounts.{named, numbered, owned_by}
 use Rattle.mounts.specs.Names.{GoesOn}
 use Rattle.mounts.specs.Tracks.{IsNamedBy}
-use Rattle.mounts.specs.Uri.{IsUri}
 use Rattle.mounts.proofs.Firsts.{found_all, found_passes}
-use Rattle.mounts.proofs.OneAnswer.{named_once, one_mount, one_uri, shorter}
-use Rattle.session_state.specs.declared.entry.Entry.{Entry}
+use Rattle.mounts.proofs.OneAnswer.{named_once, one_uri}
 use Rattle.session_state.specs.Methods.{is_announce}
 use Rattle.session_state.specs.History.{History, IsNth, accepts}
 use Rattle.session_state.specs.Legal.{IsLegal}
-use Rattle.session_state.specs.Streams.{Announces, AreLive, IsLive, IsLiveMount, IsOwnMount, IsSetUpOn, IsTrackOf, SetsUp}
-use Rattle.session_state.proofs.Namesakes.{HasName, one_of_a_name}
+use Rattle.session_state.specs.Streams.{AreLive, IsLive, IsLiveMount, IsOwnMount, IsSetUpOn, IsTrackOf, SetsUp}
+use Rattle.session_state.proofs.CheckedNames.{one_set_up as one_among}
+use Rattle.session_state.proofs.Namesakes.{HasName, one_announcement, one_of_a_name}
 use Rattle.session_state.proofs.Nth.{one_nth}
 use Rattle.session_state.proofs.Owners.{owns_one}
 
@@ -33,26 +29,6 @@ pub record AreOne (one other : Mount) : Type 0 where
   pub owner : one.owner ≡ other.owner
   pub name : one.name ≡ other.name
   pub description : one.description ≡ other.description
-
--- An announcement announces one thing.
-record SayOne (owner who : ℕ) (name second : List ℕ) (description other : Sections) : Type 0 where
-  owner_is : owner ≡ who
-  name_is : name ≡ second
-  description_is : description ≡ other
-
-one_announcement : (entry also : Entry) (owner who : ℕ) (name second : List ℕ) (description other : Sections) → entry ≡ also → Announces entry owner name description → Announces also who second other
-    → SayOne owner who name second description other
-one_announcement entry also owner who name second description other same one two =
-    let both = sym one.asks.is ∙ same ∙ two.asks.is in
-    let request : two.asks.request ≡ one.asks.request = cc in
-    let uri : IsUri one.asks.request.uri (At two.target) = subst (λ (r : messages.Request). IsUri r.uri (At two.target)) request two.uri in
-    let is = one_uri one.asks.request.uri (At one.target) (At two.target) one.uri uri in
-    let target : one.target ≡ two.target = cc in
-    record {
-      owner_is = cc;
-      name_is = sym one.path ∙ ap (λ (t : Target). t.path) target ∙ two.path;
-      description_is = one_reading one.body (subst (λ (r : messages.Request). Reads r.body other) request two.body);
-    }
 
 -- where one element passes a test, one is found by it
 find_some : {X : Type 0} (p q : X → Bool) (xs : List X) (x : X) → find q xs ≡ Some x → p x ≡ true → (y : X) × (find p xs ≡ Some y)
@@ -130,21 +106,16 @@ module _ (seats : ℕ) (history : History) (legal : IsLegal seats history) where
         none longer empty None at = refl
         none longer empty (Some one) at = let some = (back longer one at).1 in absurd (cc)
 
-  -- a connection's own mount is one, with one rest behind its name
-  one_own : (mounts : List Mount) (conn : ℕ) (path : List ℕ) (number other : ℕ) (rest behind : Option (List ℕ)) → IsOwnMount mounts conn path number rest → IsOwnMount mounts conn path other behind
-      → (number ≡ other) × (rest ≡ behind)
-  one_own mounts conn path number other rest behind (own, owned, goes, is) (second, too, on, so) =
-      let same : own ≡ second = cc in
-      (sym is ∙ ap (λ (m : Mount). m.number) same ∙ so, (shorter path own.name second.name rest behind goes on (ap (λ (m : Mount). length m.name) same)).1)
-
   pub one_set_up_on : (mounts others : List Mount) → AreLive seats history mounts → AreLive seats history others → (conn : ℕ) (path : List ℕ) (number other : ℕ) (rest behind : Option (List ℕ))
       → IsSetUpOn mounts conn path number rest → IsSetUpOn others conn path other behind → (number ≡ other) × (rest ≡ behind)
-  one_set_up_on mounts others are also conn path number other rest behind (inl own) (inl second) = one_own others conn path number other rest behind (own_too mounts others are also conn path number rest own) second
-  one_set_up_on mounts others are also conn path number other rest behind (inl own) (inr (none, found)) = absurd (none number rest (own_too mounts others are also conn path number rest own))
-  one_set_up_on mounts others are also conn path number other rest behind (inr (none, found)) (inl own) = absurd (none other behind (own_too others mounts also are conn path other behind own))
-  one_set_up_on mounts others are also conn path number other rest behind (inr (none, found)) (inr (nor, second)) =
-      one_mount others path number other rest behind
-      (found_too mounts others are also (λ name one at. let back = one_named name others mounts one also are at in (back.0, back.1)) path number rest found) second
+  one_set_up_on mounts others are also conn path number other rest behind on second = one_among others conn path number other rest behind (also_on on) second
+    where
+      also_on : IsSetUpOn mounts conn path number rest → IsSetUpOn others conn path number rest
+      also_on (inl own) = inl (own_too mounts others are also conn path number rest own)
+      also_on (inr (none, found)) = inr (
+        λ elsewhere left own. none elsewhere left (own_too others mounts also are conn path elsewhere left own),
+        found_too mounts others are also (λ name one at. let back = one_named name others mounts one also are at in (back.0, back.1)) path number rest found,
+      )
 
   one_of_rest : (one other : Mount) → AreOne one other → length one.description.tracks ≤ 16 → (conn : ℕ) (target : Target) (rest : Option (List ℕ)) (track second : ℕ)
       → IsTrackOf one conn target rest track → IsTrackOf other conn target rest second → track ≡ second

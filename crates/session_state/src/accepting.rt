@@ -35,16 +35,19 @@ use std::alloc::{AllocError, Global};
 const PUBLIC_METHODS: &[u8] =
     b"OPTIONS, DESCRIBE, ANNOUNCE, SETUP, PLAY, PAUSE, RECORD, TEARDOWN, GET_PARAMETER";
 
-/// A reply that tells nothing but the session.
-fn plain_reply(
+/// A request whose reply tells nothing but the session, and what it changes.
+fn plainly(
     alloc: Global,
     request: &Request,
     session: Option<&Session>,
-) -> Result<Reply, AllocError>
-    ensures { IfOk result (λ reply. reply ≡ record { status = Ok; cseq = request.now.cseq; fields = record no_fields { session = told_to request.now (option_copied session.entry) }; body = [] }) }
+    change: Change,
+) -> Result<(Reply, Change), AllocError>
+    ensures reply { IfOk result (λ r. r.0 ≡ record { status = Ok; cseq = request.now.cseq; fields = record no_fields { session = told_to request.now (option_copied session.entry) }; body = [] }) }
+    ensures change { IfOk result (λ r. r.1 ≡ change) }
 {
     let empty = Bytes::empty(alloc);
-    telling_reply(alloc, request, session, Fields::none(), empty)
+    let reply = telling_reply(alloc, request, session, Fields::none(), empty)?;
+    Ok((reply, change))
 }
 
 /// OPTIONS tells the methods (RFC 2326, 10.1).
@@ -125,10 +128,6 @@ impl World {
                 let reply = methods_told(alloc, request, session)?;
                 Ok((reply, Change::Nothing))
             }
-            Accepted::GetParameter => {
-                let reply = plain_reply(alloc, request, session)?;
-                Ok((reply, Change::Nothing))
-            }
             Accepted::Describe { target, mount } => {
                 let reply = self.describe(alloc, conn, request, target, mount)?;
                 Ok((reply, Change::Nothing))
@@ -137,9 +136,9 @@ impl World {
                 target,
                 description,
             } => {
-                let reply = plain_reply(alloc, request, session)?;
                 let name = target.path;
-                Ok((reply, Change::Announce { name, description }))
+                let change = Change::Announce { name, description };
+                plainly(alloc, request, session, change)
             }
             Accepted::Setup {
                 mount,
@@ -151,18 +150,10 @@ impl World {
                 let reply = playing_reply(alloc, request, session, &target, track, given)?;
                 Ok((reply, change_of_play(session.state)))
             }
-            Accepted::Record => {
-                let reply = plain_reply(alloc, request, session)?;
-                Ok((reply, Change::Record))
-            }
-            Accepted::Pause => {
-                let reply = plain_reply(alloc, request, session)?;
-                Ok((reply, Change::Pause))
-            }
-            Accepted::Teardown => {
-                let reply = plain_reply(alloc, request, session)?;
-                Ok((reply, Change::Teardown))
-            }
+            Accepted::GetParameter => plainly(alloc, request, session, Change::Nothing),
+            Accepted::Record => plainly(alloc, request, session, Change::Record),
+            Accepted::Pause => plainly(alloc, request, session, Change::Pause),
+            Accepted::Teardown => plainly(alloc, request, session, Change::Teardown),
         }
     }
 }

@@ -212,7 +212,8 @@ impl World {
         ensures fails { (check : checks_Check) → result ≡ Err (Fails check) → (history : History) → IsLegal self.now.mounts.seats history → Stands history self.now
             → FailsFirst (asked_of self.now history conn request.now) (checks_of (method_of request.now.method)) check }
     {
-        // The list of the live mounts is asked for what it promises: no two of them share a number, a name or an owner.
+        // Only `live` promises that no two mounts share a number, a name or an owner, which `checked` asks for; its list
+        // isn't used.
         self.mounts.live();
         let asking = Asking {
             request,

@@ -1,4 +1,4 @@
-use Rattle.std.proofs.Common.{◌≡◌, ◌==◌, ℕ, List, [], Option, Some, refl, ap, sym, subst, ◌∙◌}
+use Rattle.std.proofs.Common.{◌≡◌, ◌==◌, ℕ, List, Some, refl, ap, sym, subst, ◌∙◌}
 use Rattle.std.specs.List.{position_or_len}
 use Rattle.std.specs.Str.{bytes_eq}
 use Rattle.std.proofs.lemmas.Bool.{eq-eqb}
@@ -6,20 +6,11 @@ use Rattle.std.proofs.lemmas.List.Folds.{find_at}
 use Rattle.mounts.specs.declared.mount.Mount.{Mount}
 use Rattle.mounts.specs.Mounts.{IsSound, Table, named, numbered}
 use Rattle.mounts.proofs.Differing.{find_one, unequal}
-use Rattle.rtsp_message.specs.declared.request.Request as messages
-use Rattle.rtsp_message.specs.declared.reply.Reply.{Reply}
-use Rattle.rtsp_message.specs.declared.status.Status.TheVariants.{Ok}
-use Rattle.session_state.specs.declared.session.Session.{Session}
-use Rattle.session_state.specs.Replies.{no_fields, told_to}
 use Rattle.session_state.specs.declared.accepted.Accepted.{Accepted}
 use Rattle.session_state.specs.declared.accepted.Accepted.TheVariants as found
 use Rattle.session_state.specs.declared.change.Change.TheVariants as changes
 use Rattle.session_state.specs.Judged.{Finds, IsAcceptedWith, asked_of, method_in}
 use Rattle.session_state.proofs.world.World.accept.Goals as goal
-
--- a reply that tells nothing but the session
-abbrev telling : messages.Request → Option Session → Reply
-telling request session = record { status = Ok; cseq = request.cseq; fields = record no_fields { session = told_to request session }; body = [] }
 
 -- the mount of a name is that of its number
 named_is_numbered : (table : Table) (name : List ℕ) (mount : Mount) → IsSound table → named name table.mounts ≡ Some mount → numbered mount.number table.mounts ≡ Some mount
@@ -35,11 +26,3 @@ returns-in_ok-reply-in-Describe-clause-ok c history stands finds =
     let reply = c.in_ok-reply-in-Describe.ensures what.0 (ap (λ n. numbered n c.args.self.now.mounts.mounts) (sym what.2) ∙ there) in
     subst (λ (accepted : Accepted). IsAcceptedWith (asked_of c.args.self.now history c.args.conn c.args.request.now) (method_in accepted) c.args.given.now c.in_ok-reply-in-Describe.reply changes.Nothing) (sym is)
     (((c.in-Describe.target, what.0, what.1, reply), refl), refl)
-
-pub returns-in_ok-reply-in-Announce-clause-ok : goal.returns-in_ok-reply-in-Announce-clause-ok
-returns-in_ok-reply-in-Announce-clause-ok c history stands finds =
-    let is : c.args.accepted ≡ found.Announce c.in-Announce.target c.in-Announce.description = c.in-Announce.is in
-    let what = subst (Finds (asked_of c.args.self.now history c.args.conn c.args.request.now)) is finds in
-    subst (λ (accepted : Accepted). IsAcceptedWith (asked_of c.args.self.now history c.args.conn c.args.request.now) (method_in accepted) c.args.given.now c.in_ok-reply-in-Announce.reply
-    (changes.Announce c.in-Announce.target.path c.in-Announce.description)) (sym is)
-    ((c.in_ok-reply-in-Announce.ensures ∙ ap (telling c.args.request.now) c.session_of-session.ensures, refl), record { target = c.in-Announce.target; description = c.in-Announce.description; uri = what.0; body = what.1; is = refl })
