@@ -31,23 +31,31 @@ fn given(alloc: Global) -> Result<Given, Fail> {
 }
 
 /// Whether a request is answered so, and `reply_of` told it before.
-fn answers(alloc: Global, world: &mut World, row: &Row) -> Result<bool, Fail> {
+pub(crate) fn is_answered(
+    alloc: Global,
+    world: &mut World,
+    conn: u64,
+    request: &[u8],
+    reply: &[u8],
+    act: &Act,
+) -> Result<bool, Fail> {
     let given = given(alloc)?;
-    let Some(request) = read_request(alloc, row.request)? else {
+    let Some(request) = read_request(alloc, request)? else {
         return Ok(false);
     };
-    if !world.is_open(row.conn) {
+    if !world.is_open(conn) {
         return Ok(false);
     }
     let mut told = Vec::new(alloc);
-    put_reply(
-        &mut told,
-        &world.reply_of(alloc, row.conn, &request, &given)?,
-    )?;
-    let (reply, act) = world.decide(alloc, row.conn, &request, &given)?;
+    put_reply(&mut told, &world.reply_of(alloc, conn, &request, &given)?)?;
+    let (answer, does) = world.decide(alloc, conn, &request, &given)?;
     let mut text = Vec::new(alloc);
-    put_reply(&mut text, &reply)?;
-    Ok(text.as_slice() == row.reply && told.as_slice() == row.reply && act == row.act)
+    put_reply(&mut text, &answer)?;
+    Ok(text.as_slice() == reply && told.as_slice() == reply && does == *act)
+}
+
+fn answers(alloc: Global, world: &mut World, row: &Row) -> Result<bool, Fail> {
+    is_answered(alloc, world, row.conn, row.request, row.reply, &row.act)
 }
 
 fn expect_answers(
@@ -80,5 +88,21 @@ fn requests_are_decided(rt: HostRuntime) -> Result<(), Fail> {
     assert!(rt; !world.back(1, 0));
     assert_eq!(rt; world.mount_of(2), None);
     assert_eq!(rt; world.hangup(2), Act::End);
+    Ok(())
+}
+
+#[test]
+fn what_was_handed_in_is_copied(rt: HostRuntime) -> Result<(), Fail> {
+    let alloc = rt.alloc();
+    let mut points = Vec::new(alloc);
+    points.push(None)?;
+    points.push(Some(Point { seq: 1, rtptime: 2 }))?;
+    let given = Given {
+        word: 0x0000_abcd,
+        points: Items::new(points),
+    };
+    let copied = given.copy(alloc)?;
+    assert_eq!(rt; copied.word, 0x0000_abcd);
+    assert!(rt; copied.points.as_slice() == given.points.as_slice());
     Ok(())
 }

@@ -25,6 +25,8 @@ mod given;
 mod in_session;
 mod judging;
 pub mod laws;
+#[cfg(test)]
+mod limits_tests;
 mod method;
 mod naming;
 mod playing;
