@@ -1,115 +1,82 @@
 //! What is measured, over anything that packets are published in and taken from.
 use std::alloc::{AllocError, Global};
+use std::io::Result;
 use std::sync::Wait;
-use std::thread::Threads;
+use std::thread::{Threads, spawn};
 use std::time::{Clock, Instant};
-use std::{io, thread};
 
-/// The bytes of a packet, and how many packets are kept.
+/// The bytes of a packet, how many packets are kept, and how many are published.
 pub const SIZE: usize = 1200;
 
 pub const KEEP: usize = 512;
 
-/// How many packets are published while readers read, and how often one thread publishes as many as are
-/// kept and then takes them.
-const PACKETS: u64 = 200_000;
+const PACKETS: usize = 400 * KEEP;
 
-const ROUNDS: u64 = 200;
-
-/// Where packets are published.
-pub trait In {
-    fn publish(&mut self, rt: &impl Wait, bytes: &[u8; SIZE]);
+/// Where packets are published, for readers to take.
+pub trait Relay<Reader>: Drop {
+    /// A relay with so many readers.
+    fn open(alloc: Global, seats: usize) -> anyhow::Result<(Self, Vec<Reader>)>;
+    /// Whether the packet was published.
+    fn publish(&mut self, rt: &impl Wait, bytes: &[u8; SIZE]) -> bool;
 
     fn close(self, rt: &impl Wait);
-}
-
-/// What packets are taken from.
-pub trait Out {
     /// Copies the next packet, and answers how many were lost before it, or `None` at the end.
-    fn take(&mut self, rt: &impl Wait, buf: &mut [u8; SIZE]) -> Option<u64>;
+    fn take(reader: &mut Reader, rt: &impl Wait, buf: &mut [u8; SIZE]) -> Option<u64>;
 }
 
-/// The nanoseconds since a moment.
-fn since(rt: &impl Clock, start: Instant) -> io::Result<u64> {
-    let elapsed = start.elapsed(rt)?;
-    let seconds = elapsed.as_secs().saturating_mul(1_000_000_000);
-    Ok(seconds.saturating_add(u64::from(elapsed.subsec_nanos())))
-}
-
-/// A place that depends on all of the bytes, so that none of them is left uncopied.
-fn next_place(place: usize, buf: &[u8; SIZE]) -> usize {
-    place.wrapping_add(usize::from(buf[place % SIZE]))
-}
-
-/// Nanoseconds a publish and a take by one thread, where one reader reads and the others take nothing.
-pub fn alone<R: Wait + Clock, I: In + Drop, O: Out + Drop>(
-    rt: &R,
-    relay: (I, Vec<O>),
-) -> io::Result<(u64, u64)> {
-    let (mut publisher, mut readers) = relay;
-    let mut reader = readers.pop();
-    let mut buf = [0; SIZE];
-    let (mut publishing, mut taking, mut place) = (0u64, 0u64, 0usize);
-    for _ in 0..ROUNDS {
-        let start = Instant::now(rt)?;
-        for _ in 0..KEEP {
-            publisher.publish(rt, &[7; SIZE]);
-        }
-        publishing = publishing.saturating_add(since(rt, start)?);
-        if let Some(tap) = &mut reader {
-            let start = Instant::now(rt)?;
-            for _ in 0..KEEP {
-                let _ = tap.take(rt, &mut buf);
-                place = next_place(place, &buf);
-            }
-            taking = taking.saturating_add(since(rt, start)?);
-        }
+/// Publishes so many packets, and answers how many were published, and in how many nanoseconds.
+fn publish<O>(rt: &(impl Wait + Clock), to: &mut impl Relay<O>, count: usize) -> Result<[u128; 2]> {
+    let start = Instant::now(rt)?;
+    let mut published = 0u128;
+    for _ in 0..count {
+        published = published.saturating_add(u128::from(to.publish(rt, &[7; SIZE])));
     }
-    let count = ROUNDS * KEEP as u64;
-    // The place is one of few numbers, and only shows that the bytes were read.
-    Ok((
-        publishing / count,
-        taking.saturating_add((place % SIZE) as u64) / count,
-    ))
+    Ok([published, start.elapsed(rt)?.as_nanos()])
 }
 
-/// Packets a second and losses, with the publisher and each reader in a thread of its own.
-pub fn together<
+/// Takes so many packets or fewer, and answers how many were lost, and in how many nanoseconds.
+fn read<T: Relay<O>, O>(rt: &(impl Wait + Clock), from: &mut O, most: usize) -> Result<[u128; 2]> {
+    let start = Instant::now(rt)?;
+    let (mut buf, mut all, mut place) = ([0; SIZE], 0u128, 0usize);
+    for _ in 0..most {
+        let Some(lost) = T::take(from, rt, &mut buf) else {
+            break;
+        };
+        all = all.saturating_add(u128::from(lost));
+        place = place.wrapping_add(usize::from(buf[place % SIZE]));
+    }
+    // The last part is 0, and depends on the bytes of each packet, so that none is left uncopied.
+    let nanos = start.elapsed(rt)?.as_nanos();
+    Ok([all, nanos.saturating_add((place / usize::MAX) as u128)])
+}
+
+/// Nanoseconds a publish and a take by one thread, where one reader reads and the others take nothing;
+/// then, with each in a thread of its own, the packets published a second, and those that readers lost.
+pub fn time<
+    T: Relay<O> + Send + 'static,
+    O: Drop + Send + 'static,
     R: Threads + Wait + Clock + Copy + Send + Sync + 'static,
-    I: In + Drop,
-    O: Out + Drop + Send + 'static,
->(rt: R, alloc: Global, relay: (I, Vec<O>)) -> anyhow::Result<(u64, u64)> {
-    let (mut publisher, readers) = relay;
-    let mut threads = Vec::new(alloc);
-    for reader in readers {
-        let child = thread::spawn(&rt, move || read_all(&rt, reader)).map_err(|_| AllocError)?;
-        threads.push(child)?;
-    }
-    let start = Instant::now(&rt)?;
-    for _ in 0..PACKETS {
-        publisher.publish(&rt, &[7; SIZE]);
-    }
-    publisher.close(&rt);
-    let mut lost = 0u64;
-    for child in threads {
-        lost = lost.saturating_add(child.join(&rt).0);
-    }
-    let micros = since(&rt, start)? / 1000;
-    Ok((PACKETS * 1_000_000 / micros.max(1), lost))
-}
-
-/// Takes to the end, and answers how many packets were lost, and a place.
-fn read_all(rt: &impl Wait, mut reader: impl Out + Drop) -> (u64, usize) {
-    let mut buf = [0; SIZE];
-    let (mut all, mut place) = (0u64, 0usize);
-    for _ in rt.forever() {
-        match reader.take(rt, &mut buf) {
-            Some(lost) => {
-                all = all.saturating_add(lost);
-                place = next_place(place, &buf);
-            }
-            None => break,
+>(rt: R, alloc: Global, seats: usize) -> anyhow::Result<[u128; 4]> {
+    let (mut relay, mut readers) = T::open(alloc, seats)?;
+    let (mut publishing, mut taking, mut lost) = (0u128, 0u128, 0u128);
+    for _ in 0..PACKETS / KEEP {
+        publishing = publishing.saturating_add(publish(&rt, &mut relay, KEEP)?[1]);
+        if let Some(reader) = readers.last_mut() {
+            taking = taking.saturating_add(read::<T, O>(&rt, reader, KEEP)?[1]);
         }
     }
-    (all, place)
+    let (mut relay, readers) = T::open(alloc, seats)?;
+    let mut threads = Vec::new(alloc);
+    for mut reader in readers {
+        let child = spawn(&rt, move || read::<T, O>(&rt, &mut reader, PACKETS));
+        threads.push(child.map_err(|_| AllocError)?)?;
+    }
+    let [published, nanos] = publish(&rt, &mut relay, PACKETS)?;
+    relay.close(&rt);
+    for child in threads {
+        lost = lost.saturating_add(child.join(&rt)?[0]);
+    }
+    let rate = published.saturating_mul(1_000_000_000) / nanos.max(1);
+    let count = PACKETS as u128;
+    Ok([publishing / count, taking / count, rate, lost])
 }
