@@ -1,3 +1,4 @@
+pub mod Exchanges
 pub mod Talks
 pub mod Numbers
 pub mod LineEnds

@@ -1,89 +1,157 @@
 -- A talk so far, and how it ends.
-use Rattle.std.proofs.Common.{◌≡◌, ℕ, ◌+◌, ◌<◌, ◌≤◌, Bool, true, List, [], ◌∷◌, ◌++◌, ◌⊎◌, inl, inr, Option, None, length, take, refl, sym, ap, subst, ◌∙◌, arith, append_assoc, append-nil, length-append}
+use Rattle.std.proofs.Common.{◌≡◌, ℕ, ◌+◌, ◌<◌, ◌≤◌, Bool, true, List, [], ◌++◌, ◌⊎◌, inl, inr, Option, None, length, take, refl, sym, ap, subst, ◌∙◌, arith, append_assoc, append-nil, length-append}
 use Rattle.std.specs.Io.KnownBytes.{Appends, IsAtEnd}
 use Rattle.std.proofs.KnownBytes.{Appends-trans, Appends-nil}
 use Rattle.std.proofs.Math.Seq.{take-append-add}
 use Rattle.std.proofs.lemmas.List.{take-append-le}
 use Rattle.rtsp_message.specs.declared.fault.Fault.{Fault}
-use Rattle.rtsp_message.specs.declared.request.Request.{Request}
 use Rattle.rtsp_message.specs.declared.unit.Unit.{Unit as StreamUnit}
-use Rattle.rtsp_message.specs.declared.unit.Unit.TheVariants.{Message, Frame}
-use Rattle.rtsp_message.specs.Reply.{reply_text}
-use Rattle.rtsp_message.specs.Stream.{Ending, Waits, Fails, fault_of}
+use Rattle.rtsp_message.specs.Stream.{Fails, Reads, fault_of}
 use Rattle.rtsp_message.specs.Intakes.{IntakeState, HandsOut, IsDrained, fresh}
 use Rattle.rtsp_message.proofs.Compose.{nothing_reads}
 use Rattle.rtsp_message.proofs.HandingOut.{HandsOut-trans, holds_same}
 use Rattle.relay_main.specs.declared.talk.TalkEnd.TheVariants as ends
-use Rattle.relay_main.specs.Decide.{reply_to}
-use Rattle.relay_main.specs.Talk.{IsAnswer, AreAnswers, closing_of, refusal, Talk, IsTalk, Talks}
+use Rattle.session_state.specs.History.{History}
+use Rattle.relay_main.specs.Exchange.{AreAnswers, AreDrawn, opening}
+use Rattle.relay_main.proofs.Exchanges.{AreAnswers-append, AreDrawn-append, answers_open, opening_opens}
+use Rattle.relay_main.specs.Talk.{closing_of, refusal, Talk, IsTalk, Talks}
 
-pub AreAnswers-append : (us vs : List StreamUnit) (a b : List ℕ) → AreAnswers us a → AreAnswers vs b → AreAnswers (us ++ vs) (a ++ b)
-AreAnswers-append [] vs a b p q = subst (λ (l : List ℕ). AreAnswers vs (l ++ b)) (sym p) q
-AreAnswers-append (Message r ∷ us) vs a b (first, others, is, rest, all) q =
-    (first, others ++ b, is, AreAnswers-append us vs others b rest q, ap (λ (l : List ℕ). l ++ b) all ∙ append_assoc first others b)
-AreAnswers-append (Frame frame ∷ us) vs a b p q = AreAnswers-append us vs a b p q
-
--- the answer to one message
-pub one_answer : {request : Request} {text : List ℕ} (unit : StreamUnit) → unit ≡ Message request → IsAnswer request text → AreAnswers (unit ∷ []) text
-one_answer {text = text} unit is answer = subst (λ (u : StreamUnit). AreAnswers (u ∷ []) text) (sym is) (text, [], answer, refl, sym (append-nil text))
-
--- each message has an answer
-pub all_answers : (us : List StreamUnit) → (text : List ℕ) × AreAnswers us text
-all_answers [] = ([], refl)
-all_answers (Message r ∷ us) = let rest = all_answers us in (reply_text (reply_to r) ++ rest.0, (reply_text (reply_to r), rest.0, inl refl, rest.1, refl))
-all_answers (Frame frame ∷ us) = all_answers us
-
-module _ {R W : Type 0} (incoming : R → Option (List ℕ)) (written : W → Option (List ℕ)) where
-  -- These units were handed out, and their answers were written.
-  pub record SoFar (reader : R) (old : W) (intake : IntakeState R) (now : W) : Type 0 where
+module _ {R W V : Type 0} (incoming : R → Option (List ℕ)) (written : W → Option (List ℕ)) (gives : V → ℕ → V → Type 0) where
+  -- These units were handed out, and their answers were written: the words were drawn from the first, and now stand so.
+  pub record SoFar (reader : R) (old : W) (first : V) (intake : IntakeState R) (now : W) (drawn : V) (history : History) : Type 0 where
     pub units : List StreamUnit
+    pub words : List ℕ
     pub text : List ℕ
     pub out : HandsOut incoming (fresh reader) intake units
-    pub answers : AreAnswers units text
+    pub are_drawn : AreDrawn gives first words drawn
+    pub answers : AreAnswers opening units words history text
     pub wrote : Appends (written old) (written now) text
 
-  pub nothing_so_far : (reader : R) (old : W) → SoFar reader old (fresh reader) old
-  nothing_so_far reader old = record { units = []; text = []; out = holds_same incoming (fresh reader) nothing_reads; answers = refl; wrote = Appends-nil (written old) }
+  pub nothing_so_far : (reader : R) (old : W) (first : V) → SoFar reader old first (fresh reader) old first opening
+  nothing_so_far reader old first = record {
+    units = [];
+    words = [];
+    text = [];
+    out = holds_same incoming (fresh reader) nothing_reads;
+    are_drawn = refl;
+    answers = (refl, refl, refl);
+    wrote = Appends-nil (written old);
+  }
+
+  -- What is answered to some more units, and the words drawn for that.
+  pub record Answers (intake new : IntakeState R) (drawn now : V) (history after : History) (us : List StreamUnit) (text : List ℕ) : Type 0 where
+    pub words : List ℕ
+    pub out : HandsOut incoming intake new us
+    pub are_drawn : AreDrawn gives drawn words now
+    pub answers : AreAnswers history us words after text
 
   -- some more units, and what is answered to them
-  pub answered : (reader : R) (old : W) (intake new : IntakeState R) (now after : W) (us : List StreamUnit) (text : List ℕ) → SoFar reader old intake now → HandsOut incoming intake new us → AreAnswers us text → Appends (written now) (written after) text → SoFar reader old new after
-  answered reader old intake new now after us text p q are wrote = record {
+  pub answered : (reader : R) (old : W) (first : V) (intake new : IntakeState R) (now last : W) (drawn then : V) (history after : History) (us : List StreamUnit) (text : List ℕ)
+      → SoFar reader old first intake now drawn history → Answers intake new drawn then history after us text → Appends (written now) (written last) text → SoFar reader old first new last then after
+  answered reader old first intake new now last drawn then history after us text p q wrote = record {
     units = p.units ++ us;
+    words = p.words ++ q.words;
     text = p.text ++ text;
-    out = HandsOut-trans incoming (fresh reader) intake new p.units us p.out q;
-    answers = AreAnswers-append p.units us p.text text p.answers are;
-    wrote = Appends-trans (written old) (written now) (written after) p.text text p.wrote wrote;
+    out = HandsOut-trans incoming (fresh reader) intake new p.units us p.out q.out;
+    are_drawn = AreDrawn-append gives first drawn then p.words q.words p.are_drawn q.are_drawn;
+    answers = AreAnswers-append opening p.units us p.words q.words history after p.text text p.answers q.answers;
+    wrote = Appends-trans (written old) (written now) (written last) p.text text p.wrote wrote;
   }
 
   -- the talk in which these units were handed out last, these are their answers, and this closes it
-  pub talk_of : (reader : R) (old : W) (intake new : IntakeState R) (now : W) (us : List StreamUnit) (more rest closing : List ℕ) → SoFar reader old intake now → HandsOut incoming intake new us → Talk
-  talk_of reader old intake new now us more rest closing p q =
-      let out = HandsOut-trans incoming (fresh reader) intake new p.units us p.out q in
-      record { read = out.read; taken = out.taken; held = new.held; units = out.found; ending = new.reading; answers = p.text ++ (more ++ rest); closing = closing }
+  pub talk_of : (reader : R) (old : W) (first : V) (intake new : IntakeState R) (now : W) (drawn then : V) (history after : History) (us : List StreamUnit) (text closing : List ℕ)
+      → SoFar reader old first intake now drawn history → Answers intake new drawn then history after us text → Talk
+  talk_of reader old first intake new now drawn then history after us text closing p q =
+      let out = HandsOut-trans incoming (fresh reader) intake new p.units us p.out q.out in
+      record {
+        read = out.read;
+        taken = out.taken;
+        held = new.held;
+        units = p.units ++ us;
+        unanswered = new.queue;
+        ending = new.reading;
+        words = p.words ++ q.words;
+        history = after;
+        answers = p.text ++ text;
+        closing = closing;
+      }
 
-  pub is_talk : (reader : R) (old : W) (intake new : IntakeState R) (now : W) (us : List StreamUnit) (more rest closing : List ℕ) (p : SoFar reader old intake now) (q : HandsOut incoming intake new us)
-      → AreAnswers us more → AreAnswers new.queue rest → (closing ≡ closing_of new.reading) ⊎ (closing ≡ refusal) → IsTalk incoming reader new.source (talk_of reader old intake new now us more rest closing p q)
+  pub is_talk : (reader : R) (old : W) (first : V) (intake new : IntakeState R) (now : W) (drawn then : V) (history after : History) (us : List StreamUnit) (text closing : List ℕ)
+      (p : SoFar reader old first intake now drawn history) (q : Answers intake new drawn then history after us text)
+      → (closing ≡ []) ⊎ ((new.queue ≡ []) × ((closing ≡ closing_of new.reading) ⊎ (closing ≡ refusal)))
+      → IsTalk incoming gives reader new.source first then (talk_of reader old first intake new now drawn then history after us text closing p q)
   unfolding talk_of
-  is_talk reader old intake new now us more rest closing p q answers queued closes =
-      let out = HandsOut-trans incoming (fresh reader) intake new p.units us p.out q in
-      let all = AreAnswers-append p.units (us ++ new.queue) p.text (more ++ rest) p.answers (AreAnswers-append us new.queue more rest answers queued) in
-      let order : p.units ++ (us ++ new.queue) ≡ out.found = sym (append_assoc p.units us new.queue) ∙ sym out.order in
+  is_talk reader old first intake new now drawn then history after us text closing p q closes =
+      let out = HandsOut-trans incoming (fresh reader) intake new p.units us p.out q.out in
+      let all = AreAnswers-append opening p.units us p.words q.words history after p.text text p.answers q.answers in
       record {
         given = out.given;
         parts = out.kept;
-        reads = out.reads;
-        are_answers = subst (λ (l : List StreamUnit). AreAnswers l (p.text ++ (more ++ rest))) order all;
+        reads = subst (λ (l : List StreamUnit). Reads out.taken l new.reading) out.order out.reads;
+        are_drawn = AreDrawn-append gives first drawn then p.words q.words p.are_drawn q.are_drawn;
+        are_answers = all;
+        legal = (answers_open opening (p.units ++ us) (p.words ++ q.words) after (p.text ++ text) all opening_opens).legal;
         closing_is = closes;
       }
 
-waits_closes : (e : Ending) → fault_of e ≡ None → [] ≡ closing_of e
-waits_closes (Waits rest) h = refl
-waits_closes (Fails fault) h = absurd (cc)
+  -- nothing is answered at the end
+  pub no_more : (intake new : IntakeState R) (drawn : V) (history : History) → HandsOut incoming intake new [] → Answers intake new drawn drawn history history [] []
+  no_more intake new drawn history out = record { words = []; out = out; are_drawn = refl; answers = (refl, refl, refl) }
 
-no_answers : (us : List StreamUnit) → us ≡ [] → AreAnswers us []
-no_answers us e = subst (λ (l : List StreamUnit). AreAnswers l []) (sym e) refl
+module _ {R W V : Type 0} (incoming : R → Option (List ℕ)) (read_failed : R → Bool) (written : W → Option (List ℕ)) (write_failed : W → Bool) (gives : V → ℕ → V → Type 0) where
+  -- What goes before a talk's end: the talk so far, and a last step of the intake that handed out no unit.
+  pub record Before (reader : R) (old : W) (first : V) (new : IntakeState R) (now : W) (drawn : V) : Type 0 where
+    pub intake : IntakeState R
+    pub history : History
+    pub far : SoFar incoming written gives reader old first intake now drawn history
+    pub last : HandsOut incoming intake new []
 
-module _ {R W : Type 0} (incoming : R → Option (List ℕ)) (read_failed : R → Bool) (written : W → Option (List ℕ)) (write_failed : W → Bool) where
+  -- what is written is the answers, and the closing text behind them
+  closed : (old now after : W) (text closing : List ℕ) → Appends (written old) (written now) text → Appends (written now) (written after) closing → Appends (written old) (written after) ((text ++ []) ++ closing)
+  closed old now after text closing p q =
+      subst (λ (l : List ℕ). Appends (written old) (written after) (l ++ closing)) (sym (append-nil text)) (Appends-trans (written old) (written now) (written after) text closing p q)
+
+  pub ends_done : (reader : R) (old : W) (first : V) (new : IntakeState R) (now : W) (drawn : V) → Before reader old first new now drawn → IsDrained new → IsAtEnd (incoming new.source)
+      → Talks incoming read_failed written write_failed gives reader new.source first drawn old now ends.Done
+  unfolding talk_of
+  ends_done reader old first new now drawn b drained end =
+      let q = no_more incoming written gives b.intake new drawn b.history b.last in (
+        talk_of incoming written gives reader old first b.intake new now drawn drawn b.history b.history [] [] [] b.far q,
+        is_talk incoming written gives reader old first b.intake new now drawn drawn b.history b.history [] [] [] b.far q (inl refl),
+        ((drained.0, closed old now now b.far.text [] b.far.wrote (Appends-nil (written now))), drained.2, refl, drained.1, end),
+      )
+
+  pub ends_read_failed : (reader : R) (old : W) (first : V) (new : IntakeState R) (now : W) (drawn : V) → Before reader old first new now drawn → IsDrained new → read_failed new.source ≡ true
+      → Talks incoming read_failed written write_failed gives reader new.source first drawn old now ends.ReadFailed
+  unfolding talk_of
+  ends_read_failed reader old first new now drawn b drained failed =
+      let q = no_more incoming written gives b.intake new drawn b.history b.last in (
+        talk_of incoming written gives reader old first b.intake new now drawn drawn b.history b.history [] [] [] b.far q,
+        is_talk incoming written gives reader old first b.intake new now drawn drawn b.history b.history [] [] [] b.far q (inl refl),
+        ((drained.0, closed old now now b.far.text [] b.far.wrote (Appends-nil (written now))), drained.2, refl, drained.1, failed),
+      )
+
+  pub ends_with_fault : (reader : R) (old : W) (first : V) (new : IntakeState R) (now after : W) (drawn : V) (fault : Fault) (closing : List ℕ) → Before reader old first new now drawn → new.queue ≡ [] → new.reading ≡ Fails fault
+      → closing ≡ closing_of (Fails fault) → Appends (written now) (written after) closing → Talks incoming read_failed written write_failed gives reader new.source first drawn old after (ends.StreamFault fault)
+  unfolding talk_of
+  ends_with_fault reader old first new now after drawn fault closing b empty fails closes wrote =
+      let q = no_more incoming written gives b.intake new drawn b.history b.last in
+      let is_closing : closing ≡ closing_of new.reading = closes ∙ ap closing_of (sym fails) in (
+        talk_of incoming written gives reader old first b.intake new now drawn drawn b.history b.history [] [] closing b.far q,
+        is_talk incoming written gives reader old first b.intake new now drawn drawn b.history b.history [] [] closing b.far q (inr (empty, inl is_closing)),
+        ((empty, closed old now after b.far.text closing b.far.wrote wrote), fails, is_closing),
+      )
+
+  pub ends_out_of_memory : (reader : R) (old : W) (first : V) (new : IntakeState R) (now after : W) (drawn : V) → Before reader old first new now drawn → new.queue ≡ [] → fault_of new.reading ≡ None
+      → Appends (written now) (written after) refusal → Talks incoming read_failed written write_failed gives reader new.source first drawn old after ends.OutOfMemory
+  unfolding talk_of
+  ends_out_of_memory reader old first new now after drawn b empty waits wrote =
+      let q = no_more incoming written gives b.intake new drawn b.history b.last in (
+        talk_of incoming written gives reader old first b.intake new now drawn drawn b.history b.history [] [] refusal b.far q,
+        is_talk incoming written gives reader old first b.intake new now drawn drawn b.history b.history [] [] refusal b.far q (inr (empty, inr refl)),
+        ((empty, closed old now after b.far.text refusal b.far.wrote wrote), waits, refl),
+      )
+
   -- a text that was cut off in the middle of what was due
   cut_off : (old now after : W) (front due behind : List ℕ) (k : ℕ) → k < length due → Appends (written old) (written now) front → Appends (written now) (written after) (take k due)
       → (n : ℕ) × (n < length (front ++ (due ++ behind))) × Appends (written old) (written after) (take n (front ++ (due ++ behind)))
@@ -94,67 +162,42 @@ module _ {R W : Type 0} (incoming : R → Option (List ℕ)) (read_failed : R �
       ap (λ (l : List ℕ). front ++ l) (sym (take-append-le k due behind within)) ∙ sym (take-append-add front (due ++ behind) k) in
       (length front + k, omega (arith, less, length-append front (due ++ behind), length-append due behind), subst (Appends (written old) (written after)) text both)
 
-  -- nothing is due any more
-  all_written : (reader : R) (old : W) (intake : IntakeState R) (now after : W) (closing : List ℕ) (p : SoFar incoming written reader old intake now) → Appends (written now) (written after) closing
-      → Appends (written old) (written after) ((p.text ++ ([] ++ [])) ++ closing)
-  all_written reader old intake now after closing p wrote =
-      subst (λ (l : List ℕ). Appends (written old) (written after) (l ++ closing)) (sym (append-nil p.text)) (Appends-trans (written old) (written now) (written after) p.text closing p.wrote wrote)
-
-  pub ends_done : (reader : R) (old : W) (intake new : IntakeState R) (now : W) → SoFar incoming written reader old intake now → HandsOut incoming intake new [] → IsDrained new → IsAtEnd (incoming new.source) → Talks incoming read_failed written write_failed reader new.source old now ends.Done
-  unfolding talk_of
-  ends_done reader old intake new now p q drained end = (
-    talk_of incoming written reader old intake new now [] [] [] [] p q,
-    is_talk incoming written reader old intake new now [] [] [] [] p q refl (no_answers new.queue drained.0) (inl (waits_closes new.reading drained.2)),
-    (all_written reader old intake now now [] p (Appends-nil (written now)), drained.2, refl, drained.1, end),
-  )
-
-  pub ends_read_failed : (reader : R) (old : W) (intake new : IntakeState R) (now : W) → SoFar incoming written reader old intake now → HandsOut incoming intake new [] → IsDrained new → read_failed new.source ≡ true → Talks incoming read_failed written write_failed reader new.source old now ends.ReadFailed
-  unfolding talk_of
-  ends_read_failed reader old intake new now p q drained failed = (
-    talk_of incoming written reader old intake new now [] [] [] [] p q,
-    is_talk incoming written reader old intake new now [] [] [] [] p q refl (no_answers new.queue drained.0) (inl (waits_closes new.reading drained.2)),
-    (all_written reader old intake now now [] p (Appends-nil (written now)), drained.2, refl, drained.1, failed),
-  )
-
-  pub ends_with_fault : (reader : R) (old : W) (intake new : IntakeState R) (now after : W) (fault : Fault) (closing : List ℕ) → SoFar incoming written reader old intake now → HandsOut incoming intake new [] → new.queue ≡ [] → new.reading ≡ Fails fault → closing ≡ closing_of (Fails fault) → Appends (written now) (written after) closing → Talks incoming read_failed written write_failed reader new.source old after (ends.StreamFault fault)
-  unfolding talk_of
-  ends_with_fault reader old intake new now after fault closing p q empty fails closes wrote =
-      let is_closing : closing ≡ closing_of new.reading = closes ∙ ap closing_of (sym fails) in (
-        talk_of incoming written reader old intake new now [] [] [] closing p q,
-        is_talk incoming written reader old intake new now [] [] [] closing p q refl (no_answers new.queue empty) (inl is_closing),
-        (all_written reader old intake now after closing p wrote, fails, is_closing),
-      )
-
-  pub ends_out_of_memory : (reader : R) (old : W) (intake new : IntakeState R) (now after : W) → SoFar incoming written reader old intake now → HandsOut incoming intake new [] → new.queue ≡ [] → fault_of new.reading ≡ None → Appends (written now) (written after) refusal → Talks incoming read_failed written write_failed reader new.source old after ends.OutOfMemory
-  unfolding talk_of
-  ends_out_of_memory reader old intake new now after p q empty waits wrote = (
-    talk_of incoming written reader old intake new now [] [] [] refusal p q,
-    is_talk incoming written reader old intake new now [] [] [] refusal p q refl (no_answers new.queue empty) (inr refl),
-    (all_written reader old intake now after refusal p wrote, waits, refl),
-  )
+  IsCut : W → W → List ℕ → Type 0
+  IsCut old after whole = (n : ℕ) × (n < length whole) × Appends (written old) (written after) (take n whole)
 
   -- cut off in the closing text
-  pub ends_cut_closing : (reader : R) (old : W) (intake new : IntakeState R) (now after : W) (closing : List ℕ) (k : ℕ) → SoFar incoming written reader old intake now → HandsOut incoming intake new [] → new.queue ≡ [] → (closing ≡ closing_of new.reading) ⊎ (closing ≡ refusal) → k < length closing → Appends (written now) (written after) (take k closing) → write_failed after ≡ true → Talks incoming read_failed written write_failed reader new.source old after ends.WriteFailed
-  unfolding talk_of
-  ends_cut_closing reader old intake new now after closing k p q empty closes less part failed =
-      let total : p.text ++ (closing ++ []) ≡ (p.text ++ ([] ++ [])) ++ closing =
-      ap (λ (l : List ℕ). p.text ++ l) (append-nil closing) ∙ ap (λ (l : List ℕ). l ++ closing) (sym (append-nil p.text)) in
-      let cut = subst (λ (t : List ℕ). (n : ℕ) × (n < length t) × Appends (written old) (written after) (take n t)) total (cut_off old now after p.text closing [] k less p.wrote part) in (
-        talk_of incoming written reader old intake new now [] [] [] closing p q,
-        is_talk incoming written reader old intake new now [] [] [] closing p q refl (no_answers new.queue empty) closes,
+  pub ends_cut_closing : (reader : R) (old : W) (first : V) (new : IntakeState R) (now after : W) (drawn : V) (closing : List ℕ) (k : ℕ) → Before reader old first new now drawn → new.queue ≡ []
+      → (closing ≡ closing_of new.reading) ⊎ (closing ≡ refusal) → k < length closing → Appends (written now) (written after) (take k closing) → write_failed after ≡ true
+      → Talks incoming read_failed written write_failed gives reader new.source first drawn old after ends.WriteFailed
+  unfolding talk_of IsCut
+  ends_cut_closing reader old first new now after drawn closing k b empty closes less part failed =
+      let q = no_more incoming written gives b.intake new drawn b.history b.last in
+      let total : b.far.text ++ (closing ++ []) ≡ (b.far.text ++ []) ++ closing =
+      ap (λ (l : List ℕ). b.far.text ++ l) (append-nil closing) ∙ ap (λ (l : List ℕ). l ++ closing) (sym (append-nil b.far.text)) in
+      let cut = subst (IsCut old after) total (cut_off old now after b.far.text closing [] k less b.far.wrote part) in (
+        talk_of incoming written gives reader old first b.intake new now drawn drawn b.history b.history [] [] closing b.far q,
+        is_talk incoming written gives reader old first b.intake new now drawn drawn b.history b.history [] [] closing b.far q (inr (empty, closes)),
         (failed, cut.0, cut.1, cut.2),
       )
 
   -- cut off in an answer
-  pub ends_cut_answer : (reader : R) (old : W) (intake new : IntakeState R) (now after : W) (us : List StreamUnit) (text : List ℕ) (k : ℕ) → SoFar incoming written reader old intake now → HandsOut incoming intake new us → AreAnswers us text → k < length text → Appends (written now) (written after) (take k text) → write_failed after ≡ true → Talks incoming read_failed written write_failed reader new.source old after ends.WriteFailed
-  unfolding talk_of
-  ends_cut_answer reader old intake new now after us text k p q are less part failed =
-      let rest = all_answers new.queue in
-      let closing = closing_of new.reading in
-      let total : p.text ++ (text ++ (rest.0 ++ closing)) ≡ (p.text ++ (text ++ rest.0)) ++ closing =
-      ap (λ (l : List ℕ). p.text ++ l) (sym (append_assoc text rest.0 closing)) ∙ sym (append_assoc p.text (text ++ rest.0) closing) in
-      let cut = subst (λ (t : List ℕ). (n : ℕ) × (n < length t) × Appends (written old) (written after) (take n t)) total (cut_off old now after p.text text (rest.0 ++ closing) k less p.wrote part) in (
-        talk_of incoming written reader old intake new now us text rest.0 closing p q,
-        is_talk incoming written reader old intake new now us text rest.0 closing p q are rest.1 (inl refl),
+  pub ends_cut_answer : (reader : R) (old : W) (first : V) (intake new : IntakeState R) (now last : W) (drawn then : V) (history after : History) (us : List StreamUnit) (text : List ℕ) (k : ℕ)
+      → SoFar incoming written gives reader old first intake now drawn history → Answers incoming written gives intake new drawn then history after us text → k < length text
+      → Appends (written now) (written last) (take k text) → write_failed last ≡ true → Talks incoming read_failed written write_failed gives reader new.source first then old last ends.WriteFailed
+  unfolding talk_of IsCut
+  ends_cut_answer reader old first intake new now last drawn then history after us text k p q less part failed =
+      let total : p.text ++ (text ++ []) ≡ (p.text ++ text) ++ [] = sym (append_assoc p.text text []) in
+      let cut = subst (IsCut old last) total (cut_off old now last p.text text [] k less p.wrote part) in (
+        talk_of incoming written gives reader old first intake new now drawn then history after us text [] p q,
+        is_talk incoming written gives reader old first intake new now drawn then history after us text [] p q (inl refl),
         (failed, cut.0, cut.1, cut.2),
       )
+
+  -- before the first unit
+  pub begun : (reader : R) (old : W) (first : V) → Before reader old first (fresh reader) old first
+  begun reader old first = record {
+    intake = fresh reader;
+    history = opening;
+    far = nothing_so_far incoming written gives reader old first;
+    last = holds_same incoming (fresh reader) nothing_reads;
+  }

@@ -1,4 +1,5 @@
-pub mod Decide
+pub mod SessionWords
+pub mod Exchange
 pub mod Talk
 pub mod Lines
 pub mod LineForms

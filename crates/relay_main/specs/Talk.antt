@@ -1,28 +1,18 @@
 -- What a connection is told: the replies to its requests, in order, and how the talk ends.
-use Rattle.std.specs.Prelude.{◌≡◌, ℕ, ◌<◌, Bool, true, List, [], ◌∷◌, ◌++◌, ◌⊎◌, Option, None, length, take, codes, decimal}
+use Rattle.std.specs.Prelude.{◌≡◌, ℕ, ◌<◌, Bool, true, List, [], ◌++◌, ◌⊎◌, Option, None, length, take, codes, decimal}
 use Rattle.std.specs.Io.KnownBytes.{Consumes, Appends, IsAtEnd}
-use Rattle.rtsp_message.specs.declared.request.Request.{Request}
 use Rattle.rtsp_message.specs.declared.status.Status.{Status}
 use Rattle.rtsp_message.specs.declared.status.Status.TheVariants as statuses
 use Rattle.rtsp_message.specs.declared.fault.Fault.{Fault}
 use Rattle.rtsp_message.specs.declared.fault.Fault.TheVariants.{BadLine, BadHeader, BadLength, HeadTooLong, BodyTooLong}
 use Rattle.rtsp_message.specs.declared.unit.Unit.{Unit as StreamUnit}
-use Rattle.rtsp_message.specs.declared.unit.Unit.TheVariants.{Message, Frame}
 use Rattle.rtsp_message.specs.Stream.{Ending, Waits, Fails, Reads, fault_of, fault_number}
-use Rattle.rtsp_message.specs.Reply.{reply_text, plain_text}
-use Rattle.relay_main.specs.Decide.{reply_to}
+use Rattle.rtsp_message.specs.Reply.{plain_text}
+use Rattle.session_state.specs.History.{History}
+use Rattle.session_state.specs.Legal.{IsLegal}
+use Rattle.relay_main.specs.Exchange.{AreAnswers, AreDrawn, opening}
 use Rattle.relay_main.specs.declared.talk.TalkEnd.{TalkEnd}
 use Rattle.relay_main.specs.declared.talk.TalkEnd.TheVariants as ends
-
--- what is written for a request: its reply, or 503 where memory was refused
-abbrev pub IsAnswer : Request → List ℕ → Type 0
-IsAnswer request text = (text ≡ reply_text (reply_to request)) ⊎ (text ≡ plain_text statuses.ServiceUnavailable request.cseq)
-
--- the answers to the messages among the units, in order: frames have none
-abbrev pub AreAnswers : List StreamUnit → List ℕ → Type 0
-AreAnswers [] text = text ≡ []
-AreAnswers (Message request ∷ units) text = (first : List ℕ) × (others : List ℕ) × IsAnswer request first × AreAnswers units others × (text ≡ first ++ others)
-AreAnswers (Frame frame ∷ units) text = AreAnswers units text
 
 -- what is said of a fault
 abbrev pub status_of : Fault → Status
@@ -41,30 +31,35 @@ closing_of (Fails fault) = plain_text (status_of fault) None
 abbrev pub refusal : List ℕ
 refusal = plain_text statuses.ServiceUnavailable None
 
--- What a talk was: the bytes that were read, of which some are held where memory was refused, their units,
--- and the whole text that is due for them.
+-- What a talk was: the bytes that were read, of which some are held where memory was refused, their units, some of which
+-- aren't answered behind a failed write, and the words, the history and the whole text that go with those that are.
 pub record Talk : Type 0 where
   pub read : List ℕ
   pub taken : List ℕ
   pub held : List ℕ
   pub units : List StreamUnit
+  pub unanswered : List StreamUnit
   pub ending : Ending
+  pub words : List ℕ
+  pub history : History
   pub answers : List ℕ
   pub closing : List ℕ
 
--- From this reader, which is left as the last one, the bytes were read that the units stand in, and the answers are
--- theirs.
-pub record IsTalk {R : Type 0} (incoming : R → Option (List ℕ)) (reader last : R) (talk : Talk) : Type 0 where
+-- From this reader, which is left as the last one, the bytes were read that the units stand in. The answers are those of
+-- a legal history of one connection, with the words that were drawn.
+pub record IsTalk {R V : Type 0} (incoming : R → Option (List ℕ)) (gives : V → ℕ → V → Type 0) (reader last : R) (words drawn : V) (talk : Talk) : Type 0 where
   pub given : Consumes (incoming reader) (incoming last) talk.read
   pub parts : talk.read ≡ talk.taken ++ talk.held
-  pub reads : Reads talk.taken talk.units talk.ending
-  pub are_answers : AreAnswers talk.units talk.answers
-  pub closing_is : (talk.closing ≡ closing_of talk.ending) ⊎ (talk.closing ≡ refusal)
+  pub reads : Reads talk.taken (talk.units ++ talk.unanswered) talk.ending
+  pub are_drawn : AreDrawn gives words talk.words drawn
+  pub are_answers : AreAnswers opening talk.units talk.words talk.history talk.answers
+  pub legal : IsLegal 1 talk.history
+  pub closing_is : (talk.closing ≡ []) ⊎ ((talk.unanswered ≡ []) × ((talk.closing ≡ closing_of talk.ending) ⊎ (talk.closing ≡ refusal)))
 
-module _ {R W : Type 0} (incoming : R → Option (List ℕ)) (read_failed : R → Bool) (written : W → Option (List ℕ)) (write_failed : W → Bool) where
-  -- all that is due was written
+module _ {R W V : Type 0} (incoming : R → Option (List ℕ)) (read_failed : R → Bool) (written : W → Option (List ℕ)) (write_failed : W → Bool) (gives : V → ℕ → V → Type 0) where
+  -- each message was answered, and all that is due was written
   abbrev pub WritesAll : Talk → W → W → Type 0
-  WritesAll talk old new = Appends (written old) (written new) (talk.answers ++ talk.closing)
+  WritesAll talk old new = (talk.unanswered ≡ []) × Appends (written old) (written new) (talk.answers ++ talk.closing)
 
   -- how a talk ended, and what was written
   abbrev pub EndsSo : (last : R) → Talk → W → W → TalkEnd → Type 0
@@ -78,9 +73,9 @@ module _ {R W : Type 0} (incoming : R → Option (List ℕ)) (read_failed : R �
       (write_failed new ≡ true) × (n : ℕ) × (n < length (talk.answers ++ talk.closing)) × Appends (written old) (written new) (take n (talk.answers ++ talk.closing))
 
   -- What is written is, for each message of the stream read, its answer, then the fixed text of the fault if there is
-  -- one. The reader is left as the last one.
-  abbrev pub Talks : (reader last : R) → W → W → TalkEnd → Type 0
-  Talks reader last old new end = (talk : Talk) × IsTalk incoming reader last talk × EndsSo last talk old new end
+  -- one. The reader is left as the last one, and the words as those drawn leave them.
+  abbrev pub Talks : (reader last : R) → (words drawn : V) → W → W → TalkEnd → Type 0
+  Talks reader last words drawn old new end = (talk : Talk) × IsTalk incoming gives reader last words drawn talk × EndsSo last talk old new end
 
 -- the exit status of a talk
 abbrev pub exit_status : TalkEnd → ℕ

@@ -1,7 +1,9 @@
 //! A live relay for RTSP 1.0 (RFC 2326).
 #![tactic(auto)]
 
-pub mod decide;
+pub mod exchange;
+#[cfg(test)]
+mod exchange_tests;
 #[cfg(test)]
 mod prompt_tests;
 pub mod steps;
@@ -11,22 +13,22 @@ pub mod task;
 mod tests;
 pub mod words;
 
-use clap::Command;
+use clap::{Arg, ArgMatches, Command};
 use interleaved::{Reading, Writing};
+use rand::make_rng;
+use rand::rngs::StdRng;
 use std::alloc::{AllocError, Global};
+use std::collections::hash_map::RandomState;
+use std::io;
 use std::process::ExitCode;
-use task::{Task, exit_code, run_task, task_named};
-use words::FixedWord;
+use task::{Ended, Task, do_steps, do_talk, exit_code, task_named};
+use words::{DrawnWords, FixedWord, read_word};
 
 fn main(rt: HostRuntime) -> anyhow::Result<ExitCode> {
     let alloc = rt.alloc();
     let words: Vec<String> = std::env::args(&rt)?.collect(alloc)?;
     match command(alloc)?.try_get_matches_from(words.as_slice()) {
-        Ok(matches) => match matches.subcommand_name().and_then(|name| task_named(name)) {
-            Some(task) => run_on_standard_streams(&rt, task),
-            // The command line accepts no other command.
-            None => Ok(exit_code(COMMAND_LINE_FAULT)),
-        },
+        Ok(matches) => run_command(&rt, &matches),
         Err(error) => {
             // The status tells it, wherever the text goes.
             let _ = error.print(&rt);
@@ -35,22 +37,35 @@ fn main(rt: HostRuntime) -> anyhow::Result<ExitCode> {
     }
 }
 
+/// The exit status where the run failed.
+const FAILED: u8 = 1;
+
 /// The exit status after a command line that isn't understood.
 const COMMAND_LINE_FAULT: u8 = 2;
 
+/// A request that `relay talk` answers, as a line for the shell.
+const TALK_EXAMPLE: &str = "Example: the methods that the relay knows
+
+printf 'OPTIONS * RTSP/1.0\\r\\nCSeq: 1\\r\\n\\r\\n' | ./relay talk --word 0000abcd";
+
 /// An input that `relay steps` runs, as a line for the shell.
-const EXAMPLE: &str = "Example: a seat loses the first of three packets, since the ring keeps two
+const STEPS_EXAMPLE: &str =
+    "Example: a seat loses the first of three packets, since the ring keeps two
 
 printf 'keep 2\\nseats 1\\np 41\\np 42\\np 43\\n0 attach\\n0 take\\n0 take\\n0 detach\\ngo 0 p*15 0 0*5 0\\n' | ./relay steps";
 
 /// The command line: `relay talk` and `relay steps`.
 fn command<'a>(alloc: Global) -> Result<Command<'a>, AllocError> {
-    let talk = Command::new(alloc, "talk").about(
-        "Answers one connection on standard input and standard output",
+    let word = Arg::new(alloc, "word").long("word").value_name("HEX8").help(
+        "The last eight hexadecimal digits of each session identifier [default: drawn at random]",
     );
+    let talk = Command::new(alloc, "talk")
+        .about("Answers one connection on standard input and standard output")
+        .arg(word)?
+        .after_help(TALK_EXAMPLE);
     let steps = Command::new(alloc, "steps")
         .about("Runs a ring's schedule from standard input, and writes what each step did")
-        .after_help(EXAMPLE);
+        .after_help(STEPS_EXAMPLE);
     Command::new(alloc, "relay")
         .about("A live relay for RTSP 1.0 (RFC 2326)")
         .subcommand_required(true)
@@ -58,14 +73,67 @@ fn command<'a>(alloc: Global) -> Result<Command<'a>, AllocError> {
         .subcommand(steps)
 }
 
-/// Does a task over the standard streams. Behind status 0 nothing stands on standard error.
-fn run_on_standard_streams(rt: &HostRuntime, task: Task) -> anyhow::Result<ExitCode> {
-    let alloc = rt.alloc();
+/// Does what an accepted command line asks for.
+fn run_command(rt: &HostRuntime, matches: &ArgMatches) -> anyhow::Result<ExitCode> {
+    let Some((name, of_command)) = matches.subcommand() else {
+        return Ok(exit_code(COMMAND_LINE_FAULT));
+    };
+    match task_named(name) {
+        Some(Task::Talk) => talk_on_standard_streams(rt, of_command.get_str("word")),
+        Some(Task::Steps) => steps_on_standard_streams(rt),
+        // The command line accepts no other command.
+        None => Ok(exit_code(COMMAND_LINE_FAULT)),
+    }
+}
+
+/// Answers one connection over the standard streams, with this word in each session identifier, or with words that are
+/// drawn.
+fn talk_on_standard_streams(rt: &HostRuntime, word: Option<&str>) -> anyhow::Result<ExitCode> {
+    let Ok(hasher) = RandomState::new(rt) else {
+        return Ok(fails(rt, FAILED, "relay: no random source"));
+    };
     let reader = Reading::new(rt.stdin());
     let mut writer = Writing::new(rt.stdout());
-    let ended = run_task(alloc, task, reader, &mut writer, &mut FixedWord(0))?;
+    let Some(text) = word else {
+        let drawn: io::Result<StdRng> = make_rng(rt);
+        let Ok(rng) = drawn else {
+            return Ok(fails(rt, FAILED, "relay: no random source"));
+        };
+        let mut words = DrawnWords(rng);
+        let ended = do_talk(rt.alloc(), hasher, reader, &mut writer, &mut words)?;
+        return Ok(tell(rt, &ended));
+    };
+    let Some(word) = read_word(text) else {
+        return Ok(fails(rt, COMMAND_LINE_FAULT, "relay: bad word"));
+    };
+    let ended = do_talk(
+        rt.alloc(),
+        hasher,
+        reader,
+        &mut writer,
+        &mut FixedWord(word),
+    )?;
+    Ok(tell(rt, &ended))
+}
+
+/// Runs a ring's schedule over the standard streams.
+fn steps_on_standard_streams(rt: &HostRuntime) -> anyhow::Result<ExitCode> {
+    let reader = Reading::new(rt.stdin());
+    let mut writer = Writing::new(rt.stdout());
+    let ended = do_steps(rt.alloc(), reader, &mut writer)?;
+    Ok(tell(rt, &ended))
+}
+
+/// Tells how a task ended. Behind status 0 nothing stands on standard error.
+fn tell(rt: &HostRuntime, ended: &Ended) -> ExitCode {
     if ended.status != 0 {
-        let _ = rt.eprintln(&ended.line);
+        return fails(rt, ended.status, &ended.line);
     }
-    Ok(exit_code(ended.status))
+    exit_code(ended.status)
+}
+
+/// Writes a line to standard error, and tells the status.
+fn fails(rt: &HostRuntime, status: u8, line: &str) -> ExitCode {
+    let _ = rt.eprintln(line);
+    exit_code(status)
 }

@@ -5,6 +5,7 @@ use interleaved::{ListSink, ListSource, Reading, Source, Writing};
 use rtsp_message::Fault;
 use std::alloc::Global;
 use std::cell::Cell;
+use std::collections::hash_map::RandomState;
 use std::io;
 use std::io::{Read, Write};
 use std::test::Fail;
@@ -81,7 +82,13 @@ fn an_answer_is_written_before_more_is_read(rt: HostRuntime) -> Result<(), Fail>
         };
         let reader = Reading::new(Asking { wire: &wire });
         let mut writer = Writing::new(Answered { wire: &wire });
-        let (end, _reader) = run_talk(rt.alloc(), reader, &mut writer, &mut FixedWord(0));
+        let (end, _reader) = run_talk(
+            rt.alloc(),
+            RandomState::new(&rt)?,
+            reader,
+            &mut writer,
+            &mut FixedWord(0),
+        );
         assert!(rt; end == want);
         assert_eq!(rt; (wire.reads.get(), wire.writes.get()), (reads, 3));
         assert!(rt; !wire.late.get());
@@ -96,7 +103,13 @@ fn nothing_is_read_behind_a_failed_write(rt: HostRuntime) -> Result<(), Fail> {
     input.extend_from_slice(OPTIONS)?;
     let source = ListSource::new(input, OPTIONS.len(), None);
     let mut sink = ListSink::new(alloc, 0)?;
-    let (end, last) = run_talk(alloc, source, &mut sink, &mut FixedWord(0));
+    let (end, last) = run_talk(
+        alloc,
+        RandomState::new(&rt)?,
+        source,
+        &mut sink,
+        &mut FixedWord(0),
+    );
     assert!(rt; end == TalkEnd::WriteFailed);
     assert_eq!(rt; last.left(), OPTIONS.len() as u64);
     Ok(())
@@ -106,7 +119,7 @@ fn nothing_is_read_behind_a_failed_write(rt: HostRuntime) -> Result<(), Fail> {
 fn long_request(alloc: Global) -> Result<Vec<u8>, Fail> {
     let mut input = Vec::from_slice(
         alloc,
-        b"OPTIONS * RTSP/1.0\r\nCSeq: 1\r\nUser-Agent: x\r\nRequire: a\r\nRequire: b\r\nDate: c\r\nContent-Length: 1000\r\n\r\n",
+        b"OPTIONS * RTSP/1.0\r\nCSeq: 1\r\nUser-Agent: x\r\nFrom: a\r\nFrom: b\r\nDate: c\r\nContent-Length: 1000\r\n\r\n",
     )?;
     for _ in 0..1000 {
         input.push(b'b')?;
@@ -115,10 +128,16 @@ fn long_request(alloc: Global) -> Result<Vec<u8>, Fail> {
 }
 
 /// Whether a talk ends well, and with an answer to OPTIONS.
-fn is_answered<R: Read + Drop>(alloc: Global, reader: R) -> bool {
+fn is_answered<R: Read + Drop>(alloc: Global, hasher: RandomState, reader: R) -> bool {
     let mut out = Vec::new(alloc);
     let mut writer = Writing::new(&mut out);
-    let (end, _reader) = run_talk(alloc, Reading::new(reader), &mut writer, &mut FixedWord(0));
+    let (end, _reader) = run_talk(
+        alloc,
+        hasher,
+        Reading::new(reader),
+        &mut writer,
+        &mut FixedWord(0),
+    );
     end == TalkEnd::Done
         && out
             .as_slice()
@@ -128,14 +147,18 @@ fn is_answered<R: Read + Drop>(alloc: Global, reader: R) -> bool {
 #[test]
 fn a_request_of_many_fields_with_a_body(rt: HostRuntime) -> Result<(), Fail> {
     let input = long_request(rt.alloc())?;
-    assert!(rt; is_answered(rt.alloc(), input.as_slice()));
+    assert!(rt; is_answered(rt.alloc(), RandomState::new(&rt)?, input.as_slice()));
     Ok(())
 }
 
 #[test]
-fn options_cut_in_two_at_each_place(rt: HostRuntime) {
+fn options_cut_in_two_at_each_place(rt: HostRuntime) -> Result<(), Fail> {
     for place in 0..OPTIONS.len() {
         let whole = OPTIONS[..place].chain(&OPTIONS[place..]);
-        assert!(rt; is_answered(rt.alloc(), whole), "{place}");
+        assert!(rt;
+            is_answered(rt.alloc(), RandomState::new(&rt)?, whole),
+            "{place}"
+        );
     }
+    Ok(())
 }

@@ -1,16 +1,19 @@
 //! One connection, from its first byte to its end.
-ghost use Rattle.std.specs.Prelude.{◌≡◌, ◌<◌, [], ◌∷◌, true, length, take, IfOk, IfErr, OnOk, string_bytes};
+ghost use Rattle.std.specs.Prelude.{◌≡◌, ◌<◌, ℕ, List, [], ◌∷◌, true, length, take, IfOk, IfErr, OnOk, string_bytes};
 ghost use Rattle.std.specs.Io.KnownBytes.{Appends};
 ghost use Rattle.rtsp_message.specs.Intakes.{fresh};
-ghost use Rattle.rtsp_message.specs.Reply.{reply_text, plain_text};
-ghost use Rattle.relay_main.specs.Decide.{reply_to};
-ghost use Rattle.relay_main.specs.Talk.{IsAnswer, AreAnswers, Talks, exit_status, exit_line, status_of as fixed_status};
+ghost use Rattle.rtsp_message.specs.Reply.{plain_text};
+ghost use Rattle.session_state.specs.Lookups.{is_open};
+ghost use Rattle.relay_main.specs.Exchange.{AreAnswers, AreDrawn, IsAnswer, opening};
+ghost use Rattle.relay_main.specs.Talk.{Talks, exit_status, exit_line, status_of as fixed_status};
 
-use crate::decide::decide;
+use crate::exchange::{SEATS, leave, reply_bytes};
 use crate::words::Words;
 use interleaved::{Sink, Source, WriteCut, write_all};
-use rtsp_message::{Fault, Intake, Next, Request, Status, Unit, put_plain, put_reply};
+use rtsp_message::{Fault, Intake, Next, Request, Status, Unit, put_plain};
+use session_lock::Book;
 use std::alloc::{AllocError, Global};
+use std::collections::hash_map::RandomState;
 
 /// How a talk ended.
 #[derive(Clone, Copy, Debug, PartialEq, Eq)]
@@ -26,33 +29,48 @@ pub enum TalkEnd {
 
 /// Answers the requests of one connection, in order, to its end.
 ///
-/// A fault of the stream, a failed device and want of memory in the reader end it. A reply that is refused memory is
-/// 503 in its place. The reader is given back, as far as it was read.
+/// Its history stands in a book of its own, whose mounts have one seat. A word is asked for once a message, and frames are
+/// dropped. A fault of the stream, a failed device and want of memory in the reader or for the connection's coming end it.
+/// Where memory is refused for a reply, 503 stands in its place. The reader is given back, as far as it was read.
 pub fn run_talk<R: Source + Drop, W: Sink, V: Words>(
     alloc: Global,
+    hasher: RandomState,
     reader: R,
     writer: &mut W,
-    _words: &mut V,
+    words: &mut V,
 ) -> (TalkEnd, R)
-    ensures { Talks R.incoming R.failed W.written W.failed reader result.1 writer.old writer.new result.0 }
+    ensures { Talks R.incoming R.failed W.written W.failed V.gives reader result.1 words.old words.new writer.old writer.new result.0 }
 {
+    let mut book = Book::new(alloc, SEATS, hasher);
+    if let Err(_) = book.connect() {
+        if let Err(_) = write_plain(writer, Status::ServiceUnavailable, None) {
+            return (TalkEnd::WriteFailed, reader);
+        }
+        return (TalkEnd::OutOfMemory, reader);
+    }
     let mut intake = Intake::new(alloc, reader);
-    let end = answer_all(alloc, &mut intake, writer);
+    let end = answer_all(alloc, &mut book, &mut intake, writer, words);
+    leave(&mut book);
     (end, intake.into_source())
 }
 
 /// Answers what an intake gives, one unit after another. Each answer is written before more is read.
-fn answer_all<R: Source + Drop, W: Sink>(
+fn answer_all<R: Source + Drop, W: Sink, V: Words>(
     alloc: Global,
+    book: &mut Book<u16>,
     intake: &mut Intake<R>,
     writer: &mut W,
+    words: &mut V,
 ) -> TalkEnd
-    ensures { (reader : _) → intake.old ≡ fresh reader → Talks R.incoming R.failed W.written W.failed reader intake.new.source writer.old writer.new result }
+    requires begins { book.old ≡ record { seats = 1; history = opening; spares = [] } }
+    ensures talks { (reader : _) → intake.old ≡ fresh reader → Talks R.incoming R.failed W.written W.failed V.gives reader intake.new.source words.old words.new writer.old writer.new result }
+    ensures seats { book.new.seats ≡ 1 }
+    ensures open { is_open 1 book.new.history ≡ true }
 {
     loop {
         match intake.next() {
             Next::Unit(unit) => {
-                if let Err(_) = answer_unit(alloc, writer, unit) {
+                if let Err(_) = answer_unit(alloc, book, words, writer, unit) {
                     return TalkEnd::WriteFailed;
                 }
             }
@@ -74,37 +92,49 @@ fn answer_all<R: Source + Drop, W: Sink>(
     }
 }
 
-/// Answers a message. A frame is dropped, since nothing is published yet.
-fn answer_unit<W: Sink>(alloc: Global, writer: &mut W, unit: Unit) -> Result<(), WriteCut>
-    ensures ok { OnOk result ((text : _) × AreAnswers (unit ∷ []) text × Appends (W.written writer.old) (W.written writer.new) text) }
-    ensures cut { IfErr result (λ cut. (text : _) × AreAnswers (unit ∷ []) text × (cut.written < length text) × Appends (W.written writer.old) (W.written writer.new) (take cut.written text)) }
+/// Answers a message, with a word of its own. A frame is dropped, since nothing is published yet.
+fn answer_unit<W: Sink, V: Words>(
+    alloc: Global,
+    book: &mut Book<u16>,
+    words: &mut V,
+    writer: &mut W,
+    unit: Unit,
+) -> Result<(), WriteCut>
+    requires seats { book.old.seats ≡ 1 }
+    requires open { is_open 1 book.old.history ≡ true }
+    ensures ok { OnOk result ((text : List ℕ) × (drawn : List ℕ) × AreDrawn V.gives words.old drawn words.new × AreAnswers book.old.history (unit ∷ []) drawn book.new.history text × Appends (W.written writer.old) (W.written writer.new) text) }
+    ensures cut { IfErr result (λ cut. (text : List ℕ) × (drawn : List ℕ) × AreDrawn V.gives words.old drawn words.new × AreAnswers book.old.history (unit ∷ []) drawn book.new.history text × (cut.written < length text) × Appends (W.written writer.old) (W.written writer.new) (take cut.written text)) }
     ensures failed { IfErr result (λ _. W.failed writer.new ≡ true) }
+    ensures kept { book.new.seats ≡ 1 }
 {
     match unit {
-        Unit::Message(request) => answer(alloc, writer, &request),
+        Unit::Message(request) => {
+            let word = words.word();
+            answer(alloc, book, word, writer, &request)
+        }
         Unit::Frame(_) => Ok(()),
     }
 }
 
 /// Writes the reply to a request, or 503 where memory is refused for it.
-fn answer<W: Sink>(alloc: Global, writer: &mut W, request: &Request) -> Result<(), WriteCut>
-    ensures ok { OnOk result ((text : _) × IsAnswer request.now text × Appends (W.written writer.old) (W.written writer.new) text) }
-    ensures cut { IfErr result (λ cut. (text : _) × IsAnswer request.now text × (cut.written < length text) × Appends (W.written writer.old) (W.written writer.new) (take cut.written text)) }
+fn answer<W: Sink>(
+    alloc: Global,
+    book: &mut Book<u16>,
+    word: u32,
+    writer: &mut W,
+    request: &Request,
+) -> Result<(), WriteCut>
+    requires seats { book.old.seats ≡ 1 }
+    requires open { is_open 1 book.old.history ≡ true }
+    ensures ok { OnOk result ((text : List ℕ) × IsAnswer book.old.history request.now word book.new.history text × Appends (W.written writer.old) (W.written writer.new) text) }
+    ensures cut { IfErr result (λ cut. (text : List ℕ) × IsAnswer book.old.history request.now word book.new.history text × (cut.written < length text) × Appends (W.written writer.old) (W.written writer.new) (take cut.written text)) }
     ensures failed { IfErr result (λ _. W.failed writer.new ≡ true) }
+    ensures kept { book.new.seats ≡ 1 }
 {
-    match reply_bytes(alloc, request) {
-        Ok(text) => write_all(writer, text.as_slice()),
-        Err(_) => write_plain(writer, Status::ServiceUnavailable, request.cseq),
+    match reply_bytes(alloc, book, word, request) {
+        Some(text) => write_all(writer, text.as_slice()),
+        None => write_plain(writer, Status::ServiceUnavailable, request.cseq),
     }
-}
-
-fn reply_bytes(alloc: Global, request: &Request) -> Result<Vec<u8>, AllocError>
-    ensures { IfOk result (λ text. text.items ≡ reply_text (reply_to request.now)) }
-{
-    let reply = decide(alloc, request)?;
-    let mut text = Vec::new(alloc);
-    put_reply(&mut text, &reply)?;
-    Ok(text)
 }
 
 /// Writes a reply that has no field but CSeq. It takes no memory.

@@ -1,13 +1,14 @@
 //! What a command line asks for, and doing it over any source and sink.
 ghost use Rattle.std.specs.Prelude.{◌≡◌, IfOk, OnErr, string_bytes};
 ghost use Rattle.std.specs.Process.{exit_status};
-ghost use Rattle.relay_main.specs.Tasks.{Does, IsDone, task_of};
+ghost use Rattle.relay_main.specs.Tasks.{DoesSteps, DoesTalk, IsSteps, IsTalked, task_of};
 
 use crate::steps::{run_steps, steps_end};
 use crate::talk::{run_talk, talk_end};
 use crate::words::Words;
 use interleaved::{Sink, Source};
 use std::alloc::{AllocError, Global};
+use std::collections::hash_map::RandomState;
 use std::process::ExitCode;
 
 /// What an accepted command line asks for.
@@ -37,27 +38,33 @@ pub struct Ended {
     pub line: String,
 }
 
-/// Does a task over this source and this sink. The only error is want of memory for the line, with the task done.
-pub fn run_task<R: Source + Drop, W: Sink, V: Words>(
+/// Answers one connection. The only error is want of memory for the line, with the connection answered.
+pub fn do_talk<R: Source + Drop, W: Sink, V: Words>(
     alloc: Global,
-    task: Task,
-    mut reader: R,
+    hasher: RandomState,
+    reader: R,
     writer: &mut W,
     words: &mut V,
 ) -> Result<Ended, AllocError>
-    ensures ok { IfOk result (λ ended. Does R.incoming R.failed W.written W.failed task reader writer.old writer.new ended.status (string_bytes ended.line)) }
-    ensures err { OnErr result (IsDone R.incoming R.failed W.written W.failed task reader writer.old writer.new) }
+    ensures ok { IfOk result (λ ended. DoesTalk R.incoming R.failed W.written W.failed V.gives reader words.old words.new writer.old writer.new ended.status (string_bytes ended.line)) }
+    ensures err { OnErr result (IsTalked R.incoming R.failed W.written W.failed V.gives reader words.old words.new writer.old writer.new) }
 {
-    let (status, line) = match task {
-        Task::Talk => {
-            let (end, _last) = run_talk(alloc, reader, writer, words);
-            talk_end(alloc, &end)?
-        }
-        Task::Steps => {
-            let end = run_steps(alloc, &mut reader, writer);
-            steps_end(alloc, &end)?
-        }
-    };
+    let (end, _last) = run_talk(alloc, hasher, reader, writer, words);
+    let (status, line) = talk_end(alloc, &end)?;
+    Ok(Ended { status, line })
+}
+
+/// Runs a ring's schedule. The only error is want of memory for the line, with the schedule run.
+pub fn do_steps<R: Source + Drop, W: Sink>(
+    alloc: Global,
+    mut reader: R,
+    writer: &mut W,
+) -> Result<Ended, AllocError>
+    ensures ok { IfOk result (λ ended. DoesSteps R.incoming R.failed W.written W.failed reader writer.old writer.new ended.status (string_bytes ended.line)) }
+    ensures err { OnErr result (IsSteps R.incoming R.failed W.written W.failed reader writer.old writer.new) }
+{
+    let end = run_steps(alloc, &mut reader, writer);
+    let (status, line) = steps_end(alloc, &end)?;
     Ok(Ended { status, line })
 }
 

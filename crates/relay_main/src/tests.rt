@@ -1,11 +1,11 @@
 //! Worked exchanges, byte for byte.
-use crate::decide::decide;
 use crate::talk::{TalkEnd, run_talk, talk_end};
-use crate::task::{Task, exit_code, run_task, task_named};
-use crate::words::{FixedWord, Words};
+use crate::task::{Ended, Task, do_steps, do_talk, exit_code, task_named};
+use crate::words::{FixedWord, Words, read_word};
 use interleaved::{ListSink, ListSource, Sink, Source};
-use rtsp_message::{Fault, Reader, Status, Unit};
+use rtsp_message::Fault;
 use std::alloc::Global;
+use std::collections::hash_map::RandomState;
 use std::process::{Abort, ExitCode};
 use std::test::Fail;
 
@@ -13,6 +13,20 @@ const OPTIONS: &[u8] = b"OPTIONS * RTSP/1.0\r\nCSeq: 1\r\n\r\n";
 
 const OPTIONS_REPLY: &[u8] =
     b"RTSP/1.0 200 OK\r\nCSeq: 1\r\nPublic: OPTIONS, DESCRIBE, ANNOUNCE, SETUP, PLAY, PAUSE, RECORD, TEARDOWN, GET_PARAMETER\r\n\r\n";
+
+/// Where a talk is tried.
+#[derive(Clone, Copy)]
+struct Host {
+    alloc: Global,
+    hasher: RandomState,
+}
+
+fn made_host(rt: &HostRuntime) -> Result<Host, Fail> {
+    Ok(Host {
+        alloc: rt.alloc(),
+        hasher: RandomState::new(rt)?,
+    })
+}
 
 /// How the bytes of a talk come and go: at most so many a read, up to a place at which the source fails, into a sink
 /// with this room.
@@ -25,23 +39,29 @@ struct Wire {
 
 /// Whether a talk of this input writes this text, and ends so.
 fn talks(
-    alloc: Global,
+    host: Host,
     input: &[u8],
     wire: Wire,
     want: &[u8],
     want_end: &TalkEnd,
 ) -> Result<bool, Fail> {
-    let bytes = Vec::from_slice(alloc, input)?;
+    let bytes = Vec::from_slice(host.alloc, input)?;
     let source = ListSource::new(bytes, wire.piece.max(1), wire.fail_at);
-    let mut sink = ListSink::new(alloc, wire.room)?;
-    let (end, _last) = run_talk(alloc, source, &mut sink, &mut FixedWord(7));
+    let mut sink = ListSink::new(host.alloc, wire.room)?;
+    let (end, _last) = run_talk(
+        host.alloc,
+        host.hasher,
+        source,
+        &mut sink,
+        &mut FixedWord(7),
+    );
     Ok(sink.bytes() == want && end == *want_end)
 }
 
 /// The answer to an input, whatever the pieces are that it comes in.
 fn expect_answer(
     rt: &impl Abort,
-    alloc: Global,
+    host: Host,
     input: &[u8],
     want: &[u8],
     want_end: &TalkEnd,
@@ -53,7 +73,7 @@ fn expect_answer(
             room: 1000,
         };
         assert!(rt;
-            talks(alloc, input, wire, want, want_end)?,
+            talks(host, input, wire, want, want_end)?,
             "{piece} {input:?}"
         );
     }
@@ -62,6 +82,7 @@ fn expect_answer(
 
 #[test]
 fn options_in_any_pieces(rt: HostRuntime) -> Result<(), Fail> {
+    let host = made_host(&rt)?;
     for piece in 1..40 {
         let wire = Wire {
             piece,
@@ -69,7 +90,7 @@ fn options_in_any_pieces(rt: HostRuntime) -> Result<(), Fail> {
             room: 1000,
         };
         assert!(rt;
-            talks(rt.alloc(), OPTIONS, wire, OPTIONS_REPLY, &TalkEnd::Done)?,
+            talks(host, OPTIONS, wire, OPTIONS_REPLY, &TalkEnd::Done)?,
             "{piece}"
         );
     }
@@ -113,8 +134,9 @@ const ANSWERS: [(&[u8], &[u8]); 9] = [
 
 #[test]
 fn answers_byte_for_byte(rt: HostRuntime) -> Result<(), Fail> {
+    let host = made_host(&rt)?;
     for (input, want) in ANSWERS {
-        expect_answer(&rt, rt.alloc(), input, want, &TalkEnd::Done)?;
+        expect_answer(&rt, host, input, want, &TalkEnd::Done)?;
     }
     Ok(())
 }
@@ -154,22 +176,23 @@ fn joined(alloc: Global, first: &[u8], second: &[u8]) -> Result<Vec<u8>, Fail> {
 /// The fault ends the talk, behind the answer to what came before it.
 fn expect_fault(
     rt: &impl Abort,
-    alloc: Global,
+    host: Host,
     bad: &[u8],
     reply: &[u8],
     fault: Fault,
 ) -> Result<(), Fail> {
-    let input = joined(alloc, OPTIONS, bad)?;
-    let want = joined(alloc, OPTIONS_REPLY, reply)?;
+    let input = joined(host.alloc, OPTIONS, bad)?;
+    let want = joined(host.alloc, OPTIONS_REPLY, reply)?;
     let end = TalkEnd::StreamFault(fault);
-    expect_answer(rt, alloc, bad, reply, &end)?;
-    expect_answer(rt, alloc, input.as_slice(), want.as_slice(), &end)
+    expect_answer(rt, host, bad, reply, &end)?;
+    expect_answer(rt, host, input.as_slice(), want.as_slice(), &end)
 }
 
 #[test]
 fn each_fault_alone_and_behind_a_reply(rt: HostRuntime) -> Result<(), Fail> {
+    let host = made_host(&rt)?;
     for (bad, reply, fault) in FAULTS {
-        expect_fault(&rt, rt.alloc(), bad, reply, fault)?;
+        expect_fault(&rt, host, bad, reply, fault)?;
     }
     Ok(())
 }
@@ -179,7 +202,7 @@ fn a_head_too_long(rt: HostRuntime) -> Result<(), Fail> {
     let many = Vec::from_elem(rt.alloc(), b'A', 8192)?;
     expect_fault(
         &rt,
-        rt.alloc(),
+        made_host(&rt)?,
         many.as_slice(),
         TOO_LARGE,
         Fault::HeadTooLong,
@@ -188,6 +211,7 @@ fn a_head_too_long(rt: HostRuntime) -> Result<(), Fail> {
 
 #[test]
 fn source_fails_at_each_place(rt: HostRuntime) -> Result<(), Fail> {
+    let host = made_host(&rt)?;
     for place in 0..32 {
         let want = if place < 31 { &[] } else { OPTIONS_REPLY };
         let wire = Wire {
@@ -196,7 +220,7 @@ fn source_fails_at_each_place(rt: HostRuntime) -> Result<(), Fail> {
             room: 1000,
         };
         assert!(rt;
-            talks(rt.alloc(), OPTIONS, wire, want, &TalkEnd::ReadFailed)?,
+            talks(host, OPTIONS, wire, want, &TalkEnd::ReadFailed)?,
             "{place}"
         );
     }
@@ -205,6 +229,7 @@ fn source_fails_at_each_place(rt: HostRuntime) -> Result<(), Fail> {
 
 #[test]
 fn sink_of_each_room(rt: HostRuntime) -> Result<(), Fail> {
+    let host = made_host(&rt)?;
     for room in 0..OPTIONS_REPLY.len() {
         let wire = Wire {
             piece: 100,
@@ -213,7 +238,7 @@ fn sink_of_each_room(rt: HostRuntime) -> Result<(), Fail> {
         };
         let want = &OPTIONS_REPLY[..room];
         assert!(rt;
-            talks(rt.alloc(), OPTIONS, wire, want, &TalkEnd::WriteFailed)?,
+            talks(host, OPTIONS, wire, want, &TalkEnd::WriteFailed)?,
             "{room}"
         );
     }
@@ -222,12 +247,13 @@ fn sink_of_each_room(rt: HostRuntime) -> Result<(), Fail> {
 
 #[test]
 fn a_sink_with_just_enough_room(rt: HostRuntime) -> Result<(), Fail> {
+    let host = made_host(&rt)?;
     let wire = Wire {
         piece: 100,
         fail_at: None,
         room: OPTIONS_REPLY.len(),
     };
-    assert!(rt; talks(rt.alloc(), OPTIONS, wire, OPTIONS_REPLY, &TalkEnd::Done)?);
+    assert!(rt; talks(host, OPTIONS, wire, OPTIONS_REPLY, &TalkEnd::Done)?);
     Ok(())
 }
 
@@ -268,20 +294,34 @@ fn a_fixed_word(rt: HostRuntime) {
     assert_eq!(rt; FixedWord(7).word(), 7);
 }
 
-/// The status, the line for standard error and the output of a task, from a source that fails at a place into a sink
-/// with this room.
+/// How a task ends from a source that fails at a place into a sink.
 fn done(
-    alloc: Global,
+    host: Host,
+    task: Task,
+    input: &[u8],
+    fail_at: Option<usize>,
+    sink: &mut ListSink,
+) -> Result<Ended, Fail> {
+    let source = ListSource::new(Vec::from_slice(host.alloc, input)?, 100, fail_at);
+    let ended = match task {
+        Task::Talk => do_talk(host.alloc, host.hasher, source, sink, &mut FixedWord(7))?,
+        Task::Steps => do_steps(host.alloc, source, sink)?,
+    };
+    Ok(ended)
+}
+
+/// The status, the line for standard error and the output of a task, with a sink of this room.
+fn told(
+    host: Host,
     task: Task,
     input: &[u8],
     fail_at: Option<usize>,
     room: usize,
 ) -> Result<String, Fail> {
-    let source = ListSource::new(Vec::from_slice(alloc, input)?, 100, fail_at);
-    let mut sink = ListSink::new(alloc, room)?;
-    let ended = run_task(alloc, task, source, &mut sink, &mut FixedWord(7))?;
-    let output = String::from_utf8_lossy(alloc, sink.bytes())?;
-    Ok(format!(in alloc; "{} {}|{output}", ended.status, ended.line)?)
+    let mut sink = ListSink::new(host.alloc, room)?;
+    let ended = done(host, task, input, fail_at, &mut sink)?;
+    let output = String::from_utf8_lossy(host.alloc, sink.bytes())?;
+    Ok(format!(in host.alloc; "{} {}|{output}", ended.status, ended.line)?)
 }
 
 const STEPS: &[u8] = b"keep 1\nseats 0\np close\ngo p\n";
@@ -325,11 +365,9 @@ const TASKS: [(Task, &[u8], Option<usize>, usize, &str); 9] = [
 
 #[test]
 fn a_task_ends_with_its_status_and_line(rt: HostRuntime) -> Result<(), Fail> {
+    let host = made_host(&rt)?;
     for (task, input, fail_at, room, want) in TASKS {
-        assert_eq!(rt;
-            done(rt.alloc(), task, input, fail_at, room)?.as_str(),
-            want
-        );
+        assert_eq!(rt; told(host, task, input, fail_at, room)?.as_str(), want);
     }
     Ok(())
 }
@@ -343,15 +381,24 @@ fn a_command_is_known_by_its_name(rt: HostRuntime) {
     assert!(rt; exit_code(2) == ExitCode::from(2));
 }
 
+/// What stands behind `--word`, and the word that it is.
+const WORDS: [(&str, Option<u32>); 11] = [
+    ("0000abcd", Some(0xabcd)),
+    ("0000ABCD", Some(0xabcd)),
+    ("fFfFfFfF", Some(0xffff_ffff)),
+    ("00000000", Some(0)),
+    ("12345678", Some(0x1234_5678)),
+    ("", None),
+    ("0000abc", None),
+    ("00000abcd", None),
+    ("0x00abcd", None),
+    ("+000abcd", None),
+    ("0000abcg", None),
+];
+
 #[test]
-fn a_request_is_decided(rt: HostRuntime) -> Result<(), Fail> {
-    let alloc = rt.alloc();
-    let mut reader = Reader::new(alloc);
-    let fed = reader.feed(OPTIONS)?;
-    let Some(Unit::Message(request)) = fed.units.first() else {
-        return Err("a request".into());
-    };
-    let reply = decide(alloc, request)?;
-    assert!(rt; reply.status == Status::Ok && reply.cseq == Some(1));
-    Ok(())
+fn a_word_is_eight_digits_of_either_case(rt: HostRuntime) {
+    for (text, want) in WORDS {
+        assert_eq!(rt; read_word(text), want);
+    }
 }
