@@ -13,11 +13,11 @@ use Rattle.ring_steps.specs.declared.views.Seat.{Seat}
 use Rattle.ring_steps.specs.declared.views.SeatPhase.{SeatPhase}
 use Rattle.ring_steps.specs.declared.views.SeatPhase.TheVariants as seating
 use Rattle.ring_steps.specs.Ring.{cursor}
-use Rattle.packet_ring.specs.Rule.{View}
+use Rattle.packet_ring.specs.Rule.{Knows, View}
 use Rattle.packet_ring.specs.Steps.{HasSeen, ends_at, lost_to, seat_of}
-use Rattle.packet_ring.specs.Tokens.{FoundNone, GotPacket, Looked, LostSome}
-use Rattle.packet_ring.specs.Views.{RingId, IsReceipted, IsSeated, IsSubscribed, keep_of, packet_from, packets_from, seen_by, subscribing_of}
-use Rattle.packet_ring.specs.Calls.{SeesOn, TakesNext, log_with}
+use Rattle.packet_ring.specs.Tokens.{FirstKept, FoundNone, GotPacket, Looked, LostSome}
+use Rattle.packet_ring.specs.Views.{RingId, IsReceipted, IsSeated, IsSubscribed, found_by, keep_of, packet_from, packets_from, seen_by, subscribing_of}
+use Rattle.packet_ring.specs.Calls.{LoadsFor, SeesOn, TakesNext, WasKept, head_of, log_with}
 use Rattle.packet_ring.specs.declared.block.Token.{Token}
 use Rattle.packet_ring.proofs.Pinned.{or_packet}
 use mathlib.Core.Logic.{dite}
@@ -61,6 +61,10 @@ get_begin (x ∷ xs) (suc k) (suc n) p at lt = get_begin xs k n p at (omega arit
 seen_size : (xs : List (List ℕ)) (k : ℕ) → k ≤ length xs → length (packets_from (take k xs)) ≡ k
 seen_size xs k le = length-map (take k xs) packet_from ∙ length-take-le k xs le
 
+-- the head that a call's last load found is that of the log that is seen
+pub finds_log : (old : Knows) (t : Token) (seen : ℕ) (head : Head) → Looked head seen old t.me → found_by t ≡ head → ends_at t.me.seen seen ≡ head.closed → found_by t ≡ head_of (seen_by t seen) (ends_at t.me.seen seen)
+finds_log old t seen head look is mark = let size : head.length ≡ length (seen_by t seen) = look.size ∙ sym (seen_size t.me.seen seen look.has.within) in is ∙ (λ i. record { length = size i; closed = sym mark i })
+
 module _ (z : RingId) (t t' : Token) (known seen keep : ℕ) (a : Account) (is : IsSubscribed z t known a) (same : t'.id ≡ t.id) (sized : keep_of t.id ≡ keep) where
   abbrev x : Seat
   x = seat_of t.me.view
@@ -81,6 +85,7 @@ module _ (z : RingId) (t t' : Token) (known seen keep : ℕ) (a : Account) (is :
         );
         counts = (at ∙ c, refl);
         sees = sees z t t' seating.Between known seen got.head is.seated got.looked_at;
+        found = (ap (λ (v : View). (seat_of v).seen) got.view ∙ got.looked_at.size ∙ sym many, λ was. got.looked_at.ended (sym (ap (λ (v : View). (seat_of v).saw_closed) got.view) ∙ was));
         loads = ap (λ (v : View). (seat_of v).loads) got.view;
         ring = same;
       }
@@ -92,12 +97,30 @@ module _ (z : RingId) (t t' : Token) (known seen keep : ℕ) (a : Account) (is :
         event = (cursor_of a, refl, omega arith, omega arith, ap (λ (k : ℕ). log_with (seen_by t' seen) (ends_at t'.me.seen seen) k) next);
         counts = refl;
         sees = sees z t t' seating.Between known seen lost.head is.seated lost.looked_at;
+        found = finds_log t.me t' seen lost.head lost.looked_at (found_head lost.view) lost.mark;
         loads = loaded lost.view;
         ring = same;
       } where
-        loaded : (t'.me.view ≡ inr (lost_to lost.head x count)) ⊎ (t'.me.view ≡ inr (lost_to lost.head (record x { loads = x.loads + 1 }) count)) → ((seat_of t'.me.view).loads ≡ x.loads + 1) ⊎ ((seat_of t'.me.view).loads ≡ x.loads + 2)
+        Left : Type 0
+        Left = (t'.me.view ≡ inr (lost_to lost.head x count)) ⊎ ((t'.me.view ≡ inr (lost_to lost.head (record x { loads = x.loads + 1 }) count)) × FirstKept keep (cursor x) seen t.me)
+
+        found_head : Left → found_by t' ≡ lost.head
+        found_head (inl v) = ap (λ (w : View). let h : Head = record { length = (seat_of w).seen; closed = (seat_of w).saw_closed } in h) v
+        found_head (inr v) = ap (λ (w : View). let h : Head = record { length = (seat_of w).seen; closed = (seat_of w).saw_closed } in h) v.0
+
+        loaded : Left → LoadsFor (Lost count) (subscribing_of t known a) (subscribing_of t' seen (record a { lost = a.lost + count }))
         loaded (inl v) = inl (ap (λ (w : View). (seat_of w).loads) v)
-        loaded (inr v) = inr (ap (λ (w : View). (seat_of w).loads) v ∙ (let r : x.loads + 1 + 1 ≡ x.loads + 2 = omega arith in r))
+        loaded (inr v) = inr (ap (λ (w : View). (seat_of w).loads) v.0 ∙ (let r : x.loads + 1 + 1 ≡ x.loads + 2 = omega arith in r), kept_first v.1)
+          where
+            kept_first : FirstKept keep (cursor x) seen t.me → WasKept (keep_of t.id) (length (seen_by t known)) (cursor_of a) (length (seen_by t' seen))
+            kept_first k = let c = at_cursor in let e = sized in let now : length (seen_by t' seen) ≡ seen = seen_size t'.me.seen seen lost.looked_at.has.within in let was : length (seen_by t known) ≡ known = seen_size t.me.seen known is.seated.has.within in
+                let far = k.far known is.seated.has in let before = k.before in let kept = k.kept in let there = k.there in record {
+                  first = k.first;
+                  known_before = omega arith;
+                  seen_later = omega arith;
+                  kept = omega arith;
+                  there = omega arith;
+                }
 
 -- a take that found no further packet
 module _ (z : RingId) (t t' : Token) (known seen : ℕ) (a : Account) (is : IsSubscribed z t known a) (same : t'.id ≡ t.id) where
@@ -105,11 +128,14 @@ module _ (z : RingId) (t t' : Token) (known seen : ℕ) (a : Account) (is : IsSu
   found_end closed none = let c : cursor (seat_of t.me.view) ≡ cursor_of a = ap cursor_of is.account in let many : length (seen_by t' seen) ≡ seen = seen_size t'.me.seen seen none.looked_at.has.within in
       let ends = none.ends in ap (λ (k : ℕ). Some (Some k)) (let e : cursor_of a ≡ length (seen_by t' seen) = omega arith in e)
 
+  found_end_of : (closed : Bool) (none : FoundNone closed seen (seat_of t.me.view) t.me t'.me) → found_by t' ≡ head_of (seen_by t' seen) (ends_at t'.me.seen seen)
+  found_end_of closed none = finds_log t.me t' seen none.head none.looked_at (ap (λ (w : View). let h : Head = record { length = (seat_of w).seen; closed = (seat_of w).saw_closed } in h) none.view) (none.mark ∙ sym none.saw)
+
   pub takes_empty : FoundNone false seen (seat_of t.me.view) t.me t'.me → TakesNext (subscribing_of t known a) Empty (subscribing_of t' seen a)
-  takes_empty none = record { event = (found_end false none, none.mark, refl); counts = refl; sees = sees z t t' seating.Between known seen none.head is.seated none.looked_at; loads = ap (λ (v : View). (seat_of v).loads) none.view; ring = same }
+  takes_empty none = record { event = (found_end false none, none.mark, refl); counts = refl; sees = sees z t t' seating.Between known seen none.head is.seated none.looked_at; found = found_end_of false none; loads = ap (λ (v : View). (seat_of v).loads) none.view; ring = same }
 
   pub takes_ended : FoundNone true seen (seat_of t.me.view) t.me t'.me → TakesNext (subscribing_of t known a) Ended (subscribing_of t' seen a)
-  takes_ended none = record { event = (found_end true none, none.mark, refl); counts = refl; sees = sees z t t' seating.Between known seen none.head is.seated none.looked_at; loads = ap (λ (v : View). (seat_of v).loads) none.view; ring = same }
+  takes_ended none = record { event = (found_end true none, none.mark, refl); counts = refl; sees = sees z t t' seating.Between known seen none.head is.seated none.looked_at; found = found_end_of true none; loads = ap (λ (v : View). (seat_of v).loads) none.view; ring = same }
 
 -- the logs that a publisher tells by its receipts
 pub more_published : (log : List (List ℕ)) (p : List ℕ) (count : ℕ) → count ≡ length log → HasSeen count log → 1 ≤ length p → HasSeen (count + 1) (log ++ p ∷ [])

@@ -1,9 +1,9 @@
 -- What the ring's calls do, over what contracts see.
-use Rattle.std.specs.Prelude.{◌≡◌, ◌⊎◌, ℕ, ◌+◌, ◌^◌, ◌<◌, ◌≤◌, Bool, true, Some, Result, Ok, Err, List, [], ◌∷◌, ◌++◌, length}
+use Rattle.std.specs.Prelude.{◌≡◌, ◌⊎◌, ℕ, ◌+◌, ◌-◌, ◌^◌, ◌<◌, ◌≤◌, Bool, true, Some, Result, Ok, Err, List, [], ◌∷◌, ◌++◌, length}
 use mathlib.Core.List.{IsPrefix}
 use Rattle.cursor.specs.declared.packets.Packet.{Packet}
 use Rattle.cursor.specs.declared.takes.Delivery.{Delivery}
-use Rattle.cursor.specs.declared.takes.Delivery.TheVariants.{Lost}
+use Rattle.cursor.specs.declared.takes.Delivery.TheVariants.{Got, Lost}
 use Rattle.cursor.specs.declared.calls.Call.TheVariants.{Take}
 use Rattle.cursor.specs.declared.calls.Answer.TheVariants.{Taken}
 use Rattle.cursor.specs.Log.{Log, LogEvent}
@@ -11,6 +11,7 @@ use Rattle.cursor.specs.Account.{cursor_of}
 use Rattle.cursor.specs.Taps.{Counts}
 use Rattle.cursor.specs.declared.refusals.Refused as refusals
 use Rattle.cursor.specs.declared.refusals.Refused.TheVariants as refusal
+use Rattle.ring_steps.specs.declared.words.Head.{Head}
 use Rattle.packet_ring.specs.Views.{Publishing, Subscribing, keep_of, packet_bytes_of, seats_of}
 
 -- what was seen of a log before begins what is seen of it now, and is all of it if it was closed
@@ -22,17 +23,38 @@ pub record SeesOn (seen : List Packet) (closed : Bool) (seen' : List Packet) (cl
 abbrev pub log_with : List Packet → (closed : Bool) → (cursor : ℕ) → Log
 log_with packets closed c = record { packets = packets; closed = closed; cursors = Some c ∷ [] }
 
--- how many loads a take makes: one, or two where it lost packets after a pin that failed
-abbrev pub LoadsFor : Delivery → (loads loads' : ℕ) → Type 0
-LoadsFor (Lost k) m n = (n ≡ m + 1) ⊎ (n ≡ m + 2)
-LoadsFor d m n = n ≡ m + 1
+-- the head of the log of these packets
+abbrev pub head_of : List Packet → (closed : Bool) → Head
+head_of packets closed = record { length = length packets; closed = closed }
+
+-- the head that a take's last load found is that of the log that is seen after it; but a packet's pin may have
+-- shown, too, that this log was closed meanwhile
+abbrev pub FindsLog : Delivery → (found : Head) → (seen : List Packet) → (closed : Bool) → Type 0
+FindsLog (Got n p) h seen closed = (h.length ≡ length seen) × (h.closed ≡ true → closed ≡ true)
+FindsLog d h seen closed = h ≡ head_of seen closed
+
+-- a load of a log that kept the packet at the cursor, so that a pin was tried: it found no less than was known
+-- before it, and no more than the next load found
+pub record WasKept (keep known cursor seen : ℕ) : Type 0 where
+  pub first : ℕ
+  pub known_before : known ≤ first
+  pub seen_later : first ≤ seen
+  pub kept : first - keep ≤ cursor
+  pub there : cursor < first
+
+-- how many loads a take makes: one, or two where it lost packets after a pin that failed, of a packet that the
+-- first load found kept
+abbrev pub LoadsFor : Delivery → (old new : Subscribing) → Type 0
+LoadsFor (Lost k) old new = (new.loads ≡ old.loads + 1) ⊎ ((new.loads ≡ old.loads + 2) × WasKept (keep_of old.ring) (length old.seen) (cursor_of old.account) (length new.seen))
+LoadsFor d old new = new.loads ≡ old.loads + 1
 
 -- a take of a subscriber: its answer is the broadcast log's at what its last load saw
 pub record TakesNext (old : Subscribing) (answer : Delivery) (new : Subscribing) : Type 0 where
   pub event : LogEvent (keep_of old.ring) (log_with new.seen new.closed (cursor_of old.account)) (Take 0) (Taken answer) (log_with new.seen new.closed (cursor_of new.account))
   pub counts : Counts old.account answer new.account
   pub sees : SeesOn old.seen old.closed new.seen new.closed
-  pub loads : LoadsFor answer old.loads new.loads
+  pub found : FindsLog answer new.found new.seen new.closed
+  pub loads : LoadsFor answer old new
   pub ring : new.ring ≡ old.ring
 
 -- a publish that appended this packet, which is no longer than the ring takes, after fewer than 2 ^ 46 others

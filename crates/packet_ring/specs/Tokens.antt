@@ -33,6 +33,7 @@ pub record Looked (head : Head) (seen : ℕ) (me next : Knows) : Type 0 where
   pub short : seen ≤ 2 ^ 46
   pub far : (k : ℕ) → HasSeen k me.seen → k ≤ seen
   pub has : HasSeen seen next.seen
+  pub ended : head.closed ≡ true → ends_at next.seen seen ≡ true
   pub grows : IsPrefix me.seen next.seen
 
 -- a take that gave this packet, of which the take's one load saw that it is there and is kept
@@ -50,9 +51,18 @@ pub record FoundNone (closed : Bool) (seen : ℕ) (x : Seat) (me next : Knows) :
   pub head : Head
   pub looked_at : Looked head seen me next
   pub ends : seen ≡ cursor x
+  pub saw : head.closed ≡ closed
   pub mark : ends_at next.seen seen ≡ closed
   pub view : next.view ≡ inr (looked head x)
   pub right : next.right ≡ no_right
+
+-- a first load of a log of so many packets, no more than the second one found, which kept the packet at the cursor
+pub record FirstKept (keep cursor seen : ℕ) (me : Knows) : Type 0 where
+  pub first : ℕ
+  pub far : (k : ℕ) → HasSeen k me.seen → k ≤ first
+  pub before : first ≤ seen
+  pub kept : first - keep ≤ cursor
+  pub there : cursor < first
 
 -- a take that lost so many packets, at least one: by its one load, or by its second one after a pin that failed
 pub record LostSome (keep count seen : ℕ) (x : Seat) (me next : Knows) : Type 0 where
@@ -60,7 +70,8 @@ pub record LostSome (keep count seen : ℕ) (x : Seat) (me next : Knows) : Type 
   pub looked_at : Looked head seen me next
   pub behind : cursor x < seen - keep
   pub lost : count ≡ seen - keep - cursor x
-  pub view : (next.view ≡ inr (lost_to head x count)) ⊎ (next.view ≡ inr (lost_to head (record x { loads = x.loads + 1 }) count))
+  pub mark : ends_at next.seen seen ≡ head.closed
+  pub view : (next.view ≡ inr (lost_to head x count)) ⊎ ((next.view ≡ inr (lost_to head (record x { loads = x.loads + 1 }) count)) × FirstKept keep (cursor x) seen me)
   pub right : next.right ≡ no_right
 
 -- what a take answers, with the packet's bytes in front of the buffer, where the last of its loads saw a log

@@ -4,6 +4,7 @@ use Rattle.cursor.specs.declared.packets.Packet.{Packet}
 use Rattle.cursor.specs.declared.takes.Account.{Account}
 use Rattle.cursor.specs.Log.{packet_of}
 use Rattle.cursor.specs.Account.{cursor_of}
+use Rattle.ring_steps.specs.declared.words.Head.{Head}
 use Rattle.ring_steps.specs.declared.views.PublisherPhase.TheVariants as publishing
 use Rattle.ring_steps.specs.declared.views.SeatPhase.{SeatPhase}
 use Rattle.ring_steps.specs.declared.views.SeatPhase.TheVariants as seating
@@ -63,13 +64,14 @@ receipted z log closed = record { ring = z; log = log; closed = closed }
 abbrev pub number_of : Receipted → ℕ
 number_of r = if r.closed then length r.log else length r.log - 1
 
--- a pass: its ring, the longest log that it has seen or was told of, whether that is closed, and how many loads
--- its seat made
+-- a pass: its ring, the longest log that it has seen or was told of, whether that is closed, how many loads
+-- its seat made, and the head that the last of them found (before any, that of an empty open log)
 pub record Passing : Type 0 where
   pub ring : RingId
   pub seen : List Packet
   pub closed : Bool
   pub loads : ℕ
+  pub found : Head
 
 -- a subscriber: the same, and its attachment's account
 pub record Subscribing : Type 0 where
@@ -77,6 +79,7 @@ pub record Subscribing : Type 0 where
   pub seen : List Packet
   pub closed : Bool
   pub loads : ℕ
+  pub found : Head
   pub account : Account
 
 -- the receipt of what was told: so many packets
@@ -87,15 +90,19 @@ receipt_of z log count closed = receipted z (packets_from (take count log)) clos
 abbrev pub seen_by : Token → (known : ℕ) → List Packet
 seen_by t known = packets_from (take known t.me.seen)
 
+-- the head that its seat's last load found
+abbrev pub found_by : Token → Head
+found_by t = record { length = (seat_of t.me.view).seen; closed = (seat_of t.me.view).saw_closed }
+
 abbrev pub passing_of : Token → (known : ℕ) → Passing
-passing_of t known = record { ring = t.id; seen = seen_by t known; closed = ends_at t.me.seen known; loads = (seat_of t.me.view).loads }
+passing_of t known = record { ring = t.id; seen = seen_by t known; closed = ends_at t.me.seen known; loads = (seat_of t.me.view).loads; found = found_by t }
 
 abbrev pub subscribing_of : Token → (known : ℕ) → Account → Subscribing
-subscribing_of t known a = record { ring = t.id; seen = seen_by t known; closed = ends_at t.me.seen known; loads = (seat_of t.me.view).loads; account = a }
+subscribing_of t known a = record { ring = t.id; seen = seen_by t known; closed = ends_at t.me.seen known; loads = (seat_of t.me.view).loads; found = found_by t; account = a }
 
 -- a pass that did nothing yet
 abbrev pub new_pass : RingId → Passing
-new_pass z = record { ring = z; seen = []; closed = false; loads = 0 }
+new_pass z = record { ring = z; seen = []; closed = false; loads = 0; found = record { length = 0; closed = false } }
 
 -- a token of this ring is its publisher's, between two calls, and so many packets were published
 pub record IsPublishing (z : RingId) (t : Token) (count : ℕ) : Type 0 where

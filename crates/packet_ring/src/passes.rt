@@ -2,7 +2,7 @@
 ghost use Rattle.std.specs.Prelude.{◌≡◌, ◌⊎◌, ◌+◌, ◌*◌, ◌^◌, ◌<◌, ◌≤◌, length};
 ghost use Rattle.std.specs.Arc.{arc_value};
 ghost use Rattle.ring_steps.specs.declared.views.SeatPhase.TheVariants as seating;
-ghost use Rattle.packet_ring.specs.Calls.{SeesOn};
+ghost use Rattle.packet_ring.specs.Calls.{SeesOn, head_of};
 ghost use Rattle.packet_ring.specs.Views.{IsSeated, Passing, passing_of};
 
 use crate::allocated::Block;
@@ -37,6 +37,7 @@ impl Pass {
         ensures ring { result.ring ≡ self.ring }
         ensures loads { result.loads ≡ self.loads + 1 }
         ensures sees { SeesOn self.seen self.closed result.seen result.closed }
+        ensures found { result.found ≡ head_of result.seen result.closed }
         ensures account { result.account ≡ record { start = length result.seen; taken = 0; lost = 0 } }
     {
         let Pass {

@@ -2,7 +2,7 @@
 ghost use Rattle.std.specs.Prelude.{◌≡◌, ◌⊎◌, ◌+◌, ◌*◌, ◌^◌, ◌<◌, ◌≤◌, length};
 ghost use Rattle.std.specs.Arc.{arc_value};
 ghost use Rattle.cursor.specs.Account.{cursor_of};
-ghost use Rattle.packet_ring.specs.Calls.{SeesOn, TakesNext};
+ghost use Rattle.packet_ring.specs.Calls.{SeesOn, TakesNext, head_of};
 ghost use Rattle.packet_ring.specs.Views.{IsSubscribed, Subscribing, packet_bytes_of, subscribing_of};
 
 use crate::allocated::Block;
@@ -40,6 +40,7 @@ impl Subscriber {
         ensures ring { result.0.ring ≡ self.ring }
         ensures loads { result.0.loads ≡ self.loads + 1 }
         ensures sees { SeesOn self.seen self.closed result.0.seen result.0.closed }
+        ensures found { result.0.found ≡ head_of result.0.seen result.0.closed }
         ensures account { (result.1.taken ≡ self.account.taken) × (result.1.lost ≡ self.account.lost) }
         ensures left { cursor_of self.account + result.1.left ≡ length result.0.seen }
     {

@@ -76,4 +76,5 @@ returns-clause-takes c = let old : Knows = c.args.token.now.me in let x : Seat =
     let other : found / 2 ≢ cursor x = λ e. c.if-count-next.false (e ∙ sym n) in let kept : found / 2 - keep ≤ cursor x = omega arith in let same : keep ≡ c.args.keep = omega arith in
     let count : later / 2 - keep - cursor x ≡ c.saturating_sub.result - c.args.next = omega arith in
     subst (λ (u : ℕ × ℕ). LostSome u.0 u.1 (later / 2) x old c.load_second-later.new.token.me) (λ i. (same i, count i))
-    (loses_later keep x old found first load (seat_found keep x old found first load other kept) z.limits.1 (c.args.next % (c.args.keep + 1) + 1) c.pin-word.result c.unpin_failed.result pinned c.unpin_failed.new.token.me step c.unpin_failed.ensures.step later c.load_second-later.new.token.me c.load_second-later.ensures.step)
+    (loses_later keep x old found first load (seat_found keep x old found first load other kept) z.limits.1 (c.args.next % (c.args.keep + 1) + 1) c.pin-word.result c.unpin_failed.result pinned c.unpin_failed.new.token.me step c.unpin_failed.ensures.step later c.load_second-later.new.token.me c.load_second-later.ensures.step
+    other kept (subst (λ (k : ℕ). HasSeen k old.seen) n c.requires.next.1))
