@@ -15,34 +15,35 @@ use Rattle.ring_steps.specs.Bits.{head_bits, word_bits, known_word}
 use Rattle.ring_steps.specs.Ring as Ring
 use Rattle.ring_steps.specs.Ring.{cursor, place, slot, word, with_publisher, with_slot, fresh_slot}
 use Rattle.ring_steps.specs.Slots.{Invariant, pin_of, pins_of}
-use Rattle.ring_steps.specs.Step.{is_known, next_place, begun, refused}
+use Rattle.ring_steps.specs.Step.{Outcome, PublisherActs, is_known, next_place, begun, refused}
 use Rattle.ring_steps.proofs.Places.{at_set, place_within}
 use Rattle.ring_steps.proofs.Begins.{begin_keeps, refused_step}
 use Rattle.ring_steps.proofs.Bits.{known_bits, begin_bits, pins_fit, words_apart}
 use Rattle.packet_ring.specs.Table.{State, Home, away, home, Right, no_right, Act, keeps, begins, homes_after, stepped, Goes, Allows}
 use Rattle.packet_ring.specs.Rule.{Limits, IsSized, IsPending, View, Knows, Holds, Fits, HomeFits, HasCells, hold_of, holders}
+use Rattle.packet_ring.specs.Operation.{Operation}
+use Rattle.ring_steps.specs.declared.calls.PublisherCall.TheVariants.{Publish}
+use Rattle.ring_steps.specs.declared.views.PublisherPhase.{PublisherPhase}
+use Rattle.ring_steps.specs.RingSteps.{by_publisher}
 use Rattle.packet_ring.specs.Steps.{Begins}
 use Rattle.packet_ring.proofs.Heads.{map_set, set_same, units_of, publisher_there}
 use Rattle.packet_ring.proofs.Pinned.{word_at, at_home, home_there, elem_within}
 
 -- a step by the publisher on the word of the slot at place j, which changes that slot and the publisher's view
 pub written_kept : {L : Limits} (s : Ring.State) (t : State View (List ℕ)) → Fits L s t → (j : ℕ) (p : Publisher) (b : Slot) (v : ℕ) (r : Right) (a : Act) → IsPending L.1 p.phase p.packet → Invariant (with_publisher (with_slot s j b) p) → v ≡ word_bits b.word
-    → ((k : ℕ) → k ≤ s.keep → HomeFits (with_publisher (with_slot s j b) p) k (get_or (homes_after t.homes r a) (suc k) away)) → Holds L (stepped t (suc j) v 0 r (inl (s.log, p)) a t.log)
-written_kept s t fits j p b v r a pending sound bits homes = (
-  with_publisher (with_slot s j b) p,
-  record {
-    sound = sound;
-    few = fits.few;
-    many = fits.many;
-    packets = fits.packets;
-    pending = pending;
-    short = fits.short;
-    words = ap (λ (ws : List ℕ). set ws (suc j) v) fits.words ∙ ap (λ (ws : List ℕ). head_bits s.head ∷ ws) (ap (set (map (λ (x : Slot). word_bits x.word) s.slots) j) bits ∙ map_set (λ (x : Slot). word_bits x.word) s.slots j b);
-    views = ap (λ (vs : List View). set vs 0 (inl (s.log, p))) fits.views;
-    log = fits.log;
-    homes = homes;
-  },
-)
+    → ((k : ℕ) → k ≤ s.keep → HomeFits (with_publisher (with_slot s j b) p) k (get_or (homes_after t.homes r a) (suc k) away)) → Fits L (with_publisher (with_slot s j b) p) (stepped t (suc j) v 0 r (inl (s.log, p)) a t.log)
+written_kept s t fits j p b v r a pending sound bits homes = record {
+  sound = sound;
+  few = fits.few;
+  many = fits.many;
+  packets = fits.packets;
+  pending = pending;
+  short = fits.short;
+  words = ap (λ (ws : List ℕ). set ws (suc j) v) fits.words ∙ ap (λ (ws : List ℕ). head_bits s.head ∷ ws) (ap (set (map (λ (x : Slot). word_bits x.word) s.slots) j) bits ∙ map_set (λ (x : Slot). word_bits x.word) s.slots j b);
+  views = ap (λ (vs : List View). set vs 0 (inl (s.log, p))) fits.views;
+  log = fits.log;
+  homes = homes;
+}
 
 -- who holds pins
 hold_pins : (φ : SeatPhase) (at j : ℕ) → hold_of φ at j ≤ pin_of φ at j
@@ -95,13 +96,28 @@ module _ {L : Limits} (s : Ring.State) (t : State View (List ℕ)) (fits : Fits 
   sound_by : (c : Bool) → is_known s w ≡ c → Invariant (if c then begun s q else refused s).state
   sound_by c is = subst (λ (d : Bool). Invariant (if d then begun s q else refused s).state) is (begin_keeps s q fits.sound within open_)
 
-  begin_goes : (c : Bool) → is_known s w ≡ c → Goes (Holds L) t 0 me (suc j) swap (Begins L.0 (suc j) s.log s.publisher q known me)
+  begin_step : (c : Bool) → is_known s w ≡ c → PublisherActs s.publisher.phase (Publish q) s (if c then begun s q else refused s)
+  begin_step c is = subst (λ (φ : PublisherPhase). PublisherActs φ (Publish q) s (if c then begun s q else refused s)) (sym within) (open_, sym (ap (λ (d : Bool). if d then begun s q else refused s) is))
+
+  begin_goes : (c : Bool) → is_known s w ≡ c → Goes (Holds L) (Operation L) t 0 me (suc j) swap (Begins L.0 (suc j) s.log s.publisher q known me)
   begin_goes false is =
       let p' : Publisher = record s.publisher { failed = s.publisher.failed + 1; pins = w.pins } in let both = known_bits s w few_pins in
       let not : get_or t.words (suc j) 0 ≢ known = λ e. let t = both.1 (sym found ∙ e) in absurd (cc) in
-      let kept : swap (get_or t.words (suc j) 0) ≡ get_or t.words (suc j) 0 = ap (λ (b : Bool). either b (known + 2 ^ 16) (get_or t.words (suc j) 0)) (ne_eqb (get_or t.words (suc j) 0) known not) in
+      let kept_word : swap (get_or t.words (suc j) 0) ≡ get_or t.words (suc j) 0 = ap (λ (b : Bool). either b (known + 2 ^ 16) (get_or t.words (suc j) 0)) (ne_eqb (get_or t.words (suc j) 0) known not) in
       let saw = refused_step publishing.Between q s (refused s) within (open_, sym (ap (λ (d : Bool). if d then begun s q else refused s) is)) refl fits.sound in
-      let sound : Invariant (with_publisher s p') = sound_by false is in (
+      let sound : Invariant (with_publisher s p') = sound_by false is in
+      let kept : Fits L (with_publisher s p') (stepped t (suc j) (swap (get_or t.words (suc j) 0)) 0 no_right (inl (s.log, p')) keeps t.log) = record {
+        sound = sound;
+        few = fits.few;
+        many = fits.many;
+        packets = fits.packets;
+        pending = fits.pending;
+        short = fits.short;
+        words = ap (set t.words (suc j)) kept_word ∙ set_same t.words (suc j) ∙ fits.words;
+        views = ap (λ (vs : List View). set vs 0 (inl (s.log, p'))) fits.views;
+        log = fits.log;
+        homes = λ k low. same_home s p' k (get_or t.homes (suc k) away) (fits.homes k low);
+      } in (
         inl (s.log, p'),
         keeps,
         t.log,
@@ -109,21 +125,8 @@ module _ {L : Limits} (s : Ring.State) (t : State View (List ℕ)) (fits : Fits 
         tt,
         prefix_refl t.log,
         prefix_refl t.log,
-        (
-          with_publisher s p',
-          record {
-            sound = sound;
-            few = fits.few;
-            many = fits.many;
-            packets = fits.packets;
-            pending = fits.pending;
-            short = fits.short;
-            words = ap (set t.words (suc j)) kept ∙ set_same t.words (suc j) ∙ fits.words;
-            views = ap (λ (vs : List View). set vs 0 (inl (s.log, p'))) fits.views;
-            log = fits.log;
-            homes = λ k low. same_home s p' k (get_or t.homes (suc k) away) (fits.homes k low);
-          },
-        ),
+        (with_publisher s p', kept),
+        record { old = s; new = with_publisher s p'; before = fits; after = kept; by = by_publisher (Publish q); own = tt; from = s; copied = inl refl; outcome = refused s; step = begin_step false is; atomic = refl; leads = refl },
         record { word = w; bits = found; begun = λ e. absurd (not e); refused = λ e. (refl, refl, saw.some, (let most = saw.within in let few = fits.few in omega arith), fits.many); grows = pre },
       )
   begin_goes true is =
@@ -138,7 +141,8 @@ module _ {L : Limits} (s : Ring.State) (t : State View (List ℕ)) (fits : Fits 
       let homes' : (k : ℕ) → k ≤ s.keep → HomeFits s' k (get_or (set t.homes (suc j) away) (suc k) away) = λ k small. elim (at_set t.homes (suc j) (suc k) away away (elem_within t.homes (suc j) (home 0 c) elem)) [
         | inl f ↦ let at : k ≡ j = let g = f.0 in omega arith in subst (HomeFits s' k) (sym f.1) (subst (λ (l : ℕ). HomeFits s' l away) (sym at) (ap (λ (u : Slot). u.word.writing) there))
         | inr f ↦ subst (HomeFits s' k) (sym f.1) (other_home s j b p' k (get_or t.homes (suc k) away) (get_or-set_other s.slots j k b fresh_slot (λ g. f.0 (ap suc g))) (fits.homes k small))
-      ] in (
+      ] in
+      let kept = written_kept s t fits j p' b (swap (get_or t.words (suc j) 0)) no_right (begins (suc j) c) fit sound (swapped ∙ sym bits) homes' in (
         inl (s.log, p'),
         begins (suc j) c,
         t.log,
@@ -146,18 +150,19 @@ module _ {L : Limits} (s : Ring.State) (t : State View (List ℕ)) (fits : Fits 
         elem,
         prefix_refl t.log,
         prefix_refl t.log,
-        written_kept s t fits j p' b (swap (get_or t.words (suc j) 0)) no_right (begins (suc j) c) fit sound (swapped ∙ sym bits) homes',
+        (s', kept),
+        record { old = s; new = s'; before = fits; after = kept; by = by_publisher (Publish q); own = tt; from = s; copied = inl refl; outcome = begun s q; step = begin_step true is; atomic = refl; leads = refl },
         record { word = w; bits = found; begun = λ f. (c, refl, refl); refused = λ f. absurd (f hit); grows = pre },
       )
 
 pub begin_allows : {L : Limits} (units keep : ℕ) → keep + 2 ≡ units → (log : List (List ℕ)) (p : Publisher) (q : List ℕ) (seen : List (List ℕ)) → p.phase ≡ publishing.Between → p.closed ≡ false → IsSized L.1 q
     → let me : Knows = record { view = inl (log, p); right = no_right; seen = seen } in let unit = suc (length log % (keep + 1)) in let known = 131072 * (length log - keep) in
-    Allows (Holds L) units 0 me unit (λ m. either (eqb m known) (known + 2 ^ 16) m) (Begins L.0 unit log p q known me)
+    Allows (Holds L) (Operation L) units 0 me unit (λ m. either (eqb m known) (known + 2 ^ 16) m) (Begins L.0 unit log p q known me)
 begin_allows {L = L} units keep size log p q seen within open_ fit t held long rooms at pre small =
     let s : Ring.State = held.0 in let fits : Fits L s t = held.1 in let many = units_of s t fits units long in let same : s.keep ≡ keep = omega arith in
     let e = publisher_there s t fits log p (record { view = inl (log, p); right = no_right; seen = seen }) refl at in
     let Out : ℕ → ℕ → List (List ℕ) → Publisher → Type 0 = λ k known l r. let m : Knows = record { view = inl (l, r); right = no_right; seen = seen } in let unit = suc (length l % (k + 1)) in
-    Goes (Holds L) t 0 m unit (λ n. either (eqb n known) (known + 2 ^ 16) n) (Begins L.0 unit l r q known m) in
+    Goes (Holds L) (Operation L) t 0 m unit (λ n. either (eqb n known) (known + 2 ^ 16) n) (Begins L.0 unit l r q known m) in
     let base = begin_goes s t fits q seen pre (ap (λ (r : Publisher). r.phase) e.1 ∙ within) (ap (λ (r : Publisher). r.closed) e.1 ∙ open_) fit (is_known s (word s (next_place s))) refl in
     let number : word_bits (known_word s) ≡ 131072 * (length log - keep) = let n : length s.log ≡ length log = ap length e.0 in omega arith in
     subst (λ (r : Publisher). Out keep (131072 * (length log - keep)) log r) e.1 (subst (λ (l : List (List ℕ)). Out keep (131072 * (length log - keep)) l s.publisher) e.0

@@ -1,5 +1,5 @@
 -- A finish of the running ring keeps the block's rule: by the core's law.
-use Rattle.std.proofs.Common.{◌≡◌, ◌≢◌, ℕ, zero, suc, ◌+◌, ◌-◌, ◌*◌, ◌%◌, ◌==◌, ◌≤◌, ◌<◌, ◌^◌, Bool, false, true, List, [], ◌∷◌, ◌++◌, length, get_or, set, sym, refl, ap, ◌∙◌, subst, arith, Some, get_or-set_same, get_or-set_other, inl, inr, if◌then◌else◌}
+use Rattle.std.proofs.Common.{◌≡◌, ◌≢◌, ℕ, zero, suc, ◌+◌, ◌-◌, ◌*◌, ◌%◌, ◌==◌, ◌≤◌, ◌<◌, ◌^◌, Bool, false, true, List, [], ◌∷◌, ◌++◌, length, get_or, set, sym, refl, ap, ◌∙◌, subst, arith, Some, get_or-set_same, get_or-set_other, le-ltb, inl, inr, if◌then◌else◌}
 use Rattle.std.specs.Prelude.{slice_get}
 use mathlib.Core.Logic.{inl, inr}
 use mathlib.Core.Option as maybe
@@ -20,13 +20,16 @@ use Rattle.ring_steps.specs.Moves.{slot_of, write_all}
 use Rattle.ring_steps.specs.Ring as Ring
 use Rattle.ring_steps.specs.Ring.{cursor, place, slot, word, floor, with_publisher, with_slot, fresh_slot}
 use Rattle.ring_steps.specs.Slots.{Invariant, IsHolding, Writes}
-use Rattle.ring_steps.specs.Step.{next_place, finish}
+use Rattle.ring_steps.specs.Step.{next_place, finish, write_byte}
 use Rattle.ring_steps.proofs.Places.{at_set, place_within}
 use Rattle.ring_steps.proofs.Moves.{write_all_keeps}
 use Rattle.ring_steps.proofs.Writing.{finish_keeps}
 use Rattle.ring_steps.proofs.Bits.{finish_bits, word_fits}
 use Rattle.packet_ring.specs.Table.{State, Home, away, home, may_end, finishes, Goes, Allows}
 use Rattle.packet_ring.specs.Rule.{Limits, IsPending, View, Knows, Holds, Fits, HomeFits, HasCells, hold_of, holders}
+use Rattle.packet_ring.specs.Operation.{Operation}
+use Rattle.ring_steps.specs.declared.calls.PublisherCall.TheVariants.{Publish}
+use Rattle.ring_steps.specs.RingSteps.{by_publisher}
 use Rattle.packet_ring.specs.Steps.{Finishes, HasPacket}
 use Rattle.packet_ring.proofs.Heads.{units_of, publisher_there}
 use Rattle.packet_ring.proofs.Pinned.{word_at, set_twice}
@@ -133,14 +136,15 @@ module _ {L : Limits} (s : Ring.State) (t : State View (List ℕ)) (fits : Fits 
   idle : 0 ≡ holders s.keep s.seats j
   idle = none_hold s.keep s.seats j (λ i x at. hold_else x.phase (cursor x % (s.keep + 1)) j (λ h e. let n = fits.sound.slots.held i x at h in let f : (word s j).writing ≡ false = subst (λ (l : ℕ). (word s l).writing ≡ false) e n.1 in let w : (word s j).writing ≡ true = writes in absurd (cc)))
 
-  pub finish_goes : Goes (Holds L) t 0 me (suc j) (λ m. (m + k) % 2 ^ 64) (Finishes s.log s.publisher me)
+  pub finish_goes : Goes (Holds L) (Operation L) t 0 me (suc j) (λ m. (m + k) % 2 ^ 64) (Finishes s.log s.publisher me)
   finish_goes =
       let elem = away_there t.homes (suc j) (let n = near in omega arith) (is_away s j (get_or t.homes (suc j) away) (fits.homes j near) writes) in
       let now : HomeFits s' j (home 0 c) = (ap (λ (x : Slot). x.word.writing) there, idle, subst (HasCells c) (sym there) (sym has.size, take_front q (drop (length q) (slot s j).bytes) ∙ sym has.bytes)) in
       let homes' : (l : ℕ) → l ≤ s.keep → HomeFits s' l (get_or (set t.homes (suc j) (home 0 c)) (suc l) away) = λ l low. elim (at_set t.homes (suc j) (suc l) (home 0 c) away (let n = near in omega arith)) [
         | inl f ↦ let at : l ≡ j = let g = f.0 in omega arith in subst (HomeFits s' l) (sym f.1) (subst (λ (m : ℕ). HomeFits s' m (home 0 c)) (sym at) now)
         | inr f ↦ subst (HomeFits s' l) (sym f.1) (other_home s j (done_ full) p' l (get_or t.homes (suc l) away) (get_or-set_other s.slots j l (done_ full) fresh_slot (λ g. f.0 (ap suc g))) (fits.homes l low))
-      ] in (
+      ] in
+      let kept = written_kept s t fits j p' (done_ full) ((get_or t.words (suc j) 0 + k) % 2 ^ 64) (may_end (suc j) c) finishes (subst (λ (φ : PublisherPhase). IsPending L.1 φ q) within fits.pending) sound bits homes' in (
         inl (s.log, p'),
         finishes,
         t.log,
@@ -148,18 +152,32 @@ module _ {L : Limits} (s : Ring.State) (t : State View (List ℕ)) (fits : Fits 
         elem,
         prefix_refl t.log,
         prefix_refl t.log,
-        written_kept s t fits j p' (done_ full) ((get_or t.words (suc j) 0 + k) % 2 ^ 64) (may_end (suc j) c) finishes (subst (λ (φ : PublisherPhase). IsPending L.1 φ q) within fits.pending) sound bits homes',
+        (s', kept),
+        record {
+          old = s;
+          new = s';
+          before = fits;
+          after = kept;
+          by = by_publisher (Publish q);
+          own = tt;
+          from = s₁;
+          copied = inr (record { sound = fits.sound; within = within }, refl);
+          outcome = finish s₁;
+          step = (refl, sym (ap (λ (d : Bool). if d then write_byte s₁ else finish s₁) (le-ltb (length q) (length q) (omega arith))));
+          atomic = refl;
+          leads = arrives;
+        },
         record { view = refl; right = refl; grows = pre },
       )
 
 pub finish_allows : {L : Limits} (units keep : ℕ) → keep + 2 ≡ units → (log : List (List ℕ)) (p : Publisher) (c : List ℕ) (seen : List (List ℕ)) (k : ℕ) → p.phase ≡ publishing.Begun → HasPacket c p.packet
     → k ≡ 131072 * (length log + 1 - (length log - keep)) - 65536
-    → let unit = suc (length log % (keep + 1)) in let me : Knows = record { view = inl (log, p); right = may_end unit c; seen = seen } in Allows (Holds L) units 0 me unit (λ m. (m + k) % 2 ^ 64) (Finishes log p me)
+    → let unit = suc (length log % (keep + 1)) in let me : Knows = record { view = inl (log, p); right = may_end unit c; seen = seen } in Allows (Holds L) (Operation L) units 0 me unit (λ m. (m + k) % 2 ^ 64) (Finishes log p me)
 finish_allows {L = L} units keep size log p c seen k within has adds t held long rooms at pre small =
     let s : Ring.State = held.0 in let fits : Fits L s t = held.1 in let many = units_of s t fits units long in let same : s.keep ≡ keep = omega arith in
     let e = publisher_there s t fits log p (record { view = inl (log, p); right = may_end (suc (length log % (keep + 1))) c; seen = seen }) refl at in
     let Out : ℕ → List (List ℕ) → Publisher → Type 0 = λ m l r. let unit = suc (length l % (m + 1)) in let me : Knows = record { view = inl (l, r); right = may_end unit c; seen = seen } in
-    Goes (Holds L) t 0 me unit (λ n. (n + k) % 2 ^ 64) (Finishes l r me) in
+    Goes (Holds L) (Operation L) t 0 me unit (λ n. (n + k) % 2 ^ 64) (Finishes l r me) in
     let base = finish_goes s t fits (rooms ∙ sym many) c seen pre (ap (λ (r : Publisher). r.phase) e.1 ∙ within) (subst (λ (r : Publisher). HasPacket c r.packet) (sym e.1) has) k
     (let n : length s.log ≡ length log = ap length e.0 in omega arith) in
     subst (λ (r : Publisher). Out keep log r) e.1 (subst (λ (l : List (List ℕ)). Out keep l s.publisher) e.0 (subst (λ (m : ℕ). Out m s.log s.publisher) same base))

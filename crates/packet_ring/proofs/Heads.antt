@@ -18,15 +18,18 @@ use Rattle.ring_steps.specs.declared.words.Slot.{Slot}
 use Rattle.ring_steps.specs.Ring as Ring
 use Rattle.ring_steps.specs.Ring.{cursor, with_seat}
 use Rattle.ring_steps.specs.Slots.{Invariant, SeatKnows}
-use Rattle.ring_steps.specs.Step.{append, close, end_take, lose, find_packet, Outcome}
-use Rattle.ring_steps.specs.declared.calls.Observed.TheVariants as saw
-use Rattle.ring_steps.specs.RingSteps.{IsIdle, by_look}
-use Rattle.ring_steps.proofs.Stepping.{ring_step_keeps}
+use Rattle.ring_steps.specs.Step.{append, attach, close, detach, end_take, find_packet, first_load, lose, second_load, Outcome, PublisherActs, SeatActs, SeatStep}
+use Rattle.ring_steps.specs.Atomic.{is_atomic}
+use Rattle.ring_steps.specs.declared.calls.PublisherCall.TheVariants.{Publish, Close}
+use Rattle.ring_steps.specs.declared.calls.SeatCall.{SeatCall}
+use Rattle.ring_steps.specs.declared.calls.SeatCall.TheVariants.{Attach, Detach, Take}
+use Rattle.ring_steps.specs.RingSteps.{by_publisher, by_seat}
 use Rattle.ring_steps.proofs.Loads.{attach_keeps, detach_keeps, first_load_keeps, second_load_keeps}
 use Rattle.ring_steps.proofs.Writing.{append_keeps}
 use Rattle.ring_steps.proofs.Writing.{close_keeps}
 use Rattle.packet_ring.specs.Table.{State, Home, away, home, Right, keeps, stepped, Allows}
 use Rattle.packet_ring.specs.Rule.{Limits, IsSized, IsPending, View, Knows, Holds, Fits, with_end, HomeFits, hold_of, holders, words_of, publisher_view, seat_view}
+use Rattle.packet_ring.specs.Operation.{Operation, StepsFrom}
 use Rattle.packet_ring.specs.Steps.{looked, attached, detached, lost_to, first_seen, second_seen, Loads, Appends, Closes}
 
 -- ---- lists
@@ -74,37 +77,45 @@ homes_kept s i x y at same j (home m c) fit = (fit.0, fit.1 ∙ same_holders s.k
 -- a step that leaves the words and the slots, and changes this seat's view, in which it holds no more and no less than before
 seat_kept : {L : Limits} (s : Ring.State) (t : State View (List ℕ)) → Fits L s t → (i : ℕ) (x y : Seat) (r : Right) → slice_get s.seats i ≡ Some x → Invariant (with_seat s i y)
     → ((j : ℕ) → hold_of x.phase (cursor x % (s.keep + 1)) j ≡ hold_of y.phase (cursor y % (s.keep + 1)) j)
-    → Holds L (stepped t 0 (get_or t.words 0 0) (suc i) r (inr y) keeps t.log)
-seat_kept s t fits i x y r at sound same = (
-  with_seat s i y,
-  record {
-    sound = sound;
-    few = length-set s.seats i y ∙ fits.few;
-    many = fits.many;
-    packets = fits.packets;
-    pending = fits.pending;
-    short = fits.short;
-    words = set_same t.words 0 ∙ fits.words;
-    views = ap (λ (vs : List View). set vs (suc i) (inr y)) fits.views ∙ ap (λ (vs : List View). publisher_view s ∷ vs) (map_set seat_view s.seats i y);
-    log = fits.log;
-    homes = λ j near. homes_kept s i x y at same j (get_or t.homes (suc j) away) (fits.homes j near);
-  },
-)
+    → Fits L (with_seat s i y) (stepped t 0 (get_or t.words 0 0) (suc i) r (inr y) keeps t.log)
+seat_kept s t fits i x y r at sound same = record {
+  sound = sound;
+  few = length-set s.seats i y ∙ fits.few;
+  many = fits.many;
+  packets = fits.packets;
+  pending = fits.pending;
+  short = fits.short;
+  words = set_same t.words 0 ∙ fits.words;
+  views = ap (λ (vs : List View). set vs (suc i) (inr y)) fits.views ∙ ap (λ (vs : List View). publisher_view s ∷ vs) (map_set seat_view s.seats i y);
+  log = fits.log;
+  homes = λ j near. homes_kept s i x y at same j (get_or t.homes (suc j) away) (fits.homes j near);
+}
 
 -- a block of a ring that keeps K packets has K + 2 units
 pub units_of : {L : Limits} (s : Ring.State) (t : State View (List ℕ)) → Fits L s t → (units : ℕ) → length t.words ≡ units → s.keep + 2 ≡ units
 units_of s t fits units long = let n : length (words_of s) ≡ units = ap length (sym fits.words) ∙ long in let m : length (map (λ (x : Slot). word_bits x.word) s.slots) ≡ length s.slots = length-map s.slots (λ x. word_bits x.word) in
     let w : length s.slots ≡ s.keep + 1 = fits.sound.phases.width in omega arith
 
+-- a load of the head by a seat, as one step of the core
+pub record LoadsBy (s : Ring.State) (i : ℕ) (t : Ring.State) : Type 0 where
+  pub call : SeatCall
+  pub from : StepsFrom s (by_seat i call) s
+  pub outcome : Outcome
+  pub step : SeatStep s i call outcome
+  pub atomic : is_atomic outcome.saw ≡ true
+  pub leads : outcome.state ≡ t
+
 module _ (phase : SeatPhase) (f : Head → Seat → Seat) (units : ℕ) (idle : (at j : ℕ) → 0 ≡ hold_of phase at j) (then_idle : (h : Head) (x : Seat) → x.phase ≡ phase → (at j : ℕ) → 0 ≡ hold_of (f h x).phase at j)
-    (law : (s : Ring.State) (i : ℕ) (x : Seat) → s.keep + 2 ≡ units → Invariant s → slice_get s.seats i ≡ Some x → x.phase ≡ phase → Invariant (with_seat s i (f s.head x))) where
+    (law : (s : Ring.State) (i : ℕ) (x : Seat) → s.keep + 2 ≡ units → Invariant s → slice_get s.seats i ≡ Some x → x.phase ≡ phase → Invariant (with_seat s i (f s.head x)))
+    (does : (s : Ring.State) (i : ℕ) (x : Seat) → s.keep + 2 ≡ units → slice_get s.seats i ≡ Some x → x.phase ≡ phase → LoadsBy s i (with_seat s i (f s.head x))) where
   -- a load of the head by a seat, where the core's law says that its new view keeps the invariant
-  pub loads_allow : {L : Limits} (i : ℕ) (x : Seat) (me : Knows) → me.view ≡ inr x → x.phase ≡ phase → Allows (Holds L) units (suc i) me 0 (λ n. n) (Loads (units - 2) f x me)
+  pub loads_allow : {L : Limits} (i : ℕ) (x : Seat) (me : Knows) → me.view ≡ inr x → x.phase ≡ phase → Allows (Holds L) (Operation L) units (suc i) me 0 (λ n. n) (Loads (units - 2) f x me)
   loads_allow {L = L} i x me is within t held long rooms at pre small =
       let s : Ring.State = held.0 in let fits : Fits L s t = held.1 in let y : Seat = f s.head x in
       let there = seat_there s.seats i x (ap (λ (vs : List View). get_elem? vs (suc i)) (sym fits.views) ∙ at ∙ ap (λ (v : View). maybe.some v) is) in
       let same : (j : ℕ) → hold_of x.phase (cursor x % (s.keep + 1)) j ≡ hold_of y.phase (cursor y % (s.keep + 1)) j = λ j.
-      sym (subst (λ (φ : SeatPhase). 0 ≡ hold_of φ (cursor x % (s.keep + 1)) j) (sym within) (idle (cursor x % (s.keep + 1)) j)) ∙ then_idle s.head x within (cursor y % (s.keep + 1)) j in (
+      sym (subst (λ (φ : SeatPhase). 0 ≡ hold_of φ (cursor x % (s.keep + 1)) j) (sym within) (idle (cursor x % (s.keep + 1)) j)) ∙ then_idle s.head x within (cursor y % (s.keep + 1)) j in
+      let many = units_of s t fits units long in let kept = seat_kept s t fits i x y me.right there (law s i x many fits.sound there within) same in let by : LoadsBy s i (with_seat s i y) = does s i x many there within in (
         inr y,
         keeps,
         t.log,
@@ -112,7 +123,8 @@ module _ (phase : SeatPhase) (f : Head → Seat → Seat) (units : ℕ) (idle : 
         tt,
         prefix_refl t.log,
         prefix_refl t.log,
-        seat_kept s t fits i x y me.right there (law s i x (units_of s t fits units long) fits.sound there within) same,
+        (with_seat s i y, kept),
+        record { old = s; new = with_seat s i y; before = fits; after = kept; by = by_seat i by.call; own = refl; from = s; copied = by.from; outcome = by.outcome; step = by.step; atomic = by.atomic; leads = by.leads },
         record {
           head = s.head;
           bits = ap (λ (ws : List ℕ). get_or ws 0 0) fits.words;
@@ -129,11 +141,13 @@ module _ (phase : SeatPhase) (f : Head → Seat → Seat) (units : ℕ) (idle : 
       )
 
 -- an attachment and a detachment
-pub attaches : {L : Limits} (units i : ℕ) (x : Seat) (me : Knows) → me.view ≡ inr x → x.phase ≡ seating.Out → Allows (Holds L) units (suc i) me 0 (λ n. n) (Loads (units - 2) attached x me)
+pub attaches : {L : Limits} (units i : ℕ) (x : Seat) (me : Knows) → me.view ≡ inr x → x.phase ≡ seating.Out → Allows (Holds L) (Operation L) units (suc i) me 0 (λ n. n) (Loads (units - 2) attached x me)
 attaches units = loads_allow seating.Out attached units (λ at j. refl) (λ h x w at j. refl) (λ s i x k sound there within. attach_keeps s i x sound there within)
+    (λ s i x k there within. record { call = Attach; from = refl; outcome = attach s i x; step = record { view = x; there = there; acts = subst (λ (φ : SeatPhase). SeatActs φ Attach s i x (attach s i x)) (sym within) refl }; atomic = refl; leads = refl })
 
-pub detaches : {L : Limits} (units i : ℕ) (x : Seat) (me : Knows) → me.view ≡ inr x → x.phase ≡ seating.Between → Allows (Holds L) units (suc i) me 0 (λ n. n) (Loads (units - 2) detached x me)
+pub detaches : {L : Limits} (units i : ℕ) (x : Seat) (me : Knows) → me.view ≡ inr x → x.phase ≡ seating.Between → Allows (Holds L) (Operation L) units (suc i) me 0 (λ n. n) (Loads (units - 2) detached x me)
 detaches units = loads_allow seating.Between detached units (λ at j. refl) (λ h x w at j. refl) (λ s i x k sound there within. detach_keeps s i x sound there within)
+    (λ s i x k there within. record { call = Detach; from = refl; outcome = detach s i x; step = record { view = x; there = there; acts = subst (λ (φ : SeatPhase). SeatActs φ Detach s i x (detach s i x)) (sym within) refl }; atomic = refl; leads = refl })
 
 -- ---- the publisher
 pub publisher_there : {L : Limits} (s : Ring.State) (t : State View (List ℕ)) → Fits L s t → (log : List (List ℕ)) (p : Publisher) (me : Knows) → me.view ≡ inl (log, p) → get_elem? t.views 0 ≡ maybe.some me.view → (s.log ≡ log) × (s.publisher ≡ p)
@@ -153,22 +167,19 @@ is_finished e = absurd (cc)
 
 -- a step that stores the head, and changes the publisher's view and the log, and leaves the slots and the seats
 publisher_kept : {L : Limits} (s : Ring.State) (t : State View (List ℕ)) → Fits L s t → (head : Head) (log told : List (List ℕ)) (p : Publisher) (new : ℕ) (w : View) (r : Right) → told ≡ with_end head.closed log → Invariant (record s { head = head; log = log; publisher = p })
-    → length log ≤ 2 ^ 46 → ((n : ℕ) → n < length log → IsSized L.1 (get_or log n [])) → IsPending L.1 p.phase p.packet → new ≡ head_bits head → w ≡ inl (log, p) → Holds L (stepped t 0 new 0 r w keeps told)
-publisher_kept s t fits head log told p new w r all sound short packets pending bits is = (
-  record s { head = head; log = log; publisher = p },
-  record {
-    sound = sound;
-    few = fits.few;
-    many = fits.many;
-    packets = packets;
-    pending = pending;
-    short = short;
-    words = ap (λ (ws : List ℕ). set ws 0 new) fits.words ∙ ap (λ (n : ℕ). n ∷ map (λ (x : Slot). word_bits x.word) s.slots) bits;
-    views = ap (λ (vs : List View). set vs 0 w) fits.views ∙ ap (λ (v : View). v ∷ map seat_view s.seats) is;
-    log = all;
-    homes = λ j near. homes_same s head log p j (get_or t.homes (suc j) away) (fits.homes j near);
-  },
-)
+    → length log ≤ 2 ^ 46 → ((n : ℕ) → n < length log → IsSized L.1 (get_or log n [])) → IsPending L.1 p.phase p.packet → new ≡ head_bits head → w ≡ inl (log, p) → Fits L (record s { head = head; log = log; publisher = p }) (stepped t 0 new 0 r w keeps told)
+publisher_kept s t fits head log told p new w r all sound short packets pending bits is = record {
+  sound = sound;
+  few = fits.few;
+  many = fits.many;
+  packets = packets;
+  pending = pending;
+  short = short;
+  words = ap (λ (ws : List ℕ). set ws 0 new) fits.words ∙ ap (λ (n : ℕ). n ∷ map (λ (x : Slot). word_bits x.word) s.slots) bits;
+  views = ap (λ (vs : List View). set vs 0 w) fits.views ∙ ap (λ (v : View). v ∷ map seat_view s.seats) is;
+  log = all;
+  homes = λ j near. homes_same s head log p j (get_or t.homes (suc j) away) (fits.homes j near);
+}
 
 -- with this packet more each packet of the log is sized
 more_sized : (most : ℕ) (log : List (List ℕ)) (p : List ℕ) → ((n : ℕ) → n < length log → IsSized most (get_or log n [])) → IsSized most p → (n : ℕ) → n < length (log ++ p ∷ []) → IsSized most (get_or (log ++ p ∷ []) n [])
@@ -179,12 +190,14 @@ more_sized most (q ∷ log) p h last (suc n) l = more_sized most log p (λ k m. 
 
 -- an append
 pub appends : {L : Limits} (units : ℕ) (log : List (List ℕ)) (p : Publisher) (me : Knows) (new : ℕ) → me.view ≡ inl (log, p) → p.phase ≡ publishing.Finished → length log < 2 ^ 46 → new ≡ 2 * (length log + 1)
-    → Allows (Holds L) units 0 me 0 (λ _. new) (λ _. Appends log p me new)
+    → Allows (Holds L) (Operation L) units 0 me 0 (λ _. new) (λ _. Appends log p me new)
 appends {L = L} units log p me new is within short stored t held long rooms at pre small =
     let s : Ring.State = held.0 in let fits : Fits L s t = held.1 in let e = publisher_there s t fits log p me is at in let more : List (List ℕ) = s.log ++ s.publisher.packet ∷ [] in
     let n : length s.log ≡ length log = ap length e.0 in let longer : length more ≡ length s.log + 1 = length-append s.log (s.publisher.packet ∷ []) in let all : t.log ≡ s.log = fits.log ∙ ap (λ (b : Bool). with_end b s.log) (fits.sound.slots.numbers.closed ∙ unclosed s.publisher.closed (λ was. is_finished (sym (fits.sound.phases.ended was) ∙ ap (λ (q : Publisher). q.phase) e.1 ∙ within))) in
     let same : log ++ p.packet ∷ [] ≡ more = ap (λ (u : List (List ℕ) × Publisher). u.0 ++ u.1.packet ∷ []) {x = (log, p)} {y = (s.log, s.publisher)} (λ i. (sym e.0 i, sym e.1 i)) in
-    let w : View = inl (log ++ p.packet ∷ [], record p { phase = publishing.Between; packet = [] }) in (
+    let w : View = inl (log ++ p.packet ∷ [], record p { phase = publishing.Between; packet = [] }) in let finished = ap (λ (q : Publisher). q.phase) e.1 ∙ within in
+    let kept = publisher_kept s t fits (append s).state.head more more (append s).state.publisher new w me.right refl (append_keeps s fits.sound finished) (omega arith) (more_sized L.1 s.log s.publisher.packet fits.packets (subst (λ (φ : PublisherPhase). IsPending L.1 φ s.publisher.packet) finished fits.pending)) tt (stored ∙ (let r : 2 * (length log + 1) ≡ 0 + 2 * (length s.log + 1) = omega arith in r))
+    (λ i. inl (same i, record (sym e.1 i) { phase = publishing.Between; packet = [] })) in (
       w,
       keeps,
       more,
@@ -192,18 +205,33 @@ appends {L = L} units log p me new is within short stored t held long rooms at p
       tt,
       (s.publisher.packet ∷ [], ap (λ (l : List (List ℕ)). l ++ s.publisher.packet ∷ []) all),
       prefix_refl more,
-      publisher_kept s t fits (append s).state.head more more (append s).state.publisher new w me.right refl (append_keeps s fits.sound (ap (λ (q : Publisher). q.phase) e.1 ∙ within)) (omega arith) (more_sized L.1 s.log s.publisher.packet fits.packets (subst (λ (φ : PublisherPhase). IsPending L.1 φ s.publisher.packet) (ap (λ (q : Publisher). q.phase) e.1 ∙ within) fits.pending)) tt (stored ∙ (let r : 2 * (length log + 1) ≡ 0 + 2 * (length s.log + 1) = omega arith in r))
-          (λ i. inl (same i, record (sym e.1 i) { phase = publishing.Between; packet = [] })),
+      ((append s).state, kept),
+      record {
+        old = s;
+        new = (append s).state;
+        before = fits;
+        after = kept;
+        by = by_publisher (Publish s.publisher.packet);
+        own = tt;
+        from = s;
+        copied = inl refl;
+        outcome = append s;
+        step = subst (λ (φ : PublisherPhase). PublisherActs φ (Publish s.publisher.packet) s (append s)) (sym finished) (refl, refl);
+        atomic = refl;
+        leads = refl;
+      },
       record { view = refl; right = refl; seen = sym same },
     )
 
 -- a close
 pub closes : {L : Limits} (units : ℕ) (log : List (List ℕ)) (p : Publisher) (me : Knows) (new : ℕ) → me.view ≡ inl (log, p) → p.phase ≡ publishing.Between → p.closed ≡ false → new ≡ 2 * length log + 1
-    → Allows (Holds L) units 0 me 0 (λ _. new) (λ _. Closes log p me new)
+    → Allows (Holds L) (Operation L) units 0 me 0 (λ _. new) (λ _. Closes log p me new)
 closes {L = L} units log p me new is within unended stored t held long rooms at pre small =
     let s : Ring.State = held.0 in let fits : Fits L s t = held.1 in let e = publisher_there s t fits log p me is at in let n : length s.log ≡ length log = ap length e.0 in
     let all : t.log ≡ s.log = fits.log ∙ ap (λ (b : Bool). with_end b s.log) (fits.sound.slots.numbers.closed ∙ ap (λ (q : Publisher). q.closed) e.1 ∙ unended) in
-    let w : View = inl (log, record p { closed = true }) in (
+    let w : View = inl (log, record p { closed = true }) in let between = ap (λ (q : Publisher). q.phase) e.1 ∙ within in
+    let kept = publisher_kept s t fits (close s).state.head s.log (s.log ++ [] ∷ []) (close s).state.publisher new w me.right refl (close_keeps s fits.sound between) fits.short fits.packets fits.pending (stored ∙ (let r : 2 * length log + 1 ≡ 1 + 2 * length s.log = omega arith in r))
+    (λ i. inl (sym e.0 i, record (sym e.1 i) { closed = true })) in (
       w,
       keeps,
       s.log ++ [] ∷ [],
@@ -211,12 +239,25 @@ closes {L = L} units log p me new is within unended stored t held long rooms at 
       tt,
       ([] ∷ [], ap (λ (l : List (List ℕ)). l ++ [] ∷ []) all),
       prefix_refl (s.log ++ [] ∷ []),
-      publisher_kept s t fits (close s).state.head s.log (s.log ++ [] ∷ []) (close s).state.publisher new w me.right refl (close_keeps s fits.sound (ap (λ (q : Publisher). q.phase) e.1 ∙ within)) fits.short fits.packets fits.pending (stored ∙ (let r : 2 * length log + 1 ≡ 1 + 2 * length s.log = omega arith in r))
-          (λ i. inl (sym e.0 i, record (sym e.1 i) { closed = true })),
+      ((close s).state, kept),
+      record {
+        old = s;
+        new = (close s).state;
+        before = fits;
+        after = kept;
+        by = by_publisher Close;
+        own = tt;
+        from = s;
+        copied = refl;
+        outcome = close s;
+        step = subst (λ (φ : PublisherPhase). PublisherActs φ Close s (close s)) (sym between) (ap (λ (q : Publisher). q.closed) e.1 ∙ unended, refl);
+        atomic = refl;
+        leads = refl;
+      },
       record { view = refl; right = refl; seen = ap (λ (l : List (List ℕ)). l ++ [] ∷ []) e.0 },
     )
 
--- ---- a take's two loads, and a load outside the calls
+-- ---- a take's two loads
 module _ (keep units : ℕ) (size : keep + 2 ≡ units) where
   abbrev by_tests : Bool → Bool → Head → Seat → Seat
   by_tests a b h x = if a then looked h x else (if b then lost_to h x (h.length - keep - cursor x) else record (looked h x) { phase = seating.Found })
@@ -232,26 +273,43 @@ module _ (keep units : ℕ) (size : keep + 2 ≡ units) where
   first_idle h x false true w at j = refl
   first_idle h x false false w at j = refl
 
-  first_keeps : (s : Ring.State) (i : ℕ) (x : Seat) → s.keep + 2 ≡ units → Invariant s → slice_get s.seats i ≡ Some x → x.phase ≡ seating.Between → Invariant (with_seat s i (first_seen keep s.head x))
-  first_keeps s i x k sound there within = let e : s.keep ≡ keep = omega arith in
-      subst Invariant (first_state s i x (s.head.length == cursor x) (nat_lt (cursor x) (s.head.length - s.keep)) e ∙ ap (λ (m : ℕ). with_seat s i (by_tests (s.head.length == cursor x) (nat_lt (cursor x) (s.head.length - m)) s.head x)) e)
-      (first_load_keeps s i x sound there within)
+  first_leads : (s : Ring.State) (i : ℕ) (x : Seat) → s.keep + 2 ≡ units → (first_load s i x).state ≡ with_seat s i (first_seen keep s.head x)
+  first_leads s i x k = let e : s.keep ≡ keep = omega arith in
+      first_state s i x (s.head.length == cursor x) (nat_lt (cursor x) (s.head.length - s.keep)) e ∙ ap (λ (m : ℕ). with_seat s i (by_tests (s.head.length == cursor x) (nat_lt (cursor x) (s.head.length - m)) s.head x)) e
 
-  pub first_loads : {L : Limits} (i : ℕ) (x : Seat) (me : Knows) → me.view ≡ inr x → x.phase ≡ seating.Between → Allows (Holds L) units (suc i) me 0 (λ n. n) (Loads (units - 2) (first_seen keep) x me)
-  first_loads = loads_allow seating.Between (first_seen keep) units (λ at j. refl) (λ h x w at j. first_idle h x (h.length == cursor x) (nat_lt (cursor x) (h.length - keep)) w at j) first_keeps
+  first_atomic : (s : Ring.State) (i : ℕ) (x : Seat) (a b : Bool) → is_atomic (if a then end_take s i x else (if b then lose s i x (s.head.length - s.keep - cursor x) else find_packet s i x)).saw ≡ true
+  first_atomic s i x true b = refl
+  first_atomic s i x false true = refl
+  first_atomic s i x false false = refl
+
+  first_does : (s : Ring.State) (i : ℕ) (x : Seat) → s.keep + 2 ≡ units → slice_get s.seats i ≡ Some x → x.phase ≡ seating.Between → LoadsBy s i (with_seat s i (first_seen keep s.head x))
+  first_does s i x k there within = record {
+    call = Take;
+    from = inl refl;
+    outcome = first_load s i x;
+    step = record { view = x; there = there; acts = subst (λ (φ : SeatPhase). SeatActs φ Take s i x (first_load s i x)) (sym within) refl };
+    atomic = first_atomic s i x (s.head.length == cursor x) (nat_lt (cursor x) (s.head.length - s.keep));
+    leads = first_leads s i x k;
+  }
+
+  first_keeps : (s : Ring.State) (i : ℕ) (x : Seat) → s.keep + 2 ≡ units → Invariant s → slice_get s.seats i ≡ Some x → x.phase ≡ seating.Between → Invariant (with_seat s i (first_seen keep s.head x))
+  first_keeps s i x k sound there within = subst Invariant (first_leads s i x k) (first_load_keeps s i x sound there within)
+
+  pub first_loads : {L : Limits} (i : ℕ) (x : Seat) (me : Knows) → me.view ≡ inr x → x.phase ≡ seating.Between → Allows (Holds L) (Operation L) units (suc i) me 0 (λ n. n) (Loads (units - 2) (first_seen keep) x me)
+  first_loads = loads_allow seating.Between (first_seen keep) units (λ at j. refl) (λ h x w at j. first_idle h x (h.length == cursor x) (nat_lt (cursor x) (h.length - keep)) w at j) first_keeps first_does
 
   second_keeps : (s : Ring.State) (i : ℕ) (x : Seat) → s.keep + 2 ≡ units → Invariant s → slice_get s.seats i ≡ Some x → x.phase ≡ seating.Missed → Invariant (with_seat s i (second_seen keep s.head x))
   second_keeps s i x k sound there within = let e : s.keep ≡ keep = omega arith in subst (λ (m : ℕ). Invariant (with_seat s i (second_seen m s.head x))) e (second_load_keeps s i x sound there within)
 
-  pub second_loads : {L : Limits} (i : ℕ) (x : Seat) (me : Knows) → me.view ≡ inr x → x.phase ≡ seating.Missed → Allows (Holds L) units (suc i) me 0 (λ n. n) (Loads (units - 2) (second_seen keep) x me)
-  second_loads = loads_allow seating.Missed (second_seen keep) units (λ at j. refl) (λ h x w at j. refl) second_keeps
+  second_does : (s : Ring.State) (i : ℕ) (x : Seat) → s.keep + 2 ≡ units → slice_get s.seats i ≡ Some x → x.phase ≡ seating.Missed → LoadsBy s i (with_seat s i (second_seen keep s.head x))
+  second_does s i x k there within = let e : s.keep ≡ keep = omega arith in record {
+    call = Take;
+    from = inl refl;
+    outcome = second_load s i x;
+    step = record { view = x; there = there; acts = subst (λ (φ : SeatPhase). SeatActs φ Take s i x (second_load s i x)) (sym within) refl };
+    atomic = refl;
+    leads = ap (λ (m : ℕ). with_seat s i (second_seen m s.head x)) e;
+  }
 
-look_keeps : (s : Ring.State) (i : ℕ) (x : Seat) (φ : SeatPhase) → IsIdle φ → Invariant s → slice_get s.seats i ≡ Some x → x.phase ≡ φ → Invariant (with_seat s i (looked s.head x))
-look_keeps s i x φ idle sound there within = let o : Outcome = record { state = with_seat s i (looked s.head x); saw = saw.Load s.head; answer = None } in
-    ring_step_keeps s (by_look i) o (record { view = x; there = there; idle = subst IsIdle (sym within) idle; acts = refl }) sound
-
-pub looks_out : {L : Limits} (units i : ℕ) (x : Seat) (me : Knows) → me.view ≡ inr x → x.phase ≡ seating.Out → Allows (Holds L) units (suc i) me 0 (λ n. n) (Loads (units - 2) looked x me)
-looks_out units = loads_allow seating.Out looked units (λ at j. refl) (λ h x w at j. subst (λ (φ : SeatPhase). 0 ≡ hold_of φ at j) (sym w) refl) (λ s i x k sound there within. look_keeps s i x seating.Out tt sound there within)
-
-pub looks_in : {L : Limits} (units i : ℕ) (x : Seat) (me : Knows) → me.view ≡ inr x → x.phase ≡ seating.Between → Allows (Holds L) units (suc i) me 0 (λ n. n) (Loads (units - 2) looked x me)
-looks_in units = loads_allow seating.Between looked units (λ at j. refl) (λ h x w at j. subst (λ (φ : SeatPhase). 0 ≡ hold_of φ at j) (sym w) refl) (λ s i x k sound there within. look_keeps s i x seating.Between tt sound there within)
+  pub second_loads : {L : Limits} (i : ℕ) (x : Seat) (me : Knows) → me.view ≡ inr x → x.phase ≡ seating.Missed → Allows (Holds L) (Operation L) units (suc i) me 0 (λ n. n) (Loads (units - 2) (second_seen keep) x me)
+  second_loads = loads_allow seating.Missed (second_seen keep) units (λ at j. refl) (λ h x w at j. refl) second_keeps second_does

@@ -110,8 +110,8 @@ module _ {M : Type 1} {𝓤 : Ura M} (𝓛 : Logic 𝓤) {V E : Type 0} (cv : Co
       abbrev pub after : ℕ → Fml
       after n = fex (Me V E) (next n)
 
-      pub steps : i < z.units → Allows holds z.units id me i f then → ⟦ C ⟧ ∗ A.lft κ q ∗ ⟦ sat id me ⟧ ⊢ asks 𝓛 (block_ptr z.block (unit_at z i)) f always (λ n. fsep (flft κ q) (after n))
-      steps inside law = opened i f after (sat id me) inside (λ s so small. let Z : Pr = ex 𝓤 (Next i f after s) in let γ : ℕ = z.views_name in let n : ℕ = get_or s.words i 0 in
+      pub steps : (does : ℕ → State V E → State V E → Type 0) → i < z.units → Allows holds does z.units id me i f then → ⟦ C ⟧ ∗ A.lft κ q ∗ ⟦ sat id me ⟧ ⊢ asks 𝓛 (block_ptr z.block (unit_at z i)) f always (λ n. fsep (flft κ q) (after n))
+      steps does inside law = opened i f after (sat id me) inside (λ s so small. let Z : Pr = ex 𝓤 (Next i f after s) in let γ : ℕ = z.views_name in let n : ℕ = get_or s.words i 0 in
           qed 𝓛 ((‵ (shelf z 0 s.homes) ⊛ ‵ (roster cv.code γ 0 s.views) ⊛ ‵ (now s.log)) ∷ ‵ (half id me.view) ∷ ‵ (past me.seen) ∷ ‵ (carried z me.right) ∷ []) ∵ split3 ! $ move ! (2 ∷ 4 ∷ []) $
           use2 𝓛 (given (IsPrefix me.seen s.log) (‵ (now s.log) ⊛ ‵ (past me.seen))) (latest_bounds O 𝓛 full_share z.log_name s.log me.seen) $ learn ! (λ pre. split ! $ move ! (3 ∷ 4 ∷ []) $
           use2 𝓛 (given (get_elem? s.views id ≡ maybe.some me.view) (raw (all 𝓤 (Moved 𝓛 cv γ 0 s.views id id)))) (moves 𝓛 cv γ s.views 0 id id me.view (omega arith)) $ learn ! (λ at.
@@ -122,8 +122,8 @@ module _ {M : Type 1} {𝓤 : Ura M} (𝓛 : Logic 𝓤) {V E : Type 0} (cv : Co
           use1 𝓛 (‵ (now log') ⊛ ‵ (past seen')) (latest_shows O 𝓛 full_share z.log_name log' seen' r.6) $ split ! $ move ! (5 ∷ 6 ∷ []) $
           use2 𝓛 (raw (upd 𝓤 (Acted 𝓛 z s.homes me.right a))) (acts 𝓛 z s.homes me.right a so.2 r.4) $ settle 𝓛 Z (given (length t.homes ≡ z.units) (‵ (shelf z 0 t.homes) ⊛ ‵ (carried z me'.right))) $ learn ! (λ long. split ! $
           suffices ! _ (upd_i 𝓤 Z) $ show ! (Next i f after s) t $ check ! (refl, r.7, long) $ move ! (0 ∷ 4 ∷ 2 ∷ []) $ fjoin3 ! $ frame ! $ show ! (λ (x : Me V E). ⟦ next n x ⟧) me' $
-          nothing ! $ fpack ! (then n me') (λ _. ftrue) r.8 $ move ! (0 ∷ 3 ∷ 2 ∷ 1 ∷ []) $ keep ! (0 ∷ 1 ∷ 2 ∷ 3 ∷ []) $ done !))))
+          nothing ! $ fpack ! (then n me') (λ _. ftrue) r.9 $ move ! (0 ∷ 3 ∷ 2 ∷ 1 ∷ []) $ keep ! (0 ∷ 1 ∷ 2 ∷ 3 ∷ []) $ done !))))
 
       -- the same at the pointer by which the code reaches the word
-      pub steps_at : (r : Ptr) → r ≡ block_ptr z.block (unit_at z i) → i < z.units → Allows holds z.units id me i f then → ⟦ C ⟧ ∗ A.lft κ q ∗ ⟦ sat id me ⟧ ⊢ asks 𝓛 r f always (λ n. fsep (flft κ q) (after n))
-      steps_at r is inside law = subst (λ (x : Ptr). ⟦ C ⟧ ∗ A.lft κ q ∗ ⟦ sat id me ⟧ ⊢ asks 𝓛 x f always (λ n. fsep (flft κ q) (after n))) (sym is) (steps inside law)
+      pub steps_at : (does : ℕ → State V E → State V E → Type 0) (r : Ptr) → r ≡ block_ptr z.block (unit_at z i) → i < z.units → Allows holds does z.units id me i f then → ⟦ C ⟧ ∗ A.lft κ q ∗ ⟦ sat id me ⟧ ⊢ asks 𝓛 r f always (λ n. fsep (flft κ q) (after n))
+      steps_at does r is inside law = subst (λ (x : Ptr). ⟦ C ⟧ ∗ A.lft κ q ∗ ⟦ sat id me ⟧ ⊢ asks 𝓛 x f always (λ n. fsep (flft κ q) (after n))) (sym is) (steps does inside law)

@@ -1,5 +1,5 @@
 -- The pins of the running ring keep the block's rule: by the core's law of each kind.
-use Rattle.std.proofs.Common.{Option, None, ◌≡◌, ◌≢◌, ℕ, zero, suc, ◌+◌, ◌-◌, ◌%◌, ◌==◌, ◌≤◌, ◌<◌, ◌^◌, Bool, false, true, List, [], ◌∷◌, ◌++◌, map, length, get_or, set, sym, refl, ap, ◌∙◌, subst, length-set, arith, Some, get_or-set_same, if◌then◌else◌}
+use Rattle.std.proofs.Common.{Option, None, ◌≡◌, ◌≢◌, ℕ, zero, suc, ◌+◌, ◌-◌, ◌%◌, ◌==◌, ◌≤◌, ◌<◌, ◌^◌, Bool, false, true, List, [], ◌∷◌, ◌++◌, map, length, get_or, set, sym, refl, ap, ◌∙◌, subst, length-set, arith, Some, get_or-set_same, le-ltb, if◌then◌else◌}
 use Rattle.std.specs.Prelude.{slice_get}
 use mathlib.Core.Logic.{inl, inr}
 use mathlib.Core.Option as maybe
@@ -30,6 +30,10 @@ use Rattle.ring_steps.specs.declared.words.Word.{Word}
 use Rattle.packet_ring.specs.Steps.{Pins, Unpins, missed, took}
 use Rattle.packet_ring.specs.Table.{State, Home, away, home, Right, no_right, may_read, Act, keeps, pins, unpins, homes_after, stepped, Goes, Allows}
 use Rattle.packet_ring.specs.Rule.{Limits, IsSized, View, Knows, Holds, bytes_of, Fits, HomeFits, HasCells, hold_of, holders, publisher_view, seat_view}
+use Rattle.packet_ring.specs.Operation.{Operation}
+use Rattle.ring_steps.specs.declared.calls.SeatCall.TheVariants.{Take}
+use Rattle.ring_steps.specs.RingSteps.{by_seat}
+use Rattle.ring_steps.specs.Step.{SeatActs, SeatStep, pin, read_byte, unpin, unpin_failed}
 use Rattle.packet_ring.proofs.Heads.{map_set, same_holders, or_given, units_of, seat_there}
 
 -- with another view of this seat as many more hold as it holds more
@@ -55,22 +59,19 @@ sized most (q ∷ log) (suc k) p h at = sized most log k p (λ n l. h (suc n) (o
 
 -- a step by a seat on the word of the slot at place j, which changes the slot's word and the seat's view
 pub slot_kept : {L : Limits} (s : Ring.State) (t : State View (List ℕ)) → Fits L s t → (i j : ℕ) (y : Seat) (b : Slot) (v : ℕ) (r : Right) (a : Act) → Invariant (with_seat (with_slot s j b) i y) → v ≡ word_bits b.word
-    → ((k : ℕ) → k ≤ s.keep → HomeFits (with_seat (with_slot s j b) i y) k (get_or (homes_after t.homes r a) (suc k) away)) → Holds L (stepped t (suc j) v (suc i) r (inr y) a t.log)
-slot_kept s t fits i j y b v r a sound bits homes = (
-  with_seat (with_slot s j b) i y,
-  record {
-    sound = sound;
-    few = length-set s.seats i y ∙ fits.few;
-    many = fits.many;
-    packets = fits.packets;
-    pending = fits.pending;
-    short = fits.short;
-    words = ap (λ (ws : List ℕ). set ws (suc j) v) fits.words ∙ ap (λ (ws : List ℕ). head_bits s.head ∷ ws) (ap (set (map (λ (x : Slot). word_bits x.word) s.slots) j) bits ∙ map_set (λ (x : Slot). word_bits x.word) s.slots j b);
-    views = ap (λ (vs : List View). set vs (suc i) (inr y)) fits.views ∙ ap (λ (vs : List View). publisher_view s ∷ vs) (map_set seat_view s.seats i y);
-    log = fits.log;
-    homes = homes;
-  },
-)
+    → ((k : ℕ) → k ≤ s.keep → HomeFits (with_seat (with_slot s j b) i y) k (get_or (homes_after t.homes r a) (suc k) away)) → Fits L (with_seat (with_slot s j b) i y) (stepped t (suc j) v (suc i) r (inr y) a t.log)
+slot_kept s t fits i j y b v r a sound bits homes = record {
+  sound = sound;
+  few = length-set s.seats i y ∙ fits.few;
+  many = fits.many;
+  packets = fits.packets;
+  pending = fits.pending;
+  short = fits.short;
+  words = ap (λ (ws : List ℕ). set ws (suc j) v) fits.words ∙ ap (λ (ws : List ℕ). head_bits s.head ∷ ws) (ap (set (map (λ (x : Slot). word_bits x.word) s.slots) j) bits ∙ map_set (λ (x : Slot). word_bits x.word) s.slots j b);
+  views = ap (λ (vs : List View). set vs (suc i) (inr y)) fits.views ∙ ap (λ (vs : List View). publisher_view s ∷ vs) (map_set seat_view s.seats i y);
+  log = fits.log;
+  homes = homes;
+}
 
 same_cells : (cells : List ℕ) (a b : Slot) → b.len ≡ a.len → b.bytes ≡ a.bytes → HasCells cells a → HasCells cells b
 same_cells cells a b len bytes has = (len ∙ has.0, ap (λ (u : ℕ × List ℕ). lib.ListN.take u.0 u.1) {x = (b.len, b.bytes)} {y = (a.len, a.bytes)} (λ i. (len i, bytes i)) ∙ has.1 ∙ ap (λ (n : ℕ). lib.ListN.take n (Rattle.packet_ring.specs.Rule.bytes_of (lib.ListN.drop 1 cells))) (sym len))
@@ -207,19 +208,27 @@ module _ (i : ℕ) (x : Seat) (seen : List (List ℕ)) where
     was_idle : (k : ℕ) → 0 ≡ hold_of x.phase (cursor x % (s.keep + 1)) k
     was_idle k = subst (λ (φ : SeatPhase). 0 ≡ hold_of φ (cursor x % (s.keep + 1)) k) (sym within) refl
 
-    goes : (c : Bool) → holds (word s j) (cursor x) ≡ c → Goes (Holds L) t (suc i) me (suc j) (λ m. (m + 1) % 2 ^ 64) (Pins L.1 (suc j) x me)
-    goes false is = let sound = sound_by false is in (
-      inr (phased false),
-      keeps,
-      t.log,
-      t.log,
-      tt,
-      prefix_refl t.log,
-      prefix_refl t.log,
-      slot_kept s t fits i j (phased false) b ((get_or t.words (suc j) 0 + 1) % 2 ^ 64) no_right keeps sound (bits_now (phased false) sound)
-          (λ k low. home_kept s i j ((word s j).pins + 1) x (phased false) there k (sym (was_idle k)) (get_or t.homes (suc k) away) (fits.homes k low)),
-      record { word = word s j; bits = found; view = ap (λ (d : Bool). inr (phased d)) (sym is); held = λ e. absurd (cc); failed = λ e. refl; few = few_pins; grows = pre },
-    )
+    pin_step : SeatStep s i Take (pin s i x)
+    pin_step = record { view = x; there = there; acts = subst (λ (φ : SeatPhase). SeatActs φ Take s i x (pin s i x)) (sym within) refl }
+
+    pin_leads : (c : Bool) → holds (word s j) (cursor x) ≡ c → (pin s i x).state ≡ with_seat (with_slot s j b) i (phased c)
+    pin_leads c is = ap (λ (d : Bool). with_seat (with_slot s j b) i (phased d)) is
+
+    goes : (c : Bool) → holds (word s j) (cursor x) ≡ c → Goes (Holds L) (Operation L) t (suc i) me (suc j) (λ m. (m + 1) % 2 ^ 64) (Pins L.1 (suc j) x me)
+    goes false is = let sound = sound_by false is in
+        let kept = slot_kept s t fits i j (phased false) b ((get_or t.words (suc j) 0 + 1) % 2 ^ 64) no_right keeps sound (bits_now (phased false) sound)
+        (λ k low. home_kept s i j ((word s j).pins + 1) x (phased false) there k (sym (was_idle k)) (get_or t.homes (suc k) away) (fits.homes k low)) in (
+          inr (phased false),
+          keeps,
+          t.log,
+          t.log,
+          tt,
+          prefix_refl t.log,
+          prefix_refl t.log,
+          (with_seat (with_slot s j b) i (phased false), kept),
+          record { old = s; new = with_seat (with_slot s j b) i (phased false); before = fits; after = kept; by = by_seat i Take; own = refl; from = s; copied = inl refl; outcome = pin s i x; step = pin_step; atomic = refl; leads = pin_leads false is },
+          record { word = word s j; bits = found; view = ap (λ (d : Bool). inr (phased d)) (sym is); held = λ e. absurd (cc); failed = λ e. refl; few = few_pins; grows = pre },
+        )
     goes true is =
         let y : Seat = phased true in let sound = sound_by true is in let m' : ℕ = (word s j).pins + 1 in let s' : Ring.State = pinned_to s i j m' x y there in
         let H = at_home s j (get_or t.homes (suc j) away) (fits.homes j near) (not_writing ((word s j).number == cursor x + 1) (word s j).writing is) in let m : ℕ = H.parts in let c : List ℕ = H.cells in
@@ -228,7 +237,8 @@ module _ (i : ℕ) (x : Seat) (seen : List (List ℕ)) where
           | inl e ↦ let same : k ≡ j = let f = e.0 in omega arith in subst (HomeFits s' k) (sym e.1) (subst (λ (l : ℕ). HomeFits s' l (home (suc m) c)) (sym same) (home_moved s i j m' x y there j m (suc m) c (let z = was_idle j in let o = own_hold j in omega arith) H.fits))
           | inr e ↦ let other : j ≢ k = λ f. e.0 (ap suc (sym f)) in subst (HomeFits s' k) (sym e.1) (home_kept s i j m' x y there k (sym (was_idle k) ∙ other_hold j k other) (get_or t.homes (suc k) away) (fits.homes k low))
         ] in
-        let own = own_packet s' i y sound (read_place s.seats i x y there) tt in let has = cells_kept s i j m' x y there j c H.fits.2 in let B : List ℕ = bytes_of (drop 1 c) in (
+        let own = own_packet s' i y sound (read_place s.seats i x y there) tt in let has = cells_kept s i j m' x y there j c H.fits.2 in let B : List ℕ = bytes_of (drop 1 c) in
+        let kept = slot_kept s t fits i j y b ((get_or t.words (suc j) 0 + 1) % 2 ^ 64) no_right (pins (suc j) m c) sound (bits_now y sound) homes' in (
           inr y,
           pins (suc j) m c,
           t.log,
@@ -236,7 +246,8 @@ module _ (i : ℕ) (x : Seat) (seen : List (List ℕ)) where
           (elem, omega arith),
           prefix_refl t.log,
           prefix_refl t.log,
-          slot_kept s t fits i j y b ((get_or t.words (suc j) 0 + 1) % 2 ^ 64) no_right (pins (suc j) m c) sound (bits_now y sound) homes',
+          (s', kept),
+          record { old = s; new = s'; before = fits; after = kept; by = by_seat i Take; own = refl; from = s; copied = inl refl; outcome = pin s i x; step = pin_step; atomic = refl; leads = pin_leads true is },
           record {
             word = word s j;
             bits = found;
@@ -258,10 +269,10 @@ module _ (i : ℕ) (x : Seat) (seen : List (List ℕ)) where
           },
         )
 
-  pub pin_allows : {L : Limits} (units keep : ℕ) → keep + 2 ≡ units → x.phase ≡ seating.Found → let unit = suc (cursor x % (keep + 1)) in Allows (Holds L) units (suc i) me unit (λ m. (m + 1) % 2 ^ 64) (Pins L.1 unit x me)
+  pub pin_allows : {L : Limits} (units keep : ℕ) → keep + 2 ≡ units → x.phase ≡ seating.Found → let unit = suc (cursor x % (keep + 1)) in Allows (Holds L) (Operation L) units (suc i) me unit (λ m. (m + 1) % 2 ^ 64) (Pins L.1 unit x me)
   pin_allows {L = L} units keep size within t held long rooms at pre small = let s : Ring.State = held.0 in let fits : Fits L s t = held.1 in let many = units_of s t fits units long in let same : s.keep ≡ keep = omega arith in
       let there = seat_there s.seats i x (ap (λ (vs : List View). get_elem? vs (suc i)) (sym fits.views) ∙ at) in
-      subst (λ (k : ℕ). let unit = suc (cursor x % (k + 1)) in Goes (Holds L) t (suc i) me unit (λ m. (m + 1) % 2 ^ 64) (Pins L.1 unit x me)) same (goes s t fits there within pre (holds (word s (place s (cursor x))) (cursor x)) refl)
+      subst (λ (k : ℕ). let unit = suc (cursor x % (k + 1)) in Goes (Holds L) (Operation L) t (suc i) me unit (λ m. (m + 1) % 2 ^ 64) (Pins L.1 unit x me)) same (goes s t fits there within pre (holds (word s (place s (cursor x))) (cursor x)) refl)
 
 -- ---- UNPIN
 pub set_twice : {X : Type 0} (xs : List X) (i : ℕ) (x y : X) → set (set xs i x) i y ≡ set xs i y
@@ -290,11 +301,13 @@ module _ (i : ℕ) (x : Seat) {L : Limits} (s : Ring.State) (t : State View (Lis
 
   -- the unpin of a pin that failed
   pub unpin_failed_goes : (seen : List (List ℕ)) → x.phase ≡ seating.Failed → IsPrefix seen t.log → get_or t.words (suc spot_of) 0 < 2 ^ 64
-      → Goes (Holds L) t (suc i) (record { view = inr x; right = no_right; seen = seen }) (suc spot_of) minus (Unpins (missed x) (record { view = inr x; right = no_right; seen = seen }))
+      → Goes (Holds L) (Operation L) t (suc i) (record { view = inr x; right = no_right; seen = seen }) (suc spot_of) minus (Unpins (missed x) (record { view = inr x; right = no_right; seen = seen }))
   unpin_failed_goes seen within pre small =
       let sound = unpin_failed_keeps s i x fits.sound there within in let e = failed_bits s i x (record { sound = fits.sound; there = there; within = within }) in
       let bits : word_bits fewer.word + 1 ≡ word_bits (word s spot_of) = ap (λ (w : Word). word_bits w + 1) (sym (new_word (missed x))) ∙ e in
-      let idle : (k : ℕ) → hold_of x.phase (cursor x % (s.keep + 1)) k ≡ 0 = λ k. subst (λ (φ : SeatPhase). hold_of φ (cursor x % (s.keep + 1)) k ≡ 0) (sym within) refl in (
+      let idle : (k : ℕ) → hold_of x.phase (cursor x % (s.keep + 1)) k ≡ 0 = λ k. subst (λ (φ : SeatPhase). hold_of φ (cursor x % (s.keep + 1)) k ≡ 0) (sym within) refl in
+      let kept = slot_kept s t fits i spot_of (missed x) fewer (minus (get_or t.words (suc spot_of) 0)) no_right keeps sound (less_bits small bits)
+      (λ k low. home_kept s i spot_of ((word s spot_of).pins - 1) x (missed x) there k (idle k) (get_or t.homes (suc k) away) (fits.homes k low)) in (
         inr (missed x),
         keeps,
         t.log,
@@ -302,14 +315,27 @@ module _ (i : ℕ) (x : Seat) {L : Limits} (s : Ring.State) (t : State View (Lis
         tt,
         prefix_refl t.log,
         prefix_refl t.log,
-        slot_kept s t fits i spot_of (missed x) fewer (minus (get_or t.words (suc spot_of) 0)) no_right keeps sound (less_bits small bits)
-            (λ k low. home_kept s i spot_of ((word s spot_of).pins - 1) x (missed x) there k (idle k) (get_or t.homes (suc k) away) (fits.homes k low)),
+        (with_seat (with_slot s spot_of fewer) i (missed x), kept),
+        record {
+          old = s;
+          new = with_seat (with_slot s spot_of fewer) i (missed x);
+          before = fits;
+          after = kept;
+          by = by_seat i Take;
+          own = refl;
+          from = s;
+          copied = inl refl;
+          outcome = unpin_failed s i x;
+          step = record { view = x; there = there; acts = subst (λ (φ : SeatPhase). SeatActs φ Take s i x (unpin_failed s i x)) (sym within) refl };
+          atomic = refl;
+          leads = refl;
+        },
         record { view = refl; right = refl; grows = pre },
       )
 
   -- the unpin after the packet was read
   pub unpin_goes : (seen : List (List ℕ)) (cells p : List ℕ) → x.phase ≡ seating.Holding → slice_get s.log (cursor x) ≡ Some p → IsPrefix seen t.log → get_or t.words (suc spot_of) 0 < 2 ^ 64
-      → let me : Knows = record { view = inr x; right = may_read (suc spot_of) cells; seen = seen } in Goes (Holds L) t (suc i) me (suc spot_of) minus (Unpins (took x p) me)
+      → let me : Knows = record { view = inr x; right = may_read (suc spot_of) cells; seen = seen } in Goes (Holds L) (Operation L) t (suc i) me (suc spot_of) minus (Unpins (took x p) me)
   unpin_goes seen cells p within next pre small =
       let j : ℕ = spot_of in let x₁ : Seat = record x { phase = seating.Reading; length = length p; read = p } in let y : Seat = took x p in let s₁ : Ring.State = read_all s i x p in
       let inv₁ = read_all_keeps s i x p (record { sound = fits.sound; there = there; within = within }) next in let there₁ = read_place s.seats i x x₁ there in
@@ -325,7 +351,8 @@ module _ (i : ℕ) (x : Seat) {L : Limits} (s : Ring.State) (t : State View (Lis
         | inl f ↦ let same : k ≡ j = let g = f.0 in omega arith in subst (HomeFits s' k) (sym f.1) (subst (λ (l : ℕ). HomeFits s' l (home m c)) (sym same) (home_moved s i j m' x y there j H.parts m c (omega arith) H.fits))
         | inr f ↦ let other : j ≢ k = λ g. f.0 (ap suc (sym g)) in let none : hold_of x.phase j k ≡ 0 = subst (λ (φ : SeatPhase). hold_of φ j k ≡ 0) (sym within) (sym (other_hold j k other)) in
             subst (HomeFits s' k) (sym f.1) (home_kept s i j m' x y there k none (get_or t.homes (suc k) away) (fits.homes k low))
-      ] in (
+      ] in
+      let kept = slot_kept s t fits i j y fewer (minus (get_or t.words (suc j) 0)) (may_read (suc j) cells) (unpins m c) sound (less_bits small bits) homes' in (
         inr y,
         unpins m c,
         t.log,
@@ -333,7 +360,21 @@ module _ (i : ℕ) (x : Seat) {L : Limits} (s : Ring.State) (t : State View (Lis
         (elem, omega arith),
         prefix_refl t.log,
         prefix_refl t.log,
-        slot_kept s t fits i j y fewer (minus (get_or t.words (suc j) 0)) (may_read (suc j) cells) (unpins m c) sound (less_bits small bits) homes',
+        (s', kept),
+        record {
+          old = s;
+          new = s';
+          before = fits;
+          after = kept;
+          by = by_seat i Take;
+          own = refl;
+          from = s₁;
+          copied = inr (x, p, record { sound = fits.sound; there = there; within = within }, next, refl);
+          outcome = unpin s₁ i x₁;
+          step = record { view = x₁; there = there₁; acts = sym (ap (λ (d : Bool). if d then read_byte s₁ i x₁ else unpin s₁ i x₁) (le-ltb (length p) (length p) (omega arith))) };
+          atomic = refl;
+          leads = ap (λ (xs : List Seat). let u : Ring.State = record (with_slot s j fewer) { seats = xs } in u) (set_twice s.seats i x₁ y);
+        },
         record { view = refl; right = refl; grows = pre },
       )
 
@@ -347,16 +388,16 @@ module _ (units keep i : ℕ) (size : keep + 2 ≡ units) (x : Seat) (seen : Lis
   abbrev its_unit : ℕ
   its_unit = suc (cursor x % (keep + 1))
 
-  pub unpin_failed_allows : {L : Limits} → x.phase ≡ seating.Failed → let me : Knows = record { view = inr x; right = no_right; seen = seen } in Allows (Holds L) units (suc i) me its_unit (λ m. (m + (2 ^ 64 - 1)) % 2 ^ 64) (Unpins (missed x) me)
+  pub unpin_failed_allows : {L : Limits} → x.phase ≡ seating.Failed → let me : Knows = record { view = inr x; right = no_right; seen = seen } in Allows (Holds L) (Operation L) units (suc i) me its_unit (λ m. (m + (2 ^ 64 - 1)) % 2 ^ 64) (Unpins (missed x) me)
   unpin_failed_allows {L = L} within t held long rooms at pre small = let s : Ring.State = held.0 in let fits : Fits L s t = held.1 in let many = units_of s t fits units long in let same : s.keep ≡ keep = omega arith in
       let there = seat_there s.seats i x (ap (λ (vs : List View). get_elem? vs (suc i)) (sym fits.views) ∙ at) in let me : Knows = record { view = inr x; right = no_right; seen = seen } in
-      subst (λ (k : ℕ). let unit = suc (cursor x % (k + 1)) in get_or t.words unit 0 < 2 ^ 64 → Goes (Holds L) t (suc i) me unit (λ m. (m + (2 ^ 64 - 1)) % 2 ^ 64) (Unpins (missed x) me)) same (λ low. unpin_failed_goes i x s t fits there seen within pre low) small
+      subst (λ (k : ℕ). let unit = suc (cursor x % (k + 1)) in get_or t.words unit 0 < 2 ^ 64 → Goes (Holds L) (Operation L) t (suc i) me unit (λ m. (m + (2 ^ 64 - 1)) % 2 ^ 64) (Unpins (missed x) me)) same (λ low. unpin_failed_goes i x s t fits there seen within pre low) small
 
   pub unpin_allows : {L : Limits} (cells p : List ℕ) → x.phase ≡ seating.Holding → slice_get seen (cursor x) ≡ Some p
-      → let me : Knows = record { view = inr x; right = may_read its_unit cells; seen = seen } in Allows (Holds L) units (suc i) me its_unit (λ m. (m + (2 ^ 64 - 1)) % 2 ^ 64) (Unpins (took x p) me)
+      → let me : Knows = record { view = inr x; right = may_read its_unit cells; seen = seen } in Allows (Holds L) (Operation L) units (suc i) me its_unit (λ m. (m + (2 ^ 64 - 1)) % 2 ^ 64) (Unpins (took x p) me)
   unpin_allows {L = L} cells p within known t held long rooms at pre small = let s : Ring.State = held.0 in let fits : Fits L s t = held.1 in let many = units_of s t fits units long in let same : s.keep ≡ keep = omega arith in
       let there = seat_there s.seats i x (ap (λ (vs : List View). get_elem? vs (suc i)) (sym fits.views) ∙ at) in
       let knows = subst (λ (φ : SeatPhase). SeatKnows φ s.keep s.log x) within (fits.sound.phases.knows i x there) in let before = (fits.sound.slots.seen i x there).0 in let here = knows.0 in
       let next = get_without_end s.head.closed s.log (cursor x) p (omega arith) (subst (λ (l : List (List ℕ)). slice_get l (cursor x) ≡ Some p) fits.log (prefix_get seen t.log (cursor x) p pre known)) in
-      subst (λ (k : ℕ). let unit = suc (cursor x % (k + 1)) in let me : Knows = record { view = inr x; right = may_read unit cells; seen = seen } in get_or t.words unit 0 < 2 ^ 64 → Goes (Holds L) t (suc i) me unit (λ m. (m + (2 ^ 64 - 1)) % 2 ^ 64) (Unpins (took x p) me)) same
+      subst (λ (k : ℕ). let unit = suc (cursor x % (k + 1)) in let me : Knows = record { view = inr x; right = may_read unit cells; seen = seen } in get_or t.words unit 0 < 2 ^ 64 → Goes (Holds L) (Operation L) t (suc i) me unit (λ m. (m + (2 ^ 64 - 1)) % 2 ^ 64) (Unpins (took x p) me)) same
       (λ low. unpin_goes i x s t fits there seen cells p within next pre low) small

@@ -1,6 +1,7 @@
 pub mod Table
 pub mod Lent
 pub mod Rule
+pub mod Operation
 pub mod Steps
 pub mod Packing
 pub mod Tokens

@@ -75,16 +75,18 @@ module _ {V E : Type 0} where
   stepped s i n id r w a log = record { words = slice_set s.words i n; homes = homes_after s.homes r a; views = slice_set s.views id w; log = log }
 
   -- Where the word i becomes f of what it was, the token has a new view, an act and a longer log that keep
-  -- the rule, and `then` holds of the number found and of the token after
-  abbrev pub Goes : (State V E → Type 0) → State V E → (id : ℕ) → Me V E → (word : ℕ) → (ℕ → ℕ) → (ℕ → Me V E → Type 0) → Type 0
-  Goes holds s id me i f then =
+  -- the rule, `does` holds of the token, of the block before and of the block after, and `then` of the number
+  -- found and of the token after
+  abbrev pub Goes : (State V E → Type 0) → (ℕ → State V E → State V E → Type 0) → State V E → (id : ℕ) → Me V E → (word : ℕ) → (ℕ → ℕ) → (ℕ → Me V E → Type 0) → Type 0
+  Goes holds does s id me i f then =
       (w : V) × (a : Act) × (log : List E) × (seen : List E) × Valid s.homes me.right a × IsPrefix s.log log × IsPrefix seen log
-      × holds (stepped s i (f (slice_index s.words i)) id me.right w a log) × then (slice_index s.words i) (record { view = w; right = right_after me.right a; seen = seen })
+      × holds (stepped s i (f (slice_index s.words i)) id me.right w a log)
+      × does id s (stepped s i (f (slice_index s.words i)) id me.right w a log) × then (slice_index s.words i) (record { view = w; right = right_after me.right a; seen = seen })
 
   -- So it is whatever the block is
-  abbrev pub Allows : (State V E → Type 0) → (units : ℕ) → (id : ℕ) → Me V E → (word : ℕ) → (ℕ → ℕ) → (ℕ → Me V E → Type 0) → Type 0
-  Allows holds units id me i f then = (s : State V E) → holds s → length s.words ≡ units → length s.homes ≡ units → get_elem? s.views id ≡ some me.view → IsPrefix me.seen s.log → slice_index s.words i < 18446744073709551616
-      → Goes holds s id me i f then
+  abbrev pub Allows : (State V E → Type 0) → (ℕ → State V E → State V E → Type 0) → (units : ℕ) → (id : ℕ) → Me V E → (word : ℕ) → (ℕ → ℕ) → (ℕ → Me V E → Type 0) → Type 0
+  Allows holds does units id me i f then = (s : State V E) → holds s → length s.words ≡ units → length s.homes ≡ units → get_elem? s.views id ≡ some me.view → IsPrefix me.seen s.log → slice_index s.words i < 18446744073709551616
+      → Goes holds does s id me i f then
 
 -- a unit's word and cells, side by side, one unit after another
 abbrev pub flat : List (ℕ × List ℕ) → List ℕ

@@ -5,6 +5,7 @@ ghost use prog.Atomic.{either};
 ghost use Rattle.packet_ring.specs.Table.{no_right, flat, Allows, cells_of, renewed, settled, written};
 ghost use Rattle.packet_ring.specs.Lent.{BlockId, block_id_coded, block_owns, block_shares, mine, waiting};
 ghost use Rattle.packet_ring.specs.Rule.{Knows, View, knows_coded, view_coded, packet_coded, Holds, fresh_units, fresh_views};
+ghost use Rattle.packet_ring.specs.Operation.{Operation};
 ghost use Rattle.packet_ring.specs.Steps.{MayRead, MayWrite, Step, step};
 
 use crate::strip::Strip;
@@ -90,7 +91,7 @@ impl Shared {
 impl Shared {
     /// One load of a unit's word, which lies `at` words from the first.
     pub(crate) fn load<M: Play>(&self, token: &mut Token, unit: usize, at: usize) -> u64
-        requires { (token.old.id ≡ self.now.id) × (unit < self.now.id.units) × (at ≡ unit * (self.now.id.width + 1)) × Allows (Holds self.now.id.limits) self.now.id.units token.old.number token.old.me unit (λ n. n) (M.then (step self.now.id.limits self.now.id.units unit 0 0) token.old.me) }
+        requires { (token.old.id ≡ self.now.id) × (unit < self.now.id.units) × (at ≡ unit * (self.now.id.width + 1)) × Allows (Holds self.now.id.limits) (Operation self.now.id.limits) self.now.id.units token.old.number token.old.me unit (λ n. n) (M.then (step self.now.id.limits self.now.id.units unit 0 0) token.old.me) }
         ensures { (token.new.id ≡ token.old.id) × (token.new.number ≡ token.old.number) × M.then (step self.now.id.limits self.now.id.units unit 0 0) token.old.me result token.new.me }
     {
         let _ = unit;
@@ -99,7 +100,7 @@ impl Shared {
 
     /// One store of a unit's word.
     pub(crate) fn store<M: Play>(&self, token: &mut Token, unit: usize, at: usize, new: u64)
-        requires { (token.old.id ≡ self.now.id) × (unit < self.now.id.units) × (at ≡ unit * (self.now.id.width + 1)) × Allows (Holds self.now.id.limits) self.now.id.units token.old.number token.old.me unit (λ _. new) (λ _. M.then (step self.now.id.limits self.now.id.units unit new 0) token.old.me new) }
+        requires { (token.old.id ≡ self.now.id) × (unit < self.now.id.units) × (at ≡ unit * (self.now.id.width + 1)) × Allows (Holds self.now.id.limits) (Operation self.now.id.limits) self.now.id.units token.old.number token.old.me unit (λ _. new) (λ _. M.then (step self.now.id.limits self.now.id.units unit new 0) token.old.me new) }
         ensures { (token.new.id ≡ token.old.id) × (token.new.number ≡ token.old.number) × M.then (step self.now.id.limits self.now.id.units unit new 0) token.old.me new token.new.me }
     {
         let _ = unit;
@@ -114,7 +115,7 @@ impl Shared {
         at: usize,
         k: u64,
     ) -> u64
-        requires { (token.old.id ≡ self.now.id) × (unit < self.now.id.units) × (at ≡ unit * (self.now.id.width + 1)) × Allows (Holds self.now.id.limits) self.now.id.units token.old.number token.old.me unit (λ n. (n + k) % 2 ^ 64) (M.then (step self.now.id.limits self.now.id.units unit k 0) token.old.me) }
+        requires { (token.old.id ≡ self.now.id) × (unit < self.now.id.units) × (at ≡ unit * (self.now.id.width + 1)) × Allows (Holds self.now.id.limits) (Operation self.now.id.limits) self.now.id.units token.old.number token.old.me unit (λ n. (n + k) % 2 ^ 64) (M.then (step self.now.id.limits self.now.id.units unit k 0) token.old.me) }
         ensures { (token.new.id ≡ token.old.id) × (token.new.number ≡ token.old.number) × M.then (step self.now.id.limits self.now.id.units unit k 0) token.old.me result token.new.me }
     {
         let _ = unit;
@@ -129,7 +130,7 @@ impl Shared {
         at: usize,
         k: u64,
     ) -> u64
-        requires { (token.old.id ≡ self.now.id) × (unit < self.now.id.units) × (at ≡ unit * (self.now.id.width + 1)) × Allows (Holds self.now.id.limits) self.now.id.units token.old.number token.old.me unit (λ n. (n + (2 ^ 64 - k)) % 2 ^ 64) (M.then (step self.now.id.limits self.now.id.units unit k 0) token.old.me) }
+        requires { (token.old.id ≡ self.now.id) × (unit < self.now.id.units) × (at ≡ unit * (self.now.id.width + 1)) × Allows (Holds self.now.id.limits) (Operation self.now.id.limits) self.now.id.units token.old.number token.old.me unit (λ n. (n + (2 ^ 64 - k)) % 2 ^ 64) (M.then (step self.now.id.limits self.now.id.units unit k 0) token.old.me) }
         ensures { (token.new.id ≡ token.old.id) × (token.new.number ≡ token.old.number) × M.then (step self.now.id.limits self.now.id.units unit k 0) token.old.me result token.new.me }
     {
         let _ = unit;
@@ -145,7 +146,7 @@ impl Shared {
         old: u64,
         new: u64,
     ) -> u64
-        requires { (token.old.id ≡ self.now.id) × (unit < self.now.id.units) × (at ≡ unit * (self.now.id.width + 1)) × Allows (Holds self.now.id.limits) self.now.id.units token.old.number token.old.me unit (λ n. either (n == old) new n) (M.then (step self.now.id.limits self.now.id.units unit old new) token.old.me) }
+        requires { (token.old.id ≡ self.now.id) × (unit < self.now.id.units) × (at ≡ unit * (self.now.id.width + 1)) × Allows (Holds self.now.id.limits) (Operation self.now.id.limits) self.now.id.units token.old.number token.old.me unit (λ n. either (n == old) new n) (M.then (step self.now.id.limits self.now.id.units unit old new) token.old.me) }
         ensures { (token.new.id ≡ token.old.id) × (token.new.number ≡ token.old.number) × M.then (step self.now.id.limits self.now.id.units unit old new) token.old.me result token.new.me }
     {
         let _ = unit;

@@ -1,6 +1,7 @@
 use Rattle.std.proofs.Common.{ℕ, ◌+◌, ◌-◌, sym, subst, zero-mul}
 use Rattle.packet_ring.specs.Table.{Allows}
 use Rattle.packet_ring.specs.Rule.{Holds}
+use Rattle.packet_ring.specs.Operation.{Operation}
 use Rattle.packet_ring.specs.Steps.{Loads, attached, seat_of}
 use Rattle.packet_ring.proofs.Heads.{attaches}
 use Rattle.packet_ring.proofs.head.attach.Goals as goal
@@ -10,5 +11,5 @@ load-requires c = let z = c.args.block.now.id in let me = c.args.token.now.me in
   c.requires.same.0,
   c.requires.same.1,
   sym (zero-mul (z.width + 1)),
-  subst (λ (n : ℕ). Allows (Holds z.limits) z.units n me 0 (λ m. m) (Loads (z.units - 2) attached x me)) (sym is.at) (attaches z.units is.place x me is.seat is.within),
+  subst (λ (n : ℕ). Allows (Holds z.limits) (Operation z.limits) z.units n me 0 (λ m. m) (Loads (z.units - 2) attached x me)) (sym is.at) (attaches z.units is.place x me is.seat is.within),
 )

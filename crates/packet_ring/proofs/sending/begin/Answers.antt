@@ -3,6 +3,7 @@ use mathlib.Core.Logic.{inl}
 use prog.Atomic.{either}
 use Rattle.packet_ring.specs.Table.{Allows, no_right}
 use Rattle.packet_ring.specs.Rule.{Knows, Holds}
+use Rattle.packet_ring.specs.Operation.{Operation}
 use Rattle.packet_ring.specs.Steps.{Begins, log_of, publisher_of}
 use Rattle.packet_ring.proofs.Begun.{begin_allows}
 use Rattle.packet_ring.proofs.sending.begin.Goals as goal
@@ -11,7 +12,7 @@ pub compare_exchange-requires : goal.compare_exchange-requires
 compare_exchange-requires g c = let z = c.args.block.now.id in let me : Knows = c.args.token.now.me in let log = log_of me.view in let p = publisher_of me.view in let is = c.requires.publisher.0 in let many : 1 < z.units = c.requires.same.1 in let keep : ℕ = z.units - 2 in
     let m₀ : Knows = record { view = inl (log, p); right = no_right; seen = me.seen } in let is_me : m₀ ≡ me = λ i. record { view = sym is.publisher i; right = sym c.requires.publisher.1 i; seen = me.seen } in
     let unit : suc (length log % (keep + 1)) ≡ c.args.unit = (let r : suc (length log % (keep + 1)) ≡ length log % (keep + 1) + 1 = omega arith in r) ∙ sym c.requires.unit.0 in
-    let Out : ℕ → ℕ → Knows → ℕ → Type 0 = λ n u m known. Allows (Holds z.limits) z.units n m u (λ (l : ℕ). either (eqb l known) (known + 2 ^ 16) l) (Begins z.limits.0 u log p g.N.Sends.packet known m) in (
+    let Out : ℕ → ℕ → Knows → ℕ → Type 0 = λ n u m known. Allows (Holds z.limits) (Operation z.limits) z.units n m u (λ (l : ℕ). either (eqb l known) (known + 2 ^ 16) l) (Begins z.limits.0 u log p g.N.Sends.packet known m) in (
       c.requires.same.0,
       c.requires.unit.1,
       c.requires.unit.2,

@@ -3,6 +3,7 @@ use mathlib.Core.Logic.{inr}
 use Rattle.ring_steps.specs.Ring.{cursor}
 use Rattle.packet_ring.specs.Table.{Allows, no_right}
 use Rattle.packet_ring.specs.Rule.{Knows, Holds}
+use Rattle.packet_ring.specs.Operation.{Operation}
 use Rattle.packet_ring.specs.Steps.{Pins, seat_of}
 use Rattle.packet_ring.proofs.Pinned.{pin_allows}
 use Rattle.packet_ring.proofs.slots.pin.Goals as goal
@@ -14,8 +15,8 @@ fetch_add-requires c = let z = c.args.block.now.id in let me : Knows = c.args.to
       c.requires.same.0,
       c.requires.unit.1,
       c.requires.unit.2,
-      subst (λ (n : ℕ). Allows (Holds z.limits) z.units n me c.args.unit (λ m. (m + 1) % 2 ^ 64) (Pins z.limits.1 c.args.unit x me)) (sym is.at)
-          (subst (λ (m : Knows). Allows (Holds z.limits) z.units (suc is.place) m c.args.unit (λ m. (m + 1) % 2 ^ 64) (Pins z.limits.1 c.args.unit x m)) is_me
-          (subst (λ (u : ℕ). Allows (Holds z.limits) z.units (suc is.place) m₀ u (λ m. (m + 1) % 2 ^ 64) (Pins z.limits.1 u x m₀)) unit
+      subst (λ (n : ℕ). Allows (Holds z.limits) (Operation z.limits) z.units n me c.args.unit (λ m. (m + 1) % 2 ^ 64) (Pins z.limits.1 c.args.unit x me)) (sym is.at)
+          (subst (λ (m : Knows). Allows (Holds z.limits) (Operation z.limits) z.units (suc is.place) m c.args.unit (λ m. (m + 1) % 2 ^ 64) (Pins z.limits.1 c.args.unit x m)) is_me
+          (subst (λ (u : ℕ). Allows (Holds z.limits) (Operation z.limits) z.units (suc is.place) m₀ u (λ m. (m + 1) % 2 ^ 64) (Pins z.limits.1 u x m₀)) unit
           (pin_allows is.place x me.seen z.units keep (omega arith) is.within))),
     )

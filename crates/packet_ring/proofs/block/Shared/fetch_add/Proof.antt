@@ -4,6 +4,7 @@ use Rattle.atomic_table.proofs.Walks.{proved, leaves}
 use Rattle.atomic_table.proofs.Calls.{fm, seq_cst, found, finds, adds}
 use Rattle.core.proofs.atomic.Steps.{tail}
 use Rattle.packet_ring.specs.Table.{Allows}
+use Rattle.packet_ring.specs.Operation.{Operation}
 use Rattle.packet_ring.specs.Steps.{step}
 use Rattle.packet_ring.specs.Lent.{BlockId, age, unit_at, Placed, common, mine}
 use Rattle.packet_ring.specs.Rule.{Knows, view_coded, packet_coded, Holds}
@@ -32,7 +33,7 @@ fetch_add_spec 𝓤 𝓛 𝓜 𝓡 wired Mv _ g d _ =
     let f : ℕ → ℕ = λ n. (n + m0) % 2 ^ 64 in let then : ℕ → Knows → Type 0 = g.then (step z.limits z.units i m0 0) v in
     let y : (walk_of 𝓛 En hs c).Ghost = ((κs, qs, bounds, a, (vptr a.0.ref_ptr.0 a.0.ref_ptr.1 ∷ [], (vptr a.1.0.ref_ptr.0 a.1.0.ref_ptr.1 ∷ [], (vint w64 i ∷ [], (vint w64 k ∷ [], (vint w64 m0 ∷ [], tt)))))), gh) in let Post : Val → SProp 𝓤 = (walk_of 𝓛 En hs c).post y in
     let others : Fml = fsep (flft κs.1.1.0 qs.1.1.0) ftrue in
-    qed 𝓛 (((‵ (flft κs.0 qs.0) ⊛ ‵ (flft κs.1.0 qs.1.0) ⊛ ‵ others) ⊛ ‵ (owns (types_at En.signature.params κs) a y.0.4)) ∷ raw (fact 𝓤 _) ∷ given ((h.id ≡ z) × (i < z.units) × (k ≡ i * (z.width + 1)) × Allows (Holds z.limits) z.units id v i f then) (‵ ftrue) ∷ []) ∵
+    qed 𝓛 (((‵ (flft κs.0 qs.0) ⊛ ‵ (flft κs.1.0 qs.1.0) ⊛ ‵ others) ⊛ ‵ (owns (types_at En.signature.params κs) a y.0.4)) ∷ raw (fact 𝓤 _) ∷ given ((h.id ≡ z) × (i < z.units) × (k ≡ i * (z.width + 1)) × Allows (Holds z.limits) (Operation z.limits) z.units id v i f then) (‵ ftrue) ∷ []) ∵
     keep ! (2 ∷ 0 ∷ []) $ learn ! (λ asked. drop ! $ split ! $ split3 ! $ move ! (3 ∷ []) $ fsplit3 ! $ fsplit ! $ move ! (2 ∷ []) $ fsplit3 ! $ keep ! (4 ∷ 6 ∷ 1 ∷ 2 ∷ 7 ∷ 8 ∷ []) $
     enter ! 𝓣.C 𝓣.Λ fn (vptr a.0.ref_ptr.0 a.0.ref_ptr.1 ∷ vptr a.1.0.ref_ptr.0 a.1.0.ref_ptr.1 ∷ vint w64 i ∷ vint w64 k ∷ vint w64 m0 ∷ []) Post $ alloc_all ! (λ l. pass_all ! refl ((tt, tt), ((tt, tt), ((tt, record { fits = are.1.1.0.1 }), ((tt, record { fits = are.1.1.1.0.1 }), ((tt, record { fits = are.1.1.1.1.0.1 }), tt))))) $ let Ev = env fn.locals l in
     use1 𝓛 (‵ (hidden_shr D κ (p, tt) b o) ⊛ ‵ (base.Fml.fhide (block.the_lent t (block_ptr b o) κ))) (lent_out 𝓛 block.struct block.the_codes block.the_heap block.the_lent κ t b o) $
@@ -45,7 +46,7 @@ fetch_add_spec 𝓤 𝓛 𝓜 𝓡 wired Mv _ g d _ =
     rewrite ! 1 (λ (ws : List Val). ‵ (cell_at q' D.mir ws b o)) (sym ev) refl $ move ! (1 ∷ 0 ∷ 2 ∷ []) $ shuts ! tt D q' (p, tt) vs b o $ move ! (3 ∷ 0 ∷ []) $
     shr_bor-open ! tt (tokens_halve 𝓛 α) (λ s. let out : ℕ → Fml = λ n. fsep (flft α s) (after 𝓛 view_coded packet_coded (Holds z.limits) p z s id v i f then n) in move ! (4 ∷ 5 ∷ 6 ∷ []) $ opens ! tt Sr b' o' (λ ts. move ! (1 ∷ []) $ fsplit ! $ rewrite ! 1 (λ (x : BlockId). ‵ (mine view_coded.code packet_coded x id v)) asked.0 refl $ move ! (9 ∷ 7 ∷ 1 ∷ []) $
     use3 𝓛 (raw (𝓣.C _ (vptr (block_of p) e ∷ vint w64 m0 ∷ seq_cst ∷ []) (λ u. mean 𝓛 (found out u))))
-    (via 𝓤 _ (steps_at 𝓛 view_coded packet_coded (Holds z.limits) p z s id v i f then (block_ptr (block_of p) e) (reached p z i k at asked.2) asked.1 asked.3) (adds 𝓛 𝓜 𝓡 (code.calls-core::raw_atomic::fetch_add 𝓡.env wired) (block_ptr (block_of p) e) m0 are.1.1.1.1.0.1 out)) $
+    (via 𝓤 _ (steps_at 𝓛 view_coded packet_coded (Holds z.limits) p z s id v i f then (Operation z.limits) (block_ptr (block_of p) e) (reached p z i k at asked.2) asked.1 asked.3) (adds 𝓛 𝓜 𝓡 (code.calls-core::raw_atomic::fetch_add 𝓡.env wired) (block_ptr (block_of p) e) m0 are.1.1.1.1.0.1 out)) $
     sets ! (agg ! (and_then ! (lit ! tt) (no_more !))) refl (tt, (record { fits = lit< tt }, tt)) $
     Calls-last ! (fm 𝓛 𝓜 𝓡) (found out) (and_then ! (get ! refl) (and_then ! (get ! refl) (and_then ! (get ! refl) (no_more !)))) (λ u. finds ! out (λ n fits.
     lands_last ! refl (tt, record { fits = fits }) $ exec ! 𝓣.C 𝓣.Λ Ev (tail fn.body) (at_ret Ev Post) $ sets ! (of_opd ! (get ! refl)) refl (tt, record { fits = fits }) $
