@@ -10,7 +10,9 @@ use Rattle.relay_main.specs.Steps.{StepsSo, steps_status, steps_end_line}
 
 -- the task that a command's name means
 abbrev pub task_of : List ℕ → Option Task
-task_of name = if bytes_eq name (codes "talk") then Some tasks.Talk else (if bytes_eq name (codes "steps") then Some tasks.Steps else None)
+task_of name =
+    if bytes_eq name (codes "talk") then Some tasks.Talk
+    else (if bytes_eq name (codes "steps") then Some tasks.Steps else (if bytes_eq name (codes "serve") then Some tasks.Serve else None))
 
 module _ {R W V : Type 0} (incoming : R → Option (List ℕ)) (read_failed : R → Bool) (written : W → Option (List ℕ)) (write_failed : W → Bool) (gives : V → ℕ → V → Type 0) where
   -- one connection is answered, and this status and this line tell how it ended

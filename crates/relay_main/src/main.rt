@@ -6,6 +6,7 @@ pub mod exchange;
 mod exchange_tests;
 #[cfg(test)]
 mod prompt_tests;
+mod serve;
 pub mod steps;
 pub mod talk;
 pub mod task;
@@ -13,10 +14,11 @@ pub mod task;
 mod tests;
 pub mod words;
 
-use clap::{Arg, ArgMatches, Command};
+use clap::{Arg, Command};
 use interleaved::{Reading, Writing};
 use rand::make_rng;
 use rand::rngs::StdRng;
+use serve::{serve, serve_command};
 use std::alloc::{AllocError, Global};
 use std::collections::hash_map::RandomState;
 use std::io;
@@ -28,7 +30,21 @@ fn main(rt: HostRuntime) -> anyhow::Result<ExitCode> {
     let alloc = rt.alloc();
     let words: Vec<String> = std::env::args(&rt)?.collect(alloc)?;
     match command(alloc)?.try_get_matches_from(words.as_slice()) {
-        Ok(matches) => run_command(&rt, &matches),
+        Ok(matches) => {
+            let Some((name, of_command)) = matches.subcommand() else {
+                return Ok(exit_code(COMMAND_LINE_FAULT));
+            };
+            match task_named(name) {
+                Some(Task::Talk) => talk_on_standard_streams(&rt, of_command.get_str("word")),
+                Some(Task::Steps) => steps_on_standard_streams(&rt),
+                Some(Task::Serve) => match serve(rt, alloc, of_command) {
+                    Ok(()) => Ok(exit_code(0)),
+                    Err(line) => Ok(fails(&rt, FAILED, line)),
+                },
+                // The command line accepts no other command.
+                None => Ok(exit_code(COMMAND_LINE_FAULT)),
+            }
+        }
         Err(error) => {
             // The status tells it, wherever the text goes.
             let _ = error.print(&rt);
@@ -54,7 +70,7 @@ const STEPS_EXAMPLE: &str =
 
 printf 'keep 2\\nseats 1\\np 41\\np 42\\np 43\\n0 attach\\n0 take\\n0 take\\n0 detach\\ngo 0 p*15 0 0*5 0\\n' | ./relay steps";
 
-/// The command line: `relay talk` and `relay steps`.
+/// The command line: `relay serve`, `relay talk` and `relay steps`.
 fn command<'a>(alloc: Global) -> Result<Command<'a>, AllocError> {
     let word = Arg::new(alloc, "word").long("word").value_name("HEX8").help(
         "The last eight hexadecimal digits of each session identifier [default: drawn at random]",
@@ -69,21 +85,9 @@ fn command<'a>(alloc: Global) -> Result<Command<'a>, AllocError> {
     Command::new(alloc, "relay")
         .about("A live relay for RTSP 1.0 (RFC 2326)")
         .subcommand_required(true)
+        .subcommand(serve_command(alloc)?)?
         .subcommand(talk)?
         .subcommand(steps)
-}
-
-/// Does what an accepted command line asks for.
-fn run_command(rt: &HostRuntime, matches: &ArgMatches) -> anyhow::Result<ExitCode> {
-    let Some((name, of_command)) = matches.subcommand() else {
-        return Ok(exit_code(COMMAND_LINE_FAULT));
-    };
-    match task_named(name) {
-        Some(Task::Talk) => talk_on_standard_streams(rt, of_command.get_str("word")),
-        Some(Task::Steps) => steps_on_standard_streams(rt),
-        // The command line accepts no other command.
-        None => Ok(exit_code(COMMAND_LINE_FAULT)),
-    }
 }
 
 /// Answers one connection over the standard streams, with this word in each session identifier, or with words that are

@@ -18,6 +18,8 @@ pub enum Task {
     Talk,
     /// `relay steps`: a ring's schedule is run.
     Steps,
+    /// `relay serve`: connections are served.
+    Serve,
 }
 
 /// The task that a command's name means. `None` where the program has no such command.
@@ -27,6 +29,7 @@ pub fn task_named(name: &str) -> Option<Task>
     match name {
         "talk" => Some(Task::Talk),
         "steps" => Some(Task::Steps),
+        "serve" => Some(Task::Serve),
         _ => None,
     }
 }

@@ -306,6 +306,7 @@ fn done(
     let ended = match task {
         Task::Talk => do_talk(host.alloc, host.hasher, source, sink, &mut FixedWord(7))?,
         Task::Steps => do_steps(host.alloc, source, sink)?,
+        Task::Serve => return Err(Fail::from("it runs over sockets")),
     };
     Ok(ended)
 }
@@ -376,7 +377,8 @@ fn a_task_ends_with_its_status_and_line(rt: HostRuntime) -> Result<(), Fail> {
 fn a_command_is_known_by_its_name(rt: HostRuntime) {
     assert_eq!(rt; task_named("talk"), Some(Task::Talk));
     assert_eq!(rt; task_named("steps"), Some(Task::Steps));
-    assert_eq!(rt; task_named("serve"), None);
+    assert_eq!(rt; task_named("serve"), Some(Task::Serve));
+    assert_eq!(rt; task_named("play"), None);
     assert!(rt; exit_code(1) == ExitCode::FAILURE);
     assert!(rt; exit_code(2) == ExitCode::from(2));
 }

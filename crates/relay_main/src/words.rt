@@ -1,20 +1,11 @@
 //! The words in session identifiers.
-ghost use Rattle.std.specs.Prelude.{◌≡◌, ℕ, IfSome, IfNone};
+ghost use Rattle.std.specs.Prelude.{◌≡◌, IfSome, IfNone};
 ghost use Rattle.rand_core.specs.Stream.{next_u32};
 ghost use Rattle.relay_main.specs.SessionWords.{IsNoWord, IsWord};
 
 use hex::FromHex;
 use rand_core::Rng;
-
-/// Where the random words in session identifiers come from.
-pub trait Words {
-    /// One call of `word` may lead from the one to the other and give this word.
-    ghost gives: { Self → ℕ → Self → Type 0 };
-
-    /// The next word.
-    fn word(&mut self) -> u32
-        ensures { gives self.old result self.new };
-}
+pub use relay_server::Words;
 
 /// Answers one word each time.
 #[derive(Clone, Copy, Debug)]

@@ -113,7 +113,12 @@ where
         frames: None,
         torn_down: false,
     };
-    let end = connection.serve(Intake::new(alloc, reader));
+    let mut intake = Intake::new(alloc, reader);
+    let end = connection.serve(&mut intake);
+    if let ConnectionEnd::StreamFault(_) = end {
+        connection.hand.wire.close_writes();
+        read_away(&mut intake.into_source());
+    }
     connection.hang_up(end)
 }
 
@@ -128,10 +133,10 @@ where
     H: HangUp + Drop + Send + Sync + 'static,
 {
     /// Answers request after request.
-    fn serve<S: Source + Drop>(&mut self, mut intake: Intake<S>) -> ConnectionEnd {
+    fn serve<S: Source + Drop>(&mut self, intake: &mut Intake<S>) -> ConnectionEnd {
         let rt = self.rt;
         for _ in rt.forever() {
-            let end = match self.next_message(&mut intake) {
+            let end = match self.next_message(intake) {
                 InStop::Message(request) => match self.answer(&request) {
                     Ok(()) => continue,
                     Err(end) => end,
@@ -376,6 +381,20 @@ fn skip_frames<S: Source + Drop>(rt: &impl Wait, intake: &mut Intake<S>) -> InSt
         };
     }
     unreachable!()
+}
+
+/// How many reads may follow a fault.
+const LAST_READS: u32 = 64;
+
+/// Reads what a peer still sends behind a fault, so that it isn't told of a reset before it has read the fixed text.
+fn read_away<S: Source>(source: &mut S) {
+    let mut buf = [0; 4096];
+    for _ in 0..LAST_READS {
+        match source.read(&mut buf) {
+            Ok(count) if count > 0 => {}
+            _ => return,
+        }
+    }
 }
 
 /// What the fixed text behind a fault says.

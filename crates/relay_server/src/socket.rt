@@ -4,11 +4,19 @@ use std::io;
 use std::io::{Read, Write};
 use std::net::{Shutdown, TcpStream};
 use std::sync::Arc;
+use std::time::Duration;
 
 /// What a connection runs over can be ended from any thread: a read or a write that waits returns then.
 pub trait HangUp {
     fn hang_up(&self);
+
+    /// Nothing more is written, and a read ends when the peer says nothing for a while. So the peer can read what was
+    /// written last before the connection is closed.
+    fn close_writes(&self);
 }
+
+/// How long the peer is waited for when nothing more is written, in milliseconds.
+const LAST_WAIT: u64 = 500;
 
 /// One of several owners of a socket, which is closed with the last of them.
 #[derive(Drop)]
@@ -46,5 +54,12 @@ impl HangUp for Socket {
     fn hang_up(&self) {
         // A socket that the peer has closed is shut down already.
         let _ = self.stream.shutdown(Shutdown::Both);
+    }
+
+    fn close_writes(&self) {
+        let _ = self
+            .stream
+            .set_read_timeout(Some(Duration::from_millis(LAST_WAIT)));
+        let _ = self.stream.shutdown(Shutdown::Write);
     }
 }

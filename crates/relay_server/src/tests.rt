@@ -261,7 +261,7 @@ fn a_seat_is_free_again_behind_a_pause(rt: HostRuntime) -> Result<(), Fail> {
 fn connections_that_cannot_be_served_are_told_so(rt: HostRuntime) -> Result<(), Fail> {
     let alloc = rt.alloc();
     let set = Set {
-        accept: 2,
+        accept: 3,
         seats: 1,
         hang_up_ended: false,
     };
@@ -271,6 +271,12 @@ fn connections_that_cannot_be_served_are_told_so(rt: HostRuntime) -> Result<(), 
         odd.ask(b"HELLO\r\n")?.as_slice() == b"RTSP/1.0 400 Bad Request\r\n\r\n".as_slice()
     );
     assert!(rt; odd.bytes(1)?.is_empty());
+    let mut long = Client::connect(&rt, alloc, server.addr)?;
+    long.say(Vec::from_elem(alloc, b'A', 20_000)?.as_slice())?;
+    assert!(rt;
+        long.head()?.as_slice() == b"RTSP/1.0 413 Request Entity Too Large\r\n\r\n".as_slice()
+    );
+    drop(long);
     for _ in 0..1024 {
         let _ = server.book.lock(&rt).connect();
     }
