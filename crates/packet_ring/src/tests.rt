@@ -178,33 +178,131 @@ fn idle_seat(rt: HostRuntime) -> Result<(), Fail> {
     Ok(())
 }
 
-/// The block has as many owners as there are tokens, whichever of them goes first.
+/// A publisher, a pass and a seat of one ring go in this order. Each is an owner of the block until it goes: the
+/// last one frees it, and once, or the address sanitizer that tests run under stops.
+fn drop_in(order: usize, publisher: Publisher, pass: Pass, seat: Subscriber) -> bool {
+    let all = Arc::strong_count(&publisher.ring) == 3;
+    let last = match order {
+        0 => {
+            drop((pass, seat));
+            Arc::strong_count(&publisher.ring)
+        }
+        1 => {
+            drop((seat, pass));
+            Arc::strong_count(&publisher.ring)
+        }
+        2 => {
+            drop((publisher, seat));
+            Arc::strong_count(&pass.ring)
+        }
+        3 => {
+            drop((seat, publisher));
+            Arc::strong_count(&pass.ring)
+        }
+        4 => {
+            drop((publisher, pass));
+            Arc::strong_count(&seat.ring)
+        }
+        _ => {
+            drop((pass, publisher));
+            Arc::strong_count(&seat.ring)
+        }
+    };
+    all && last == 1
+}
+
+/// The block has as many owners as there are tokens, in whatever order they go.
 #[test]
 fn last_token_frees_the_block(rt: HostRuntime) -> Result<(), Fail> {
-    for order in 0..3 {
+    for order in 0..6 {
         let (publisher, mut passes) = new(rt.alloc(), 1, 2, ROOM)?;
         let pass = passes.pop().ok_or("no pass")?;
         let seat = passes.pop().ok_or("no pass")?.attach();
         drop(passes);
-        assert!(rt; Arc::strong_count(&publisher.ring) == 3);
-        match order {
-            0 => {
-                drop(pass);
-                drop(seat);
-                assert!(rt; Arc::strong_count(&publisher.ring) == 1);
-            }
-            1 => {
-                drop(publisher);
-                drop(pass);
-                assert!(rt; Arc::strong_count(&seat.ring) == 1);
-            }
-            _ => {
-                drop(seat);
-                let _receipt = publisher.close();
-                assert!(rt; Arc::strong_count(&pass.ring) == 1);
-            }
-        }
+        assert!(rt; drop_in(order, publisher, pass, seat));
     }
+    Ok(())
+}
+
+/// A feed's close ends the log, too.
+#[test]
+fn feed_close_ends(rt: HostRuntime) -> Result<(), Fail> {
+    let (mut publisher, mut seat) = ring_of_one(rt.alloc()).ok_or("no ring")?;
+    let mut buf = [0; ROOM];
+    assert!(rt; sent(&mut publisher, b"A") == Ok(0));
+    Feed::close(publisher);
+    assert!(rt; took(&mut seat, &mut buf) == packet(0, 1) && buf[0] == b'A');
+    assert!(rt; took(&mut seat, &mut buf) == Some(Taken::Ended));
+    Ok(())
+}
+
+/// A publisher that is dropped leaves an open log.
+#[test]
+fn publisher_dropped_early(rt: HostRuntime) -> Result<(), Fail> {
+    let (mut publisher, mut seat) = ring_of_one(rt.alloc()).ok_or("no ring")?;
+    let mut buf = [0; ROOM];
+    assert!(rt; sent(&mut publisher, b"A") == Ok(0));
+    drop(publisher);
+    assert!(rt; took(&mut seat, &mut buf) == packet(0, 1) && buf[0] == b'A');
+    assert!(rt; took(&mut seat, &mut buf) == Some(Taken::Empty));
+    Ok(())
+}
+
+/// A subscriber that is dropped holds no pin, and the other seat goes on.
+#[test]
+fn subscriber_dropped_early(rt: HostRuntime) -> Result<(), Fail> {
+    let (mut publisher, mut passes) = new(rt.alloc(), 1, 2, ROOM)?;
+    let mut gone = passes.pop().ok_or("no pass")?.attach();
+    let mut seat = passes.pop().ok_or("no pass")?.attach();
+    let mut buf = [0; ROOM];
+    assert!(rt; sent(&mut publisher, b"A") == Ok(0));
+    assert!(rt; took(&mut gone, &mut buf) == packet(0, 1));
+    drop(gone);
+    for number in 1..5 {
+        assert!(rt; sent(&mut publisher, b"B") == Ok(number));
+    }
+    assert!(rt; took(&mut seat, &mut buf) == Some(Taken::Lost(4)));
+    assert!(rt; took(&mut seat, &mut buf) == packet(4, 1) && buf[0] == b'B');
+    Ok(())
+}
+
+/// A ring that keeps four packets, with two passes.
+fn ring_of_two(alloc: Global) -> Option<(Publisher, Pass, Pass)>
+    ensures { IfSome result (λ r. (r.1.ring ≡ r.0.ring) × (r.2.ring ≡ r.0.ring)) }
+{
+    let (publisher, mut passes) = new(alloc, 4, 2, ROOM).ok()?;
+    let first = passes.pop()?;
+    let second = passes.pop()?;
+    Some((publisher, first, second))
+}
+
+/// Two seats that meet know what either knew.
+#[test]
+fn seats_meet(rt: HostRuntime) -> Result<(), Fail> {
+    let (mut publisher, first, second) = ring_of_two(rt.alloc()).ok_or("no ring")?;
+    let mut early = first.attach();
+    let _number = publisher.publish(3, b"A").map_err(|_| "refused")?;
+    let mut late = second.attach();
+    assert!(rt; early.known() == 0 && late.known() == 1);
+    early.meet(&mut late);
+    assert!(rt; early.known() == 1 && late.known() == 1);
+    let mut buf = [0; ROOM];
+    assert!(rt; took(&mut early, &mut buf) == packet(0, 1));
+    assert!(rt; took(&mut early, &mut buf) == Some(Taken::Empty));
+    Ok(())
+}
+
+/// A pass learns of a receipt's log, and of an older one nothing more.
+#[test]
+fn pass_learns(rt: HostRuntime) -> Result<(), Fail> {
+    let (mut publisher, mut pass, _other) = ring_of_two(rt.alloc()).ok_or("no ring")?;
+    let old = publisher.publish(3, b"A").map_err(|_| "refused")?;
+    let new = publisher.publish(3, b"B").map_err(|_| "refused")?;
+    assert!(rt; pass.known() == 0);
+    pass.learn(&new);
+    assert!(rt; pass.known() == 2);
+    pass.learn(&old);
+    assert!(rt; pass.known() == 2 && pass.attach().cursor() == 2);
     Ok(())
 }
 
