@@ -136,7 +136,7 @@ module _ {L : Limits} (s : Ring.State) (t : State View (List ℕ)) (fits : Fits 
   idle : 0 ≡ holders s.keep s.seats j
   idle = none_hold s.keep s.seats j (λ i x at. hold_else x.phase (cursor x % (s.keep + 1)) j (λ h e. let n = fits.sound.slots.held i x at h in let f : (word s j).writing ≡ false = subst (λ (l : ℕ). (word s l).writing ≡ false) e n.1 in let w : (word s j).writing ≡ true = writes in absurd (cc)))
 
-  pub finish_goes : Goes (Holds L) (Operation L) t 0 me (suc j) (λ m. (m + k) % 2 ^ 64) (Finishes s.log s.publisher me)
+  pub finish_goes : Goes (Holds L) (Operation L) t 0 me (suc j) (λ m. (m + k) % 2 ^ 64) (λ _. Finishes s.log s.publisher me)
   finish_goes =
       let elem = away_there t.homes (suc j) (let n = near in omega arith) (is_away s j (get_or t.homes (suc j) away) (fits.homes j near) writes) in
       let now : HomeFits s' j (home 0 c) = (ap (λ (x : Slot). x.word.writing) there, idle, subst (HasCells c) (sym there) (sym has.size, take_front q (drop (length q) (slot s j).bytes) ∙ sym has.bytes)) in
@@ -172,12 +172,12 @@ module _ {L : Limits} (s : Ring.State) (t : State View (List ℕ)) (fits : Fits 
 
 pub finish_allows : {L : Limits} (units keep : ℕ) → keep + 2 ≡ units → (log : List (List ℕ)) (p : Publisher) (c : List ℕ) (seen : List (List ℕ)) (k : ℕ) → p.phase ≡ publishing.Begun → HasPacket c p.packet
     → k ≡ 131072 * (length log + 1 - (length log - keep)) - 65536
-    → let unit = suc (length log % (keep + 1)) in let me : Knows = record { view = inl (log, p); right = may_end unit c; seen = seen } in Allows (Holds L) (Operation L) units 0 me unit (λ m. (m + k) % 2 ^ 64) (Finishes log p me)
+    → let unit = suc (length log % (keep + 1)) in let me : Knows = record { view = inl (log, p); right = may_end unit c; seen = seen } in Allows (Holds L) (Operation L) units 0 me unit (λ m. (m + k) % 2 ^ 64) (λ _. Finishes log p me)
 finish_allows {L = L} units keep size log p c seen k within has adds t held long rooms at pre small =
     let s : Ring.State = held.0 in let fits : Fits L s t = held.1 in let many = units_of s t fits units long in let same : s.keep ≡ keep = omega arith in
     let e = publisher_there s t fits log p (record { view = inl (log, p); right = may_end (suc (length log % (keep + 1))) c; seen = seen }) refl at in
     let Out : ℕ → List (List ℕ) → Publisher → Type 0 = λ m l r. let unit = suc (length l % (m + 1)) in let me : Knows = record { view = inl (l, r); right = may_end unit c; seen = seen } in
-    Goes (Holds L) (Operation L) t 0 me unit (λ n. (n + k) % 2 ^ 64) (Finishes l r me) in
+    Goes (Holds L) (Operation L) t 0 me unit (λ n. (n + k) % 2 ^ 64) (λ _. Finishes l r me) in
     let base = finish_goes s t fits (rooms ∙ sym many) c seen pre (ap (λ (r : Publisher). r.phase) e.1 ∙ within) (subst (λ (r : Publisher). HasPacket c r.packet) (sym e.1) has) k
     (let n : length s.log ≡ length log = ap length e.0 in omega arith) in
     subst (λ (r : Publisher). Out keep log r) e.1 (subst (λ (l : List (List ℕ)). Out keep l s.publisher) e.0 (subst (λ (m : ℕ). Out m s.log s.publisher) same base))

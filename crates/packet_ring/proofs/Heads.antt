@@ -190,7 +190,7 @@ more_sized most (q ∷ log) p h last (suc n) l = more_sized most log p (λ k m. 
 
 -- an append
 pub appends : {L : Limits} (units : ℕ) (log : List (List ℕ)) (p : Publisher) (me : Knows) (new : ℕ) → me.view ≡ inl (log, p) → p.phase ≡ publishing.Finished → length log < 2 ^ 46 → new ≡ 2 * (length log + 1)
-    → Allows (Holds L) (Operation L) units 0 me 0 (λ _. new) (λ _. Appends log p me new)
+    → Allows (Holds L) (Operation L) units 0 me 0 (λ _. new) (λ _. Appends log p me)
 appends {L = L} units log p me new is within short stored t held long rooms at pre small =
     let s : Ring.State = held.0 in let fits : Fits L s t = held.1 in let e = publisher_there s t fits log p me is at in let more : List (List ℕ) = s.log ++ s.publisher.packet ∷ [] in
     let n : length s.log ≡ length log = ap length e.0 in let longer : length more ≡ length s.log + 1 = length-append s.log (s.publisher.packet ∷ []) in let all : t.log ≡ s.log = fits.log ∙ ap (λ (b : Bool). with_end b s.log) (fits.sound.slots.numbers.closed ∙ unclosed s.publisher.closed (λ was. is_finished (sym (fits.sound.phases.ended was) ∙ ap (λ (q : Publisher). q.phase) e.1 ∙ within))) in
@@ -225,7 +225,7 @@ appends {L = L} units log p me new is within short stored t held long rooms at p
 
 -- a close
 pub closes : {L : Limits} (units : ℕ) (log : List (List ℕ)) (p : Publisher) (me : Knows) (new : ℕ) → me.view ≡ inl (log, p) → p.phase ≡ publishing.Between → p.closed ≡ false → new ≡ 2 * length log + 1
-    → Allows (Holds L) (Operation L) units 0 me 0 (λ _. new) (λ _. Closes log p me new)
+    → Allows (Holds L) (Operation L) units 0 me 0 (λ _. new) (λ _. Closes log p me)
 closes {L = L} units log p me new is within unended stored t held long rooms at pre small =
     let s : Ring.State = held.0 in let fits : Fits L s t = held.1 in let e = publisher_there s t fits log p me is at in let n : length s.log ≡ length log = ap length e.0 in
     let all : t.log ≡ s.log = fits.log ∙ ap (λ (b : Bool). with_end b s.log) (fits.sound.slots.numbers.closed ∙ ap (λ (q : Publisher). q.closed) e.1 ∙ unended) in

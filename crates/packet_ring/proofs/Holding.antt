@@ -66,9 +66,9 @@ module _ (keep : ℕ) (x : Seat) (old : Knows) (found : ℕ) (first : Knows) (lo
   pub pinned_holds : (most unit word : ℕ) (pinned : Knows) → Pins most unit (seat_of first.view) first word pinned → word / 65536 ≡ 2 * (cursor x + 1) → Held most (seat_of first.view) pinned
   pinned_holds most unit word pinned step is = held most unit (seat_of first.view) first word pinned step (is ∙ ap (λ (k : ℕ). 2 * (k + 1)) (sym same_cursor))
 
-  pub gives : (most unit word last : ℕ) (pinned next : Knows) (step : Pins most unit (seat_of first.view) first word pinned) → Unpins (took (seat_of pinned.view) (next_packet pinned)) pinned last next
+  pub gives : (most unit word : ℕ) (pinned next : Knows) (step : Pins most unit (seat_of first.view) first word pinned) → Unpins (took (seat_of pinned.view) (next_packet pinned)) pinned next
       → HasSeen (cursor x) old.seen → slice_get pinned.seen (cursor (seat_of first.view)) ≡ Some (next_packet pinned) → GotPacket keep (found / 2) x (next_packet pinned) old next
-  gives most unit word last pinned next step end behind at = let p : List ℕ = next_packet pinned in let z = size in
+  gives most unit word pinned next step end behind at = let p : List ℕ = next_packet pinned in let z = size in
       let more : IsPrefix first.seen next.seen = prefix_trans first.seen pinned.seen next.seen step.grows end.grows in let look = looks keep x old found first (first_seen keep) load next more in let far = look.far (cursor x) behind in
       let there : cursor x < load.head.length = (let ne : load.head.length ≢ cursor x = λ e. other (size ∙ e) in omega arith) in record {
         head = load.head;

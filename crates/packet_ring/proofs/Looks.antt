@@ -75,7 +75,7 @@ module _ (keep : ℕ) (x : Seat) (old : Knows) (found : ℕ) (first : Knows) (lo
 
 -- a take's second load, after a pin that failed
 module _ (keep : ℕ) (x : Seat) (old : Knows) (found : ℕ) (first : Knows) (load : Loads keep (first_seen keep) x old found first) (is_found : seat_of first.view ≡ record (looked load.head x) { phase = seating.Found })
-    (most unit word last : ℕ) (pinned unpinned : Knows) (step : Pins most unit (seat_of first.view) first word pinned) (back : Unpins (missed (seat_of pinned.view)) pinned last unpinned)
+    (most unit word : ℕ) (pinned unpinned : Knows) (step : Pins most unit (seat_of first.view) first word pinned) (back : Unpins (missed (seat_of pinned.view)) pinned unpinned)
     (later : ℕ) (next : Knows) (load_again : Loads keep (second_seen keep) (seat_of unpinned.view) unpinned later next) where
   abbrev y : Seat
   y = record (looked load.head x) { phase = seating.Missed }

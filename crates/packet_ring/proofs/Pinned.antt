@@ -301,7 +301,7 @@ module _ (i : ℕ) (x : Seat) {L : Limits} (s : Ring.State) (t : State View (Lis
 
   -- the unpin of a pin that failed
   pub unpin_failed_goes : (seen : List (List ℕ)) → x.phase ≡ seating.Failed → IsPrefix seen t.log → get_or t.words (suc spot_of) 0 < 2 ^ 64
-      → Goes (Holds L) (Operation L) t (suc i) (record { view = inr x; right = no_right; seen = seen }) (suc spot_of) minus (Unpins (missed x) (record { view = inr x; right = no_right; seen = seen }))
+      → Goes (Holds L) (Operation L) t (suc i) (record { view = inr x; right = no_right; seen = seen }) (suc spot_of) minus (λ _. Unpins (missed x) (record { view = inr x; right = no_right; seen = seen }))
   unpin_failed_goes seen within pre small =
       let sound = unpin_failed_keeps s i x fits.sound there within in let e = failed_bits s i x (record { sound = fits.sound; there = there; within = within }) in
       let bits : word_bits fewer.word + 1 ≡ word_bits (word s spot_of) = ap (λ (w : Word). word_bits w + 1) (sym (new_word (missed x))) ∙ e in
@@ -335,7 +335,7 @@ module _ (i : ℕ) (x : Seat) {L : Limits} (s : Ring.State) (t : State View (Lis
 
   -- the unpin after the packet was read
   pub unpin_goes : (seen : List (List ℕ)) (cells p : List ℕ) → x.phase ≡ seating.Holding → slice_get s.log (cursor x) ≡ Some p → IsPrefix seen t.log → get_or t.words (suc spot_of) 0 < 2 ^ 64
-      → let me : Knows = record { view = inr x; right = may_read (suc spot_of) cells; seen = seen } in Goes (Holds L) (Operation L) t (suc i) me (suc spot_of) minus (Unpins (took x p) me)
+      → let me : Knows = record { view = inr x; right = may_read (suc spot_of) cells; seen = seen } in Goes (Holds L) (Operation L) t (suc i) me (suc spot_of) minus (λ _. Unpins (took x p) me)
   unpin_goes seen cells p within next pre small =
       let j : ℕ = spot_of in let x₁ : Seat = record x { phase = seating.Reading; length = length p; read = p } in let y : Seat = took x p in let s₁ : Ring.State = read_all s i x p in
       let inv₁ = read_all_keeps s i x p (record { sound = fits.sound; there = there; within = within }) next in let there₁ = read_place s.seats i x x₁ there in
@@ -388,16 +388,16 @@ module _ (units keep i : ℕ) (size : keep + 2 ≡ units) (x : Seat) (seen : Lis
   abbrev its_unit : ℕ
   its_unit = suc (cursor x % (keep + 1))
 
-  pub unpin_failed_allows : {L : Limits} → x.phase ≡ seating.Failed → let me : Knows = record { view = inr x; right = no_right; seen = seen } in Allows (Holds L) (Operation L) units (suc i) me its_unit (λ m. (m + (2 ^ 64 - 1)) % 2 ^ 64) (Unpins (missed x) me)
+  pub unpin_failed_allows : {L : Limits} → x.phase ≡ seating.Failed → let me : Knows = record { view = inr x; right = no_right; seen = seen } in Allows (Holds L) (Operation L) units (suc i) me its_unit (λ m. (m + (2 ^ 64 - 1)) % 2 ^ 64) (λ _. Unpins (missed x) me)
   unpin_failed_allows {L = L} within t held long rooms at pre small = let s : Ring.State = held.0 in let fits : Fits L s t = held.1 in let many = units_of s t fits units long in let same : s.keep ≡ keep = omega arith in
       let there = seat_there s.seats i x (ap (λ (vs : List View). get_elem? vs (suc i)) (sym fits.views) ∙ at) in let me : Knows = record { view = inr x; right = no_right; seen = seen } in
-      subst (λ (k : ℕ). let unit = suc (cursor x % (k + 1)) in get_or t.words unit 0 < 2 ^ 64 → Goes (Holds L) (Operation L) t (suc i) me unit (λ m. (m + (2 ^ 64 - 1)) % 2 ^ 64) (Unpins (missed x) me)) same (λ low. unpin_failed_goes i x s t fits there seen within pre low) small
+      subst (λ (k : ℕ). let unit = suc (cursor x % (k + 1)) in get_or t.words unit 0 < 2 ^ 64 → Goes (Holds L) (Operation L) t (suc i) me unit (λ m. (m + (2 ^ 64 - 1)) % 2 ^ 64) (λ _. Unpins (missed x) me)) same (λ low. unpin_failed_goes i x s t fits there seen within pre low) small
 
   pub unpin_allows : {L : Limits} (cells p : List ℕ) → x.phase ≡ seating.Holding → slice_get seen (cursor x) ≡ Some p
-      → let me : Knows = record { view = inr x; right = may_read its_unit cells; seen = seen } in Allows (Holds L) (Operation L) units (suc i) me its_unit (λ m. (m + (2 ^ 64 - 1)) % 2 ^ 64) (Unpins (took x p) me)
+      → let me : Knows = record { view = inr x; right = may_read its_unit cells; seen = seen } in Allows (Holds L) (Operation L) units (suc i) me its_unit (λ m. (m + (2 ^ 64 - 1)) % 2 ^ 64) (λ _. Unpins (took x p) me)
   unpin_allows {L = L} cells p within known t held long rooms at pre small = let s : Ring.State = held.0 in let fits : Fits L s t = held.1 in let many = units_of s t fits units long in let same : s.keep ≡ keep = omega arith in
       let there = seat_there s.seats i x (ap (λ (vs : List View). get_elem? vs (suc i)) (sym fits.views) ∙ at) in
       let knows = subst (λ (φ : SeatPhase). SeatKnows φ s.keep s.log x) within (fits.sound.phases.knows i x there) in let before = (fits.sound.slots.seen i x there).0 in let here = knows.0 in
       let next = get_without_end s.head.closed s.log (cursor x) p (omega arith) (subst (λ (l : List (List ℕ)). slice_get l (cursor x) ≡ Some p) fits.log (prefix_get seen t.log (cursor x) p pre known)) in
-      subst (λ (k : ℕ). let unit = suc (cursor x % (k + 1)) in let me : Knows = record { view = inr x; right = may_read unit cells; seen = seen } in get_or t.words unit 0 < 2 ^ 64 → Goes (Holds L) (Operation L) t (suc i) me unit (λ m. (m + (2 ^ 64 - 1)) % 2 ^ 64) (Unpins (took x p) me)) same
+      subst (λ (k : ℕ). let unit = suc (cursor x % (k + 1)) in let me : Knows = record { view = inr x; right = may_read unit cells; seen = seen } in get_or t.words unit 0 < 2 ^ 64 → Goes (Holds L) (Operation L) t (suc i) me unit (λ m. (m + (2 ^ 64 - 1)) % 2 ^ 64) (λ _. Unpins (took x p) me)) same
       (λ low. unpin_goes i x s t fits there seen cells p within next pre low) small

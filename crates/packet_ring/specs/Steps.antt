@@ -50,13 +50,13 @@ pub record Loads (keep : ℕ) (f : Head → Seat → Seat) (x : Seat) (me : Know
   pub grows : IsPrefix me.seen next.seen
 
 -- an append by the publisher: its log grows by the pending packet, and it has seen the whole of it
-pub record Appends (log : List (List ℕ)) (p : Publisher) (me : Knows) (stored : ℕ) (next : Knows) : Type 0 where
+pub record Appends (log : List (List ℕ)) (p : Publisher) (me next : Knows) : Type 0 where
   pub view : next.view ≡ inl (log ++ p.packet ∷ [], record p { phase = publishing.Between; packet = [] })
   pub right : next.right ≡ me.right
   pub seen : next.seen ≡ log ++ p.packet ∷ []
 
 -- a close by the publisher
-pub record Closes (log : List (List ℕ)) (p : Publisher) (me : Knows) (stored : ℕ) (next : Knows) : Type 0 where
+pub record Closes (log : List (List ℕ)) (p : Publisher) (me next : Knows) : Type 0 where
   pub view : next.view ≡ inl (log, record p { closed = true })
   pub right : next.right ≡ me.right
   pub seen : next.seen ≡ log ++ [] ∷ []
@@ -122,7 +122,7 @@ abbrev pub took : Seat → (packet : List ℕ) → Seat
 took x p = record x { phase = seating.Between; account = record x.account { taken = x.account.taken + 1 }; length = length p; read = p }
 
 -- an unpin by a seat, which leaves it this view
-pub record Unpins (y : Seat) (me : Knows) (found : ℕ) (next : Knows) : Type 0 where
+pub record Unpins (y : Seat) (me next : Knows) : Type 0 where
   pub view : next.view ≡ inr y
   pub right : next.right ≡ no_right
   pub grows : IsPrefix me.seen next.seen
@@ -137,7 +137,7 @@ pub record Begins (seats unit : ℕ) (log : List (List ℕ)) (p : Publisher) (pa
   pub grows : IsPrefix me.seen next.seen
 
 -- a finish by the publisher
-pub record Finishes (log : List (List ℕ)) (p : Publisher) (me : Knows) (found : ℕ) (next : Knows) : Type 0 where
+pub record Finishes (log : List (List ℕ)) (p : Publisher) (me next : Knows) : Type 0 where
   pub view : next.view ≡ inl (log, record p { phase = publishing.Finished; written = length p.packet })
   pub right : next.right ≡ no_right
   pub grows : IsPrefix me.seen next.seen

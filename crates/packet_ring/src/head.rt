@@ -33,13 +33,13 @@ impl Play for Losing {
 struct Appending;
 
 impl Play for Appending {
-    ghost then = { λ at me stored next. Appends (log_of me.view) (publisher_of me.view) me stored next };
+    ghost then = { λ at me stored next. Appends (log_of me.view) (publisher_of me.view) me next };
 }
 
 struct Closing;
 
 impl Play for Closing {
-    ghost then = { λ at me stored next. Closes (log_of me.view) (publisher_of me.view) me stored next };
+    ghost then = { λ at me stored next. Closes (log_of me.view) (publisher_of me.view) me next };
 }
 
 /// The load of an attachment.
@@ -88,7 +88,7 @@ pub(crate) fn append(block: &Shared, token: &mut Token, len: u64)
     requires publisher { IsPublisher token.old.number token.old.me publishing.Finished }
     requires len { (len ≡ length (log_of token.old.me.view)) × (len < 2 ^ 46) }
     ensures same { (token.new.id ≡ token.old.id) × (token.new.number ≡ token.old.number) }
-    ensures step { Appends (log_of token.old.me.view) (publisher_of token.old.me.view) token.old.me (2 * (len + 1)) token.new.me }
+    ensures step { Appends (log_of token.old.me.view) (publisher_of token.old.me.view) token.old.me token.new.me }
 {
     block.store::<Appending>(token, 0, 0, 2 * (len + 1));
 }
@@ -99,7 +99,7 @@ pub(crate) fn close(block: &Shared, token: &mut Token, len: u64)
     requires publisher { IsPublisher token.old.number token.old.me publishing.Between × ((publisher_of token.old.me.view).closed ≡ false) }
     requires len { (len ≡ length (log_of token.old.me.view)) × (len < 2 ^ 47) }
     ensures same { (token.new.id ≡ token.old.id) × (token.new.number ≡ token.old.number) }
-    ensures step { Closes (log_of token.old.me.view) (publisher_of token.old.me.view) token.old.me (2 * len + 1) token.new.me }
+    ensures step { Closes (log_of token.old.me.view) (publisher_of token.old.me.view) token.old.me token.new.me }
 {
     block.store::<Closing>(token, 0, 0, 2 * len + 1);
 }

@@ -76,7 +76,7 @@ impl Pass {
 
     /// How many packets of the log this seat has seen or was told of.
     pub fn known(&self) -> u64
-        ensures { result ≡ length self.now.seen }
+        ensures known { result ≡ length self.now.seen }
     {
         self.known
     }

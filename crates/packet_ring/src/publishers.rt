@@ -78,7 +78,7 @@ impl Publisher {
 
     /// Closes the log, and gives a receipt of it.
     pub fn close(self) -> Receipt
-        ensures { result ≡ receipted self.ring self.log true }
+        ensures receipt { result ≡ receipted self.ring self.log true }
     {
         let Publisher {
             ring,

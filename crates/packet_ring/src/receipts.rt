@@ -24,7 +24,7 @@ impl Model for Receipt {
 impl Receipt {
     /// The packet's number; the receipt of a close tells the log's length.
     pub fn number(&self) -> u64
-        ensures { result ≡ number_of self.now }
+        ensures number { result ≡ number_of self.now }
     {
         if self.closed {
             self.length

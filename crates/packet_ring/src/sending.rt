@@ -29,7 +29,7 @@ impl<N: Sends> Play for Beginning<N> {
 struct Finishing;
 
 impl Play for Finishing {
-    ghost then = { λ at me found next. Finishes (log_of me.view) (publisher_of me.view) me found next };
+    ghost then = { λ at me found next. Finishes (log_of me.view) (publisher_of me.view) me next };
 }
 
 /// The begin of the slot where the next packet goes, with the word that the publisher knows there. The
@@ -63,7 +63,7 @@ pub(crate) fn finish(block: &Shared, token: &mut Token, unit: usize, at: usize, 
     requires unit { (unit ≡ length (log_of token.old.me.view) % (block.now.id.units - 2 + 1) + 1) × (unit < block.now.id.units) × (at ≡ unit * (block.now.id.width + 1)) }
     requires more { k ≡ one_number * (length (log_of token.old.me.view) + 1 - (length (log_of token.old.me.view) - (block.now.id.units - 2))) - writing_bit }
     ensures same { (token.new.id ≡ token.old.id) × (token.new.number ≡ token.old.number) }
-    ensures step { Finishes (log_of token.old.me.view) (publisher_of token.old.me.view) token.old.me result token.new.me }
+    ensures step { Finishes (log_of token.old.me.view) (publisher_of token.old.me.view) token.old.me token.new.me }
 {
     block.fetch_add::<Finishing>(token, unit, at, k)
 }

@@ -16,13 +16,13 @@ impl Play for Pinning {
 struct Missing;
 
 impl Play for Missing {
-    ghost then = { λ at me found next. Unpins (missed (seat_of me.view)) me found next };
+    ghost then = { λ at me found next. Unpins (missed (seat_of me.view)) me next };
 }
 
 struct Taking;
 
 impl Play for Taking {
-    ghost then = { λ at me found next. Unpins (took (seat_of me.view) (next_packet me)) me found next };
+    ghost then = { λ at me found next. Unpins (took (seat_of me.view) (next_packet me)) me next };
 }
 
 /// The pin of the slot of the packet at the cursor.
@@ -42,7 +42,7 @@ pub(crate) fn unpin_failed(block: &Shared, token: &mut Token, unit: usize, at: u
     requires seat { IsSeat token.old.number token.old.me seating.Failed × (token.old.me.right ≡ no_right) }
     requires unit { (unit ≡ cursor (seat_of token.old.me.view) % (block.now.id.units - 2 + 1) + 1) × (unit < block.now.id.units) × (at ≡ unit * (block.now.id.width + 1)) }
     ensures same { (token.new.id ≡ token.old.id) × (token.new.number ≡ token.old.number) }
-    ensures step { Unpins (missed (seat_of token.old.me.view)) token.old.me result token.new.me }
+    ensures step { Unpins (missed (seat_of token.old.me.view)) token.old.me token.new.me }
 {
     block.fetch_sub::<Missing>(token, unit, at, 1)
 }
@@ -54,7 +54,7 @@ pub(crate) fn unpin(block: &Shared, token: &mut Token, unit: usize, at: usize) -
     requires unit { (unit ≡ cursor (seat_of token.old.me.view) % (block.now.id.units - 2 + 1) + 1) × (unit < block.now.id.units) × (at ≡ unit * (block.now.id.width + 1)) }
     requires packet { slice_get token.old.me.seen (cursor (seat_of token.old.me.view)) ≡ Some (next_packet token.old.me) }
     ensures same { (token.new.id ≡ token.old.id) × (token.new.number ≡ token.old.number) }
-    ensures step { Unpins (took (seat_of token.old.me.view) (next_packet token.old.me)) token.old.me result token.new.me }
+    ensures step { Unpins (took (seat_of token.old.me.view) (next_packet token.old.me)) token.old.me token.new.me }
 {
     block.fetch_sub::<Taking>(token, unit, at, 1)
 }

@@ -97,7 +97,7 @@ impl Subscriber {
 
     /// How many packets of the log this seat has seen or was told of.
     pub fn known(&self) -> u64
-        ensures { result ≡ length self.now.seen }
+        ensures known { result ≡ length self.now.seen }
     {
         self.known
     }

@@ -11,6 +11,6 @@ store-requires c = let z = c.args.block.now.id in let me = c.args.token.now.me i
   c.requires.same.0,
   c.requires.same.1,
   sym (zero-mul (z.width + 1)),
-  subst (λ (k : ℕ). Allows (Holds z.limits) (Operation z.limits) z.units k me 0 (λ m. n) (λ m. Appends log p me n)) (sym is.at)
+  subst (λ (k : ℕ). Allows (Holds z.limits) (Operation z.limits) z.units k me 0 (λ m. n) (λ m. Appends log p me)) (sym is.at)
       (appends z.units log p me n is.publisher is.within (subst (λ (k : ℕ). k < 2 ^ 46) c.requires.len.0 c.requires.len.1) (ap (λ (k : ℕ). 2 * (k + 1)) c.requires.len.0)),
 )

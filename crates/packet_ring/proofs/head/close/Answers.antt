@@ -11,5 +11,5 @@ store-requires c = let z = c.args.block.now.id in let me = c.args.token.now.me i
   c.requires.same.0,
   c.requires.same.1,
   sym (zero-mul (z.width + 1)),
-  subst (λ (k : ℕ). Allows (Holds z.limits) (Operation z.limits) z.units k me 0 (λ m. n) (λ m. Closes log p me n)) (sym is.at) (closes z.units log p me n is.publisher is.within c.requires.publisher.1 (ap (λ (k : ℕ). 2 * k + 1) c.requires.len.0)),
+  subst (λ (k : ℕ). Allows (Holds z.limits) (Operation z.limits) z.units k me 0 (λ m. n) (λ m. Closes log p me)) (sym is.at) (closes z.units log p me n is.publisher is.within c.requires.publisher.1 (ap (λ (k : ℕ). 2 * k + 1) c.requires.len.0)),
 )

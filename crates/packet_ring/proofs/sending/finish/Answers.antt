@@ -13,7 +13,7 @@ fetch_add-requires c = let z = c.args.block.now.id in let me : Knows = c.args.to
     let unit : suc (length log % (keep + 1)) ≡ c.args.unit = (let r : suc (length log % (keep + 1)) ≡ length log % (keep + 1) + 1 = omega arith in r) ∙ sym c.requires.unit.0 in
     let right : may_end (suc (length log % (keep + 1))) cells ≡ me.right = ap (λ (u : ℕ). may_end u cells) unit ∙ sym c.requires.publisher.1.1 in
     let m₀ : Knows = record { view = inl (log, p); right = may_end (suc (length log % (keep + 1))) cells; seen = me.seen } in let is_me : m₀ ≡ me = λ i. record { view = sym is.publisher i; right = right i; seen = me.seen } in
-    let Out : ℕ → ℕ → Knows → Type 0 = λ n u m. Allows (Holds z.limits) (Operation z.limits) z.units n m u (λ (l : ℕ). (l + k) % 2 ^ 64) (Finishes log p m) in (
+    let Out : ℕ → ℕ → Knows → Type 0 = λ n u m. Allows (Holds z.limits) (Operation z.limits) z.units n m u (λ (l : ℕ). (l + k) % 2 ^ 64) (λ _. Finishes log p m) in (
       c.requires.same.0,
       c.requires.unit.1,
       c.requires.unit.2,

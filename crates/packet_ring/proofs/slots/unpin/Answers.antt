@@ -17,8 +17,8 @@ fetch_sub-requires c = let z = c.args.block.now.id in let me : Knows = c.args.to
       c.requires.same.0,
       c.requires.unit.1,
       c.requires.unit.2,
-      subst (λ (n : ℕ). Allows (Holds z.limits) (Operation z.limits) z.units n me c.args.unit (λ m. (m + (2 ^ 64 - 1)) % 2 ^ 64) (Unpins (took x p) me)) (sym is.at)
-          (subst (λ (m : Knows). Allows (Holds z.limits) (Operation z.limits) z.units (suc is.place) m c.args.unit (λ m. (m + (2 ^ 64 - 1)) % 2 ^ 64) (Unpins (took x p) m)) is_me
-          (subst (λ (u : ℕ). Allows (Holds z.limits) (Operation z.limits) z.units (suc is.place) m₀ u (λ m. (m + (2 ^ 64 - 1)) % 2 ^ 64) (Unpins (took x p) m₀)) unit
+      subst (λ (n : ℕ). Allows (Holds z.limits) (Operation z.limits) z.units n me c.args.unit (λ m. (m + (2 ^ 64 - 1)) % 2 ^ 64) (λ _. Unpins (took x p) me)) (sym is.at)
+          (subst (λ (m : Knows). Allows (Holds z.limits) (Operation z.limits) z.units (suc is.place) m c.args.unit (λ m. (m + (2 ^ 64 - 1)) % 2 ^ 64) (λ _. Unpins (took x p) m)) is_me
+          (subst (λ (u : ℕ). Allows (Holds z.limits) (Operation z.limits) z.units (suc is.place) m₀ u (λ m. (m + (2 ^ 64 - 1)) % 2 ^ 64) (λ _. Unpins (took x p) m₀)) unit
           (unpin_allows z.units keep is.place (omega arith) x me.seen cells p is.within c.requires.packet))),
     )

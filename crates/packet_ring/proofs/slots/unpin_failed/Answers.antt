@@ -15,8 +15,8 @@ fetch_sub-requires c = let z = c.args.block.now.id in let me : Knows = c.args.to
       c.requires.same.0,
       c.requires.unit.1,
       c.requires.unit.2,
-      subst (λ (n : ℕ). Allows (Holds z.limits) (Operation z.limits) z.units n me c.args.unit (λ m. (m + (2 ^ 64 - 1)) % 2 ^ 64) (Unpins (missed x) me)) (sym is.at)
-          (subst (λ (m : Knows). Allows (Holds z.limits) (Operation z.limits) z.units (suc is.place) m c.args.unit (λ m. (m + (2 ^ 64 - 1)) % 2 ^ 64) (Unpins (missed x) m)) is_me
-          (subst (λ (u : ℕ). Allows (Holds z.limits) (Operation z.limits) z.units (suc is.place) m₀ u (λ m. (m + (2 ^ 64 - 1)) % 2 ^ 64) (Unpins (missed x) m₀)) unit
+      subst (λ (n : ℕ). Allows (Holds z.limits) (Operation z.limits) z.units n me c.args.unit (λ m. (m + (2 ^ 64 - 1)) % 2 ^ 64) (λ _. Unpins (missed x) me)) (sym is.at)
+          (subst (λ (m : Knows). Allows (Holds z.limits) (Operation z.limits) z.units (suc is.place) m c.args.unit (λ m. (m + (2 ^ 64 - 1)) % 2 ^ 64) (λ _. Unpins (missed x) m)) is_me
+          (subst (λ (u : ℕ). Allows (Holds z.limits) (Operation z.limits) z.units (suc is.place) m₀ u (λ m. (m + (2 ^ 64 - 1)) % 2 ^ 64) (λ _. Unpins (missed x) m₀)) unit
           (unpin_failed_allows z.units keep is.place (omega arith) x me.seen is.within))),
     )

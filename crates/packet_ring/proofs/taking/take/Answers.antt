@@ -38,8 +38,8 @@ returns-then-word-next-clause-takes c = let old : Knows = c.args.token.now.me in
     let other : found / 2 ≢ cursor x = λ e. c.if-count-next.false (e ∙ sym n) in let kept : found / 2 - keep ≤ cursor x = omega arith in
     let have : Held z.limits.1 (seat_of first.view) pinned = pinned_holds keep x old found first load other kept z.limits.1 (c.args.next % (c.args.keep + 1) + 1) c.pin-word.result pinned step (c.if-word-next.true ∙ ap (λ (k : ℕ). 2 * (k + 1)) n) in
     let next : Knows = c.unpin.new.token.me in
-    let end : Unpins (took (seat_of pinned.view) (next_packet pinned)) pinned c.unpin.result next = subst (λ (t : Token). Unpins (took (seat_of t.me.view) (next_packet t.me)) t.me c.unpin.result next) c.get-tag.ensures.same c.unpin.ensures.step in
-    let gave : GotPacket keep (found / 2) x (next_packet pinned) old next = gives keep x old found first load other kept z.limits.1 (c.args.next % (c.args.keep + 1) + 1) c.pin-word.result c.unpin.result pinned next step end (subst (λ (k : ℕ). HasSeen k old.seen) n c.requires.next.1) have.at in
+    let end : Unpins (took (seat_of pinned.view) (next_packet pinned)) pinned next = subst (λ (t : Token). Unpins (took (seat_of t.me.view) (next_packet t.me)) t.me next) c.get-tag.ensures.same c.unpin.ensures.step in
+    let gave : GotPacket keep (found / 2) x (next_packet pinned) old next = gives keep x old found first load other kept z.limits.1 (c.args.next % (c.args.keep + 1) + 1) c.pin-word.result pinned next step end (subst (λ (k : ℕ). HasSeen k old.seen) n c.requires.next.1) have.at in
     let p : List ℕ = c.get-tag.result.0 ∷ take c.get-tag.result.1 c.get-tag.new.buf in let packet : next_packet pinned ≡ p = sym c.get-tag.ensures.packet in let same : keep ≡ c.args.keep = omega arith in
     (n, subst (λ (k : ℕ). GotPacket k (found / 2) x p old next) same (subst (λ (q : List ℕ). GotPacket keep (found / 2) x q old next) packet gave))
 
@@ -76,5 +76,5 @@ returns-clause-takes c = let old : Knows = c.args.token.now.me in let x : Seat =
     let other : found / 2 ≢ cursor x = λ e. c.if-count-next.false (e ∙ sym n) in let kept : found / 2 - keep ≤ cursor x = omega arith in let same : keep ≡ c.args.keep = omega arith in
     let count : later / 2 - keep - cursor x ≡ c.saturating_sub.result - c.args.next = omega arith in
     subst (λ (u : ℕ × ℕ). LostSome u.0 u.1 (later / 2) x old c.load_second-later.new.token.me) (λ i. (same i, count i))
-    (loses_later keep x old found first load (seat_found keep x old found first load other kept) z.limits.1 (c.args.next % (c.args.keep + 1) + 1) c.pin-word.result c.unpin_failed.result pinned c.unpin_failed.new.token.me step c.unpin_failed.ensures.step later c.load_second-later.new.token.me c.load_second-later.ensures.step
+    (loses_later keep x old found first load (seat_found keep x old found first load other kept) z.limits.1 (c.args.next % (c.args.keep + 1) + 1) c.pin-word.result pinned c.unpin_failed.new.token.me step c.unpin_failed.ensures.step later c.load_second-later.new.token.me c.load_second-later.ensures.step
     other kept (subst (λ (k : ℕ). HasSeen k old.seen) n c.requires.next.1))
