@@ -19,20 +19,20 @@ use Rattle.ring_steps.specs.Step.{Outcome, PublisherActs, is_known, next_place, 
 use Rattle.ring_steps.proofs.Places.{at_set, place_within}
 use Rattle.ring_steps.proofs.Begins.{begin_keeps, refused_step}
 use Rattle.ring_steps.proofs.Bits.{known_bits, begin_bits, pins_fit, words_apart}
-use Rattle.packet_ring.specs.Table.{State, Home, away, home, Right, no_right, Act, keeps, begins, homes_after, stepped, Goes, Allows}
-use Rattle.packet_ring.specs.Rule.{Limits, IsSized, IsPending, View, Knows, Holds, Fits, HomeFits, HasCells, hold_of, holders}
+use Rattle.packet_ring.specs.Table.{State, Access, exclusive, readable, Right, no_right, Act, keeps, begins, accesses_after, stepped, Goes, Allows}
+use Rattle.packet_ring.specs.Rule.{Limits, IsSized, IsPending, View, Knows, Holds, Fits, AccessFits, HasCells, hold_of, holders}
 use Rattle.packet_ring.specs.Operation.{Operation}
 use Rattle.ring_steps.specs.declared.calls.PublisherCall.TheVariants.{Publish}
 use Rattle.ring_steps.specs.declared.views.PublisherPhase.{PublisherPhase}
 use Rattle.ring_steps.specs.RingSteps.{by_publisher}
 use Rattle.packet_ring.specs.Steps.{Begins}
 use Rattle.packet_ring.proofs.Heads.{map_set, set_same, units_of, publisher_there}
-use Rattle.packet_ring.proofs.Pinned.{word_at, at_home, home_there, elem_within}
+use Rattle.packet_ring.proofs.Pinned.{word_at, access_at, readable_there, elem_within}
 
 -- a step by the publisher on the word of the slot at place j, which changes that slot and the publisher's view
 pub written_kept : {L : Limits} (s : Ring.State) (t : State View (List ℕ)) → Fits L s t → (j : ℕ) (p : Publisher) (b : Slot) (v : ℕ) (r : Right) (a : Act) → IsPending L.1 p.phase p.packet → Invariant (with_publisher (with_slot s j b) p) → v ≡ word_bits b.word
-    → ((k : ℕ) → k ≤ s.keep → HomeFits (with_publisher (with_slot s j b) p) k (get_or (homes_after t.homes r a) (suc k) away)) → Fits L (with_publisher (with_slot s j b) p) (stepped t (suc j) v 0 r (inl (s.log, p)) a t.log)
-written_kept s t fits j p b v r a pending sound bits homes = record {
+    → ((k : ℕ) → k ≤ s.keep → AccessFits (with_publisher (with_slot s j b) p) k (get_or (accesses_after t.accesses r a) (suc k) exclusive)) → Fits L (with_publisher (with_slot s j b) p) (stepped t (suc j) v 0 r (inl (s.log, p)) a t.log)
+written_kept s t fits j p b v r a pending sound bits accesses = record {
   sound = sound;
   few = fits.few;
   many = fits.many;
@@ -42,7 +42,7 @@ written_kept s t fits j p b v r a pending sound bits homes = record {
   words = ap (λ (ws : List ℕ). set ws (suc j) v) fits.words ∙ ap (λ (ws : List ℕ). head_bits s.head ∷ ws) (ap (set (map (λ (x : Slot). word_bits x.word) s.slots) j) bits ∙ map_set (λ (x : Slot). word_bits x.word) s.slots j b);
   views = ap (λ (vs : List View). set vs 0 (inl (s.log, p))) fits.views;
   log = fits.log;
-  homes = homes;
+  accesses = accesses;
 }
 
 -- who holds pins
@@ -59,13 +59,13 @@ holders_pin : (keep : ℕ) (xs : List Seat) (j : ℕ) → holders keep xs j ≤ 
 holders_pin keep [] j = omega arith
 holders_pin keep (x ∷ xs) j = let h = holders_pin keep xs j in let o = hold_pins x.phase (cursor x % (keep + 1)) j in omega arith
 
-same_home : (s : Ring.State) (p : Publisher) (j : ℕ) (h : Home) → HomeFits s j h → HomeFits (with_publisher s p) j h
-same_home s p j away fit = fit
-same_home s p j (home m c) fit = fit
+same_access : (s : Ring.State) (p : Publisher) (j : ℕ) (h : Access) → AccessFits s j h → AccessFits (with_publisher s p) j h
+same_access s p j exclusive fit = fit
+same_access s p j (readable m c) fit = fit
 
-pub other_home : (s : Ring.State) (j : ℕ) (b : Slot) (p : Publisher) (k : ℕ) (h : Home) → slot (with_publisher (with_slot s j b) p) k ≡ slot s k → HomeFits s k h → HomeFits (with_publisher (with_slot s j b) p) k h
-other_home s j b p k away e fit = ap (λ (u : Slot). u.word.writing) e ∙ fit
-other_home s j b p k (home m c) e fit = (ap (λ (u : Slot). u.word.writing) e ∙ fit.0, fit.1, subst (HasCells c) (sym e) fit.2)
+pub other_access : (s : Ring.State) (j : ℕ) (b : Slot) (p : Publisher) (k : ℕ) (h : Access) → slot (with_publisher (with_slot s j b) p) k ≡ slot s k → AccessFits s k h → AccessFits (with_publisher (with_slot s j b) p) k h
+other_access s j b p k exclusive e fit = ap (λ (u : Slot). u.word.writing) e ∙ fit
+other_access s j b p k (readable m c) e fit = (ap (λ (u : Slot). u.word.writing) e ∙ fit.0, fit.1, subst (HasCells c) (sym e) fit.2)
 
 module _ {L : Limits} (s : Ring.State) (t : State View (List ℕ)) (fits : Fits L s t) (q : List ℕ) (seen : List (List ℕ)) (pre : IsPrefix seen t.log)
     (within : s.publisher.phase ≡ publishing.Between) (open_ : s.publisher.closed ≡ false) (fit : IsSized L.1 q) where
@@ -116,7 +116,7 @@ module _ {L : Limits} (s : Ring.State) (t : State View (List ℕ)) (fits : Fits 
         words = ap (set t.words (suc j)) kept_word ∙ set_same t.words (suc j) ∙ fits.words;
         views = ap (λ (vs : List View). set vs 0 (inl (s.log, p'))) fits.views;
         log = fits.log;
-        homes = λ k low. same_home s p' k (get_or t.homes (suc k) away) (fits.homes k low);
+        accesses = λ k low. same_access s p' k (get_or t.accesses (suc k) exclusive) (fits.accesses k low);
       } in (
         inl (s.log, p'),
         keeps,
@@ -135,14 +135,14 @@ module _ {L : Limits} (s : Ring.State) (t : State View (List ℕ)) (fits : Fits 
       let swapped : swap (get_or t.words (suc j) 0) ≡ known + 2 ^ 16 = ap (λ (d : Bool). either d (known + 2 ^ 16) (get_or t.words (suc j) 0)) (eq-eqb (get_or t.words (suc j) 0) known hit) in
       let sound : Invariant s' = sound_by true is in let wide = fits.sound.phases.width in let low = near in let there : slot s' j ≡ b = get_or-set_same s.slots j b fresh_slot (omega arith) in
       let bits : word_bits b.word ≡ known + 2 ^ 16 = ap (λ (u : Slot). word_bits u.word) (sym there) ∙ subst (λ (d : Bool). word_bits (word (if d then begun s q else refused s).state j) ≡ known + 2 ^ 16) is (begin_bits s q (record { sound = fits.sound; within = within }) is) in
-      let H = at_home s j (get_or t.homes (suc j) away) (fits.homes j near) (ap (λ (u : Word). u.writing) same) in let c : List ℕ = H.cells in
+      let H = access_at s j (get_or t.accesses (suc j) exclusive) (fits.accesses j near) (ap (λ (u : Word). u.writing) same) in let c : List ℕ = H.cells in
       let none : H.parts ≡ 0 = let h = holders_pin s.keep s.seats j in let f : H.parts ≡ holders s.keep s.seats j = H.fits.1 in let g : w.pins ≡ pins_of s.keep s.seats j = fits.sound.slots.pins j near in let z : w.pins ≡ 0 = ap (λ (u : Word). u.pins) same in omega arith in
-      let elem = home_there t.homes (suc j) 0 c (H.is ∙ ap (λ (m : ℕ). home m c) none) in
-      let homes' : (k : ℕ) → k ≤ s.keep → HomeFits s' k (get_or (set t.homes (suc j) away) (suc k) away) = λ k small. elim (at_set t.homes (suc j) (suc k) away away (elem_within t.homes (suc j) (home 0 c) elem)) [
-        | inl f ↦ let at : k ≡ j = let g = f.0 in omega arith in subst (HomeFits s' k) (sym f.1) (subst (λ (l : ℕ). HomeFits s' l away) (sym at) (ap (λ (u : Slot). u.word.writing) there))
-        | inr f ↦ subst (HomeFits s' k) (sym f.1) (other_home s j b p' k (get_or t.homes (suc k) away) (get_or-set_other s.slots j k b fresh_slot (λ g. f.0 (ap suc g))) (fits.homes k small))
+      let elem = readable_there t.accesses (suc j) 0 c (H.is ∙ ap (λ (m : ℕ). readable m c) none) in
+      let accesses' : (k : ℕ) → k ≤ s.keep → AccessFits s' k (get_or (set t.accesses (suc j) exclusive) (suc k) exclusive) = λ k small. elim (at_set t.accesses (suc j) (suc k) exclusive exclusive (elem_within t.accesses (suc j) (readable 0 c) elem)) [
+        | inl f ↦ let at : k ≡ j = let g = f.0 in omega arith in subst (AccessFits s' k) (sym f.1) (subst (λ (l : ℕ). AccessFits s' l exclusive) (sym at) (ap (λ (u : Slot). u.word.writing) there))
+        | inr f ↦ subst (AccessFits s' k) (sym f.1) (other_access s j b p' k (get_or t.accesses (suc k) exclusive) (get_or-set_other s.slots j k b fresh_slot (λ g. f.0 (ap suc g))) (fits.accesses k small))
       ] in
-      let kept = written_kept s t fits j p' b (swap (get_or t.words (suc j) 0)) no_right (begins (suc j) c) fit sound (swapped ∙ sym bits) homes' in (
+      let kept = written_kept s t fits j p' b (swap (get_or t.words (suc j) 0)) no_right (begins (suc j) c) fit sound (swapped ∙ sym bits) accesses' in (
         inl (s.log, p'),
         begins (suc j) c,
         t.log,

@@ -25,8 +25,8 @@ use denote.Steps.{nothing}
 use Rattle.core.proofs.cell.Borrows.{by_one}
 use Rattle.counted_slot.specs.Counting.{tag, share, parts}
 use Rattle.counted_slot.proofs.Parts.{parts_in, parts_cut, parts_glue, parts_whole, parts_agree, renames}
-use Rattle.packet_ring.specs.Table.{away, home}
-use Rattle.packet_ring.specs.Lent.{Spot, cells_row, held, tracked, shown, waits, lasting, round, reader, at_home}
+use Rattle.packet_ring.specs.Table.{exclusive, readable}
+use Rattle.packet_ring.specs.Lent.{Spot, cells_row, held, tracked, shown, waits, lasting, round, reader, access_at}
 
 module _ {M : Type 1} {𝓤 : Ura M} (𝓛 : Logic 𝓤) (t : Spot) where
   open 𝓛 use {H, A}
@@ -102,16 +102,16 @@ module _ {M : Type 1} {𝓤 : Ura M} (𝓛 : Logic 𝓤) (t : Spot) where
   with_parts m x a = fsep (parts t.round_name a (2 ^ 63 - m)) (lasting t a x)
 
   -- one part of the round goes to a reader
-  pub pinned : (m : ℕ) (x : List ℕ) → suc m < 2 ^ 63 → ⟦ at_home t (home m x) ⟧ ⊢ ⟦ at_home t (home (suc m) x) ⟧ ∗ ⟦ reader t x ⟧
-  pinned m x small = qed 𝓛 (‵ (at_home t (home m x)) ∷ []) ∵ fpick ! (λ a. fsplit ! $
+  pub pinned : (m : ℕ) (x : List ℕ) → suc m < 2 ^ 63 → ⟦ access_at t (readable m x) ⟧ ⊢ ⟦ access_at t (readable (suc m) x) ⟧ ∗ ⟦ reader t x ⟧
+  pinned m x small = qed 𝓛 (‵ (access_at t (readable m x)) ∷ []) ∵ fpick ! (λ a. fsplit ! $
       use1 𝓛 (‵ (parts t.round_name a 1) ⊛ ‵ (parts t.round_name a (2 ^ 63 - suc m))) (parts_cut 𝓛 t.round_name a (2 ^ 63 - m) 1 (2 ^ 63 - suc m) (omega arith) (omega arith) (omega arith) (omega arith)) $ split ! $
       move ! (2 ∷ []) $ fsplit ! $ use1 𝓛 (‵ (shown t a x) ⊛ ‵ (shown t a x)) (contraction 𝓛 (shared_of R x t.block t.offset) (row_laws x t.block t.offset) (a ∷ α)) $ split ! $
       move ! (0 ∷ 2 ∷ []) $ fjoin ! $ move ! (3 ∷ 0 ∷ []) $ fjoin ! $ fpack ! ℕ (with_parts (suc m) x) a $ move ! (0 ∷ 2 ∷ 1 ∷ []) $ frame ! $ fjoin ! $
       fpack ! ℕ (λ b. fsep (parts t.round_name b 1) (shown t b x)) a $ done !)
 
   -- and comes back
-  pub unpinned : (m : ℕ) (x y : List ℕ) → suc m < 2 ^ 63 → ⟦ at_home t (home (suc m) x) ⟧ ∗ ⟦ reader t y ⟧ ⊢ ⟦ at_home t (home m x) ⟧
-  unpinned m x y small = qed 𝓛 (‵ (at_home t (home (suc m) x)) ∷ ‵ (reader t y) ∷ []) ∵ fpick ! (λ a. fsplit ! $ move ! (2 ∷ []) $ fpick ! (λ b. fsplit ! $ move ! (0 ∷ 2 ∷ []) $
+  pub unpinned : (m : ℕ) (x y : List ℕ) → suc m < 2 ^ 63 → ⟦ access_at t (readable (suc m) x) ⟧ ∗ ⟦ reader t y ⟧ ⊢ ⟦ access_at t (readable m x) ⟧
+  unpinned m x y small = qed 𝓛 (‵ (access_at t (readable (suc m) x)) ∷ ‵ (reader t y) ∷ []) ∵ fpick ! (λ a. fsplit ! $ move ! (2 ∷ []) $ fpick ! (λ b. fsplit ! $ move ! (0 ∷ 2 ∷ []) $
       use2 𝓛 (given (b ≡ a) (‵ (parts t.round_name b 1) ⊛ ‵ (parts t.round_name a (2 ^ 63 - suc m)))) (parts_agree 𝓛 t.round_name b a 1 (2 ^ 63 - suc m)) $ learn ! (λ same. split ! $
       rewrite ! 0 (λ (c : ℕ). ‵ (parts t.round_name c 1)) same refl $
       use2 𝓛 (‵ (parts t.round_name a (1 + (2 ^ 63 - suc m)))) (parts_glue 𝓛 t.round_name a 1 (2 ^ 63 - suc m) (omega arith) (omega arith)) $
@@ -119,14 +119,14 @@ module _ {M : Type 1} {𝓤 : Ura M} (𝓛 : Logic 𝓤) (t : Spot) where
       move ! (0 ∷ 2 ∷ []) $ fjoin ! $ fpack ! ℕ (with_parts m x) a $ keep ! (0 ∷ []) $ done !)))
 
   -- the whole round goes to a writer
-  pub begun : (x : List ℕ) → ⟦ at_home t (home 0 x) ⟧ ⊢ ⟦ at_home t away ⟧ ∗ ⟦ round t x ⟧
-  begun x = qed 𝓛 (‵ (at_home t (home 0 x)) ∷ []) ∵ fpick ! (λ a. fsplit ! $
+  pub begun : (x : List ℕ) → ⟦ access_at t (readable 0 x) ⟧ ⊢ ⟦ access_at t exclusive ⟧ ∗ ⟦ round t x ⟧
+  begun x = qed 𝓛 (‵ (access_at t (readable 0 x)) ∷ []) ∵ fpick ! (λ a. fsplit ! $
       use1 𝓛 (‵ (share t.round_name a full_share)) (parts_whole 𝓛 t.round_name a) $ fsplit ! $ move ! (1 ∷ []) $
       fpack ! ℕ (tag t.round_name full_share) a $ frame ! $ fjoin ! $ fpack ! ℕ (λ b. fsep (flft (b ∷ []) full_share) (lasting t b x)) a $ done !)
 
   -- and a round comes back
-  pub finished : (x : List ℕ) → ⟦ at_home t away ⟧ ∗ ⟦ round t x ⟧ ⊢ upd 𝓤 ⟦ at_home t (home 0 x) ⟧
-  finished x = let Z : Pr = ⟦ at_home t (home 0 x) ⟧ in qed 𝓛 (‵ (at_home t away) ∷ ‵ (round t x) ∷ []) ∵ fpick ! (λ c. move ! (1 ∷ []) $ fpick ! (λ a. fsplit ! $ move ! (2 ∷ []) $
+  pub finished : (x : List ℕ) → ⟦ access_at t exclusive ⟧ ∗ ⟦ round t x ⟧ ⊢ upd 𝓤 ⟦ access_at t (readable 0 x) ⟧
+  finished x = let Z : Pr = ⟦ access_at t (readable 0 x) ⟧ in qed 𝓛 (‵ (access_at t exclusive) ∷ ‵ (round t x) ∷ []) ∵ fpick ! (λ c. move ! (1 ∷ []) $ fpick ! (λ a. fsplit ! $ move ! (2 ∷ []) $
       use1 𝓛 (raw (upd 𝓤 ⟦ tag t.round_name full_share a ⟧)) (renames 𝓛 t.round_name c a) $ settle 𝓛 Z (‵ (tag t.round_name full_share a)) $ suffices ! _ (upd_i 𝓤 Z) $
       move ! (1 ∷ 0 ∷ []) $ fjoin ! $ use1 𝓛 (‵ (parts t.round_name a (2 ^ 63 - 0))) (parts_in 𝓛 t.round_name a (2 ^ 63) full_share (Counts-all 63)) $
       fjoin ! $ fpack ! ℕ (with_parts 0 x) a $ done !))

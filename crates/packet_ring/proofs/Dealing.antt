@@ -27,8 +27,8 @@ use Rattle.counted_slot.specs.Counting.{rounds, tag, parts}
 use Rattle.counted_slot.proofs.Parts.{parts_in}
 use Rattle.atomic_table.specs.Seated.{word, strip, halved, seen, unused, roster}
 use Rattle.atomic_table.proofs.Roster.{resets}
-use Rattle.packet_ring.specs.Table.{Home, home, State, flat, AreWide, opening}
-use Rattle.packet_ring.specs.Lent.{BlockId, Spot, spot, age, start, stride, unit_at, row, cells_row, held, tracked, waits, lasting, round, at_home, shelf, owed, Placed, mine, waiting, Keeps, standing, inner, common, rights, block_owns}
+use Rattle.packet_ring.specs.Table.{Access, readable, State, flat, AreWide, opening}
+use Rattle.packet_ring.specs.Lent.{BlockId, Spot, spot, block_life, start, stride, unit_at, row, cells_row, held, tracked, waits, lasting, round, access_at, accesses_row, owed, Placed, mine, waiting, Keeps, standing, inner, common, rights, block_owns}
 use Rattle.packet_ring.proofs.Cells.{freshly}
 
 -- how many bytes the units are
@@ -86,7 +86,7 @@ module _ {M : Type 1} {𝓤 : Ura M} (𝓛 : Logic 𝓤) where
     place e n = record { life = κ; width = w; block = b; offset = e + 8; round_name = n.0; value_name = n.1 }
 
     abbrev one : ℕ → List ℕ → ℕ × ℕ → Fml
-    one e x n = fsep (at_home (place e n) (home 0 x)) (flent κ (held (place e n)))
+    one e x n = fsep (access_at (place e n) (readable 0 x)) (flent κ (held (place e n)))
 
     abbrev laid : List (ℕ × List ℕ) → List (ℕ × ℕ) → ℕ → Fml
     laid [] ns e = ftrue
@@ -107,8 +107,8 @@ module _ {M : Type 1} {𝓤 : Ura M} (𝓛 : Logic 𝓤) where
     abbrev first : List (ℕ × List ℕ) → List ℕ
     first us = map (λ u. u.0) us
 
-    abbrev homes : List (ℕ × List ℕ) → List Home
-    homes us = map (λ u. home 0 u.1) us
+    abbrev accesses : List (ℕ × List ℕ) → List Access
+    accesses us = map (λ u. readable 0 u.1) us
 
     lends : (s : Share) (us : List (ℕ × List ℕ)) (e : ℕ) → AreWide w us → ⟦ side (flat us) b e ⟧ ∗ A.lft κ s ⊢ H.⇛ ((⟦ row d b e (first us) ⟧ ∗ ex 𝓤 (λ (ns : List (ℕ × ℕ)). ⟦ laid us ns e ⟧)) ∗ A.lft κ s)
     lends s [] e wide = qed 𝓛 (‵ ftrue ∷ ‵ (flft κ s) ∷ []) ∵ updating ! $ now ! $ let F : List (ℕ × ℕ) → Pr = λ ns. ⟦ laid [] ns e ⟧ in nothing ! $ use1 𝓛 (raw (ex 𝓤 F)) (ex_i 𝓤 F []) $ move ! (1 ∷ 0 ∷ []) $ join ! $ done !
@@ -145,9 +145,9 @@ module _ {M : Type 1} {𝓤 : Ura M} (𝓛 : Logic 𝓤) where
     hands (v ∷ vs) k = qed 𝓛 (‵ none_seen ∷ ‵ (seen cv.code γ k three_quarters v) ∷ ‵ (tokens (suc k) vs) ∷ []) ∵ use1 𝓛 (‵ none_seen ⊛ ‵ none_seen) (at_least_dup (prefixes ce) 𝓛 z.log_name []) $ split ! $
         move ! (0 ∷ 3 ∷ []) $ use2 𝓛 (‵ (waiting cv.code ce z (suc k) vs)) (hands vs (suc k)) $ nothing ! $ move ! (2 ∷ 0 ∷ []) $ fjoin ! $ move ! (2 ∷ 0 ∷ []) $ fjoin ! $ move ! (0 ∷ 1 ∷ []) $ done !
 
-    -- each unit's cells are at home, and are owed to the block
+    -- each unit's cells are readable, and are owed to the block
     sorts : (us : List (ℕ × List ℕ)) (ns : List (ℕ × ℕ)) (k e : ℕ) → ((i : ℕ) → spot z (k + i) ≡ place z.atom z.width z.block (i * stride z + e) (get_or ns i (0, 0)))
-        → ⟦ laid z.atom z.width z.block us ns e ⟧ ⊢ ⟦ shelf z k (map (λ u. home 0 u.1) us) ⟧ ∗ ⟦ owed z k (length us) ⟧
+        → ⟦ laid z.atom z.width z.block us ns e ⟧ ⊢ ⟦ accesses_row z k (map (λ u. readable 0 u.1) us) ⟧ ∗ ⟦ owed z k (length us) ⟧
     sorts [] ns k e h = base.Logic.emp∗ 𝓤 (emp 𝓤)
     sorts (u ∷ us) [] k e h = never_e 𝓤 _
     sorts (u ∷ us) (n ∷ ns) k e h =
@@ -155,8 +155,8 @@ module _ {M : Type 1} {𝓤 : Ura M} (𝓛 : Logic 𝓤) where
         let next : (i : ℕ) → spot z (suc k + i) ≡ place z.atom z.width z.block (i * stride z + (e + stride z)) (get_or ns i (0, 0)) = λ i. ap (spot z) (let r : suc k + i ≡ k + suc i = omega arith in r) ∙ h (suc i)
         ∙ ap (λ (j : ℕ). place z.atom z.width z.block j (get_or ns i (0, 0))) (let x : ℕ = i * stride z in let m : suc i * stride z ≡ x + stride z = suc-mul i (stride z) in let r : suc i * stride z + e ≡ x + (e + stride z) = omega arith in r) in
         qed 𝓛 (‵ (one z.atom z.width z.block e u.1 n) ∷ ‵ (laid z.atom z.width z.block us ns (e + stride z)) ∷ []) ∵ fsplit ! $
-        rewrite ! 0 (λ (t : Spot). ‵ (at_home t (home 0 u.1))) (sym is) refl $ rewrite ! 1 (λ (t : Spot). ‵ (flent (age z) (held t))) (sym is) refl $ move ! (2 ∷ []) $
-        use1 𝓛 (‵ (shelf z (suc k) (map (λ v. home 0 v.1) us)) ⊛ ‵ (owed z (suc k) (length us))) (sorts us ns (suc k) (e + stride z) next) $ split ! $
+        rewrite ! 0 (λ (t : Spot). ‵ (access_at t (readable 0 u.1))) (sym is) refl $ rewrite ! 1 (λ (t : Spot). ‵ (flent (block_life z) (held t))) (sym is) refl $ move ! (2 ∷ []) $
+        use1 𝓛 (‵ (accesses_row z (suc k) (map (λ v. readable 0 v.1) us)) ⊛ ‵ (owed z (suc k) (length us))) (sorts us ns (suc k) (e + stride z) next) $ split ! $
         move ! (2 ∷ 0 ∷ []) $ fjoin ! $ move ! (2 ∷ 1 ∷ []) $ fjoin ! $ move ! (1 ∷ 0 ∷ []) $ done !
 
   next : (z : BlockId) (k e : ℕ) → e ≡ unit_at z k → e + stride z ≡ unit_at z (suc k)
@@ -189,8 +189,8 @@ module _ {M : Type 1} {𝓤 : Ura M} (𝓛 : Logic 𝓤) where
           use1 𝓛 (‵ (latest (prefixes ce) full_share l []) ⊛ ‵ (none_seen cv ce z)) (latest_shows (prefixes ce) 𝓛 full_share l [] [] (prefix_refl [])) $ split ! $ move ! (2 ∷ []) $
           use1 𝓛 (later (‵ (roster cv.code g 0 vs) ⊛ ‵ (tokens cv ce z 0 vs))) (via 𝓤 _ (enrolls cv ce z vs 0 v₀) (basic 𝓛 (⟦ roster cv.code g 0 vs ⟧ ∗ ⟦ tokens cv ce z 0 vs ⟧))) $ await ! tt $ split ! $
           move ! (3 ∷ 1 ∷ []) $ use2 𝓛 (‵ (waiting cv.code ce z 0 vs)) (hands cv ce z vs 0) $ move ! (3 ∷ []) $
-          use1 𝓛 (‵ (shelf z 0 s₀.homes) ⊛ ‵ (owed z 0 (length us))) (sorts cv ce z us ns 0 o (λ i. ap (spot z) (let r : 0 + i ≡ i = omega arith in r))) $ split ! $
-          move ! (3 ∷ 4 ∷ []) $ fjoin ! $ move ! (1 ∷ 0 ∷ []) $ fjoin ! $ nothing ! $ fpack ! (Keeps cv.code ce holds p z s₀) (λ _. ftrue) (good, length-map us (λ u. u.0), length-map us (λ u. home 0 u.1)) $
+          use1 𝓛 (‵ (accesses_row z 0 s₀.accesses) ⊛ ‵ (owed z 0 (length us))) (sorts cv ce z us ns 0 o (λ i. ap (spot z) (let r : 0 + i ≡ i = omega arith in r))) $ split ! $
+          move ! (3 ∷ 4 ∷ []) $ fjoin ! $ move ! (1 ∷ 0 ∷ []) $ fjoin ! $ nothing ! $ fpack ! (Keeps cv.code ce holds p z s₀) (λ _. ftrue) (good, length-map us (λ u. u.0), length-map us (λ u. readable 0 u.1)) $
           move ! (4 ∷ 1 ∷ 0 ∷ []) $ fjoin3 ! $ fpack ! (State V E) (standing cv.code ce holds p z) s₀ $ bor_new ! tt κ' $
           use1 𝓛 (later (‵ (finv (fbor κ' I)))) (𝓛.invs.inv_new (fbor κ' I)) $ await ! tt $ nothing ! $ fpack ! (Placed p z) (λ _. ftrue) (at_block p fit.0, subst (λ (n : ℕ). n < 2 ^ 63) (sym (bytes_of w us wide)) fit.1) $ fjoin ! $
           move ! (1 ∷ 2 ∷ []) $ fjoin ! $ move ! (3 ∷ 1 ∷ 0 ∷ []) $ fjoin3 ! $ now ! $ show ! Dealt z $ check ! (refl, refl, fit.0, refl) $ done !)))))
@@ -206,11 +206,11 @@ module _ {M : Type 1} {𝓤 : Ura M} (𝓛 : Logic 𝓤) where
       Gathered xs = guard 𝓤 ((length xs ≡ size) × InBlock p) ⟦ strip u64 p xs ⟧
 
       -- all words and cells come back once the block's lifetime is over
-      collects : (ws : List ℕ) (k e : ℕ) → e ≡ unit_at z k → A.dead (age z) ∗ ⟦ row (stride z) z.block e ws ⟧ ∗ ⟦ owed z k (length ws) ⟧ ⊢ H.⇛ (ex 𝓤 (Back (length ws) e))
-      collects [] k e is = qed 𝓛 (‵ (fdead (age z)) ∷ ‵ ftrue ∷ ‵ ftrue ∷ []) ∵ updating ! $ now ! $ show ! (Back 0 e) [] $ check ! (sym (zero-mul (z.width + 1))) $ keep ! (1 ∷ []) $ done !
+      collects : (ws : List ℕ) (k e : ℕ) → e ≡ unit_at z k → A.dead (block_life z) ∗ ⟦ row (stride z) z.block e ws ⟧ ∗ ⟦ owed z k (length ws) ⟧ ⊢ H.⇛ (ex 𝓤 (Back (length ws) e))
+      collects [] k e is = qed 𝓛 (‵ (fdead (block_life z)) ∷ ‵ ftrue ∷ ‵ ftrue ∷ []) ∵ updating ! $ now ! $ show ! (Back 0 e) [] $ check ! (sym (zero-mul (z.width + 1))) $ keep ! (1 ∷ []) $ done !
       collects (n ∷ ws) k e is = let b : ℕ = z.block in let t : Spot = spot z k in
-          qed 𝓛 (‵ (fdead (age z)) ∷ (‵ (word b e n) ⊛ ‵ (row (stride z) b (e + stride z) ws)) ∷ (‵ (flent (age z) (held t)) ⊛ ‵ (owed z (suc k) (length ws))) ∷ []) ∵ updating ! $
-          use1 𝓛 (‵ (fdead (age z)) ⊛ ‵ (fdead (age z))) (𝓛.lfts.dead_dup (age z)) $ split ! $ move ! (2 ∷ []) $ split ! $ move ! (4 ∷ []) $ split ! $
+          qed 𝓛 (‵ (fdead (block_life z)) ∷ (‵ (word b e n) ⊛ ‵ (row (stride z) b (e + stride z) ws)) ∷ (‵ (flent (block_life z) (held t)) ⊛ ‵ (owed z (suc k) (length ws))) ∷ []) ∵ updating ! $
+          use1 𝓛 (‵ (fdead (block_life z)) ⊛ ‵ (fdead (block_life z))) (𝓛.lfts.dead_dup (block_life z)) $ split ! $ move ! (2 ∷ []) $ split ! $ move ! (4 ∷ []) $ split ! $
           move ! (4 ∷ 3 ∷ 1 ∷ []) $ use3 𝓛 (later (some (λ (xs : List ℕ). given (length xs ≡ length ws * (z.width + 1)) (‵ (side xs b (e + stride z)))))) (collects ws (suc k) (e + stride z) (next z k e is)) $ await ! tt $ pick ! (λ xs. learn ! (λ long.
           move ! (3 ∷ 1 ∷ []) $ lent_back ! tt $ fpick ! (λ x. fsplit ! $ use1 𝓛 (given (length x ≡ z.width) (‵ (side x b t.offset))) (sidewise z.width x b t.offset) $ learn ! (λ l.
           rewrite ! 0 (λ (i : ℕ). ‵ (side x b i)) (ap (λ (i : ℕ). i + 8) (sym is)) refl $ move ! (0 ∷ 2 ∷ []) $
@@ -220,15 +220,15 @@ module _ {M : Type 1} {𝓤 : Ura M} (𝓛 : Logic 𝓤) where
 
       pub owns_lies : ⟦ block_owns cv.code ce holds p z ⟧ ⊢ guard 𝓤 (InBlock p) ⟦ block_owns cv.code ce holds p z ⟧
       unfolding Rattle.packet_ring.specs.Lent.seal
-      owns_lies = qed 𝓛 (‵ (flft (age z) full_share) ∷ ‵ (common cv.code ce holds p z) ∷ ‵ (rights cv.code ce holds p z) ∷ []) ∵ move ! (1 ∷ []) $ fsplit ! $ fpick ! (λ at.
+      owns_lies = qed 𝓛 (‵ (flft (block_life z) full_share) ∷ ‵ (common cv.code ce holds p z) ∷ ‵ (rights cv.code ce holds p z) ∷ []) ∵ move ! (1 ∷ []) $ fsplit ! $ fpick ! (λ at.
           check ! (subst InBlock (sym at.0) tt) $ fpack ! (Placed p z) (λ _. ftrue) at $ fjoin ! $ move ! (1 ∷ 0 ∷ []) $ done !)
 
       -- the block's lifetime ends, and its memory comes back
       pub gathers : ⟦ block_owns cv.code ce holds p z ⟧ ⊢ H.⇛ (ex 𝓤 Gathered)
       unfolding Rattle.packet_ring.specs.Lent.seal
       gathers = let b : ℕ = z.block in let o : ℕ = z.offset in
-          qed 𝓛 (‵ (flft (age z) full_share) ∷ ‵ (common cv.code ce holds p z) ∷ ‵ (rights cv.code ce holds p z) ∷ []) ∵ updating ! $ lft_end ! tt $
-          use1 𝓛 (‵ (fdead (age z)) ⊛ ‵ (fdead (age z))) (𝓛.lfts.dead_dup (age z)) $ split ! $ move ! (2 ∷ []) $ fsplit ! $ fpick ! (λ at. drop ! $ drop ! $ move ! (2 ∷ []) $ fsplit ! $ move ! (2 ∷ 0 ∷ []) $ lent_back ! tt $
+          qed 𝓛 (‵ (flft (block_life z) full_share) ∷ ‵ (common cv.code ce holds p z) ∷ ‵ (rights cv.code ce holds p z) ∷ []) ∵ updating ! $ lft_end ! tt $
+          use1 𝓛 (‵ (fdead (block_life z)) ⊛ ‵ (fdead (block_life z))) (𝓛.lfts.dead_dup (block_life z)) $ split ! $ move ! (2 ∷ []) $ fsplit ! $ fpick ! (λ at. drop ! $ drop ! $ move ! (2 ∷ []) $ fsplit ! $ move ! (2 ∷ 0 ∷ []) $ lent_back ! tt $
           fpick ! (λ s. fsplit3 ! $ move ! (2 ∷ []) $ fpick ! (λ so. drop ! $ rewrite ! 2 (λ (n : ℕ). ‵ (owed z 0 n)) (sym so.1) refl $ move ! (3 ∷ 0 ∷ 2 ∷ []) $
           use3 𝓛 (later (some (λ (xs : List ℕ). given (length xs ≡ length s.words * (z.width + 1)) (‵ (side xs b o))))) (collects s.words 0 o (let m : 0 * stride z ≡ 0 = zero-mul (stride z) in omega arith)) $ await ! tt $ pick ! (λ xs. learn ! (λ long.
           let all : length xs ≡ size = long ∙ ap (λ (n : ℕ). n * (z.width + 1)) so.1 in let inp : InBlock p = subst InBlock (sym at.0) tt in

@@ -25,29 +25,29 @@ use Rattle.ring_steps.proofs.Places.{at_set, place_within}
 use Rattle.ring_steps.proofs.Moves.{write_all_keeps}
 use Rattle.ring_steps.proofs.Writing.{finish_keeps}
 use Rattle.ring_steps.proofs.Bits.{finish_bits, word_fits}
-use Rattle.packet_ring.specs.Table.{State, Home, away, home, may_end, finishes, Goes, Allows}
-use Rattle.packet_ring.specs.Rule.{Limits, IsPending, View, Knows, Holds, Fits, HomeFits, HasCells, hold_of, holders}
+use Rattle.packet_ring.specs.Table.{State, Access, exclusive, readable, may_end, finishes, Goes, Allows}
+use Rattle.packet_ring.specs.Rule.{Limits, IsPending, View, Knows, Holds, Fits, AccessFits, HasCells, hold_of, holders}
 use Rattle.packet_ring.specs.Operation.{Operation}
 use Rattle.ring_steps.specs.declared.calls.PublisherCall.TheVariants.{Publish}
 use Rattle.ring_steps.specs.RingSteps.{by_publisher}
 use Rattle.packet_ring.specs.Steps.{Finishes, HasPacket}
 use Rattle.packet_ring.proofs.Heads.{units_of, publisher_there}
 use Rattle.packet_ring.proofs.Pinned.{word_at, set_twice}
-use Rattle.packet_ring.proofs.Begun.{written_kept, other_home}
+use Rattle.packet_ring.proofs.Begun.{written_kept, other_access}
 
 take_front : (q r : List ℕ) → take (length q) (q ++ r) ≡ q
 take_front [] r = refl
 take_front (x ∷ q) r = ap (λ (ys : List ℕ). x ∷ ys) (take_front q r)
 
--- a unit whose slot is written is away
-is_away : (s : Ring.State) (j : ℕ) (h : Home) → HomeFits s j h → (word s j).writing ≡ true → h ≡ away
-is_away s j away fit w = refl
-is_away s j (home m c) fit w = absurd (cc)
+-- the access to a unit whose slot is written is exclusive
+is_exclusive : (s : Ring.State) (j : ℕ) (h : Access) → AccessFits s j h → (word s j).writing ≡ true → h ≡ exclusive
+is_exclusive s j exclusive fit w = refl
+is_exclusive s j (readable m c) fit w = absurd (cc)
 
-away_there : (hs : List Home) (i : ℕ) → i < length hs → get_or hs i away ≡ away → get_elem? hs i ≡ maybe.some away
-away_there [] i l e = absurd (omega arith)
-away_there (h ∷ hs) zero l e = ap (λ (x : Home). maybe.some x) e
-away_there (h ∷ hs) (suc i) l e = away_there hs i (omega arith) e
+exclusive_there : (hs : List Access) (i : ℕ) → i < length hs → get_or hs i exclusive ≡ exclusive → get_elem? hs i ≡ maybe.some exclusive
+exclusive_there [] i l e = absurd (omega arith)
+exclusive_there (h ∷ hs) zero l e = ap (λ (x : Access). maybe.some x) e
+exclusive_there (h ∷ hs) (suc i) l e = exclusive_there hs i (omega arith) e
 
 -- nobody holds a packet in a slot that is written
 abbrev tally : Bool → ℕ
@@ -73,7 +73,7 @@ none_hold : (keep : ℕ) (xs : List Seat) (j : ℕ) → ((i : ℕ) (x : Seat) �
 none_hold keep [] j f = refl
 none_hold keep (x ∷ xs) j f = let a = f 0 x refl in let b = none_hold keep xs j (λ i y e. f (suc i) y e) in omega arith
 
-module _ {L : Limits} (s : Ring.State) (t : State View (List ℕ)) (fits : Fits L s t) (rooms : length t.homes ≡ s.keep + 2) (c : List ℕ) (seen : List (List ℕ)) (pre : IsPrefix seen t.log)
+module _ {L : Limits} (s : Ring.State) (t : State View (List ℕ)) (fits : Fits L s t) (rooms : length t.accesses ≡ s.keep + 2) (c : List ℕ) (seen : List (List ℕ)) (pre : IsPrefix seen t.log)
     (within : s.publisher.phase ≡ publishing.Begun) (has : HasPacket c s.publisher.packet) (k : ℕ) (adds : k ≡ 131072 * (length s.log + 1 - floor s (length s.log)) - 65536) where
   abbrev j : ℕ
   j = next_place s
@@ -138,13 +138,13 @@ module _ {L : Limits} (s : Ring.State) (t : State View (List ℕ)) (fits : Fits 
 
   pub finish_goes : Goes (Holds L) (Operation L) t 0 me (suc j) (λ m. (m + k) % 2 ^ 64) (λ _. Finishes s.log s.publisher me)
   finish_goes =
-      let elem = away_there t.homes (suc j) (let n = near in omega arith) (is_away s j (get_or t.homes (suc j) away) (fits.homes j near) writes) in
-      let now : HomeFits s' j (home 0 c) = (ap (λ (x : Slot). x.word.writing) there, idle, subst (HasCells c) (sym there) (sym has.size, take_front q (drop (length q) (slot s j).bytes) ∙ sym has.bytes)) in
-      let homes' : (l : ℕ) → l ≤ s.keep → HomeFits s' l (get_or (set t.homes (suc j) (home 0 c)) (suc l) away) = λ l low. elim (at_set t.homes (suc j) (suc l) (home 0 c) away (let n = near in omega arith)) [
-        | inl f ↦ let at : l ≡ j = let g = f.0 in omega arith in subst (HomeFits s' l) (sym f.1) (subst (λ (m : ℕ). HomeFits s' m (home 0 c)) (sym at) now)
-        | inr f ↦ subst (HomeFits s' l) (sym f.1) (other_home s j (done_ full) p' l (get_or t.homes (suc l) away) (get_or-set_other s.slots j l (done_ full) fresh_slot (λ g. f.0 (ap suc g))) (fits.homes l low))
+      let elem = exclusive_there t.accesses (suc j) (let n = near in omega arith) (is_exclusive s j (get_or t.accesses (suc j) exclusive) (fits.accesses j near) writes) in
+      let now : AccessFits s' j (readable 0 c) = (ap (λ (x : Slot). x.word.writing) there, idle, subst (HasCells c) (sym there) (sym has.size, take_front q (drop (length q) (slot s j).bytes) ∙ sym has.bytes)) in
+      let accesses' : (l : ℕ) → l ≤ s.keep → AccessFits s' l (get_or (set t.accesses (suc j) (readable 0 c)) (suc l) exclusive) = λ l low. elim (at_set t.accesses (suc j) (suc l) (readable 0 c) exclusive (let n = near in omega arith)) [
+        | inl f ↦ let at : l ≡ j = let g = f.0 in omega arith in subst (AccessFits s' l) (sym f.1) (subst (λ (m : ℕ). AccessFits s' m (readable 0 c)) (sym at) now)
+        | inr f ↦ subst (AccessFits s' l) (sym f.1) (other_access s j (done_ full) p' l (get_or t.accesses (suc l) exclusive) (get_or-set_other s.slots j l (done_ full) fresh_slot (λ g. f.0 (ap suc g))) (fits.accesses l low))
       ] in
-      let kept = written_kept s t fits j p' (done_ full) ((get_or t.words (suc j) 0 + k) % 2 ^ 64) (may_end (suc j) c) finishes (subst (λ (φ : PublisherPhase). IsPending L.1 φ q) within fits.pending) sound bits homes' in (
+      let kept = written_kept s t fits j p' (done_ full) ((get_or t.words (suc j) 0 + k) % 2 ^ 64) (may_end (suc j) c) finishes (subst (λ (φ : PublisherPhase). IsPending L.1 φ q) within fits.pending) sound bits accesses' in (
         inl (s.log, p'),
         finishes,
         t.log,

@@ -27,8 +27,8 @@ use Rattle.ring_steps.specs.RingSteps.{by_publisher, by_seat}
 use Rattle.ring_steps.proofs.Loads.{attach_keeps, detach_keeps, first_load_keeps, second_load_keeps}
 use Rattle.ring_steps.proofs.Writing.{append_keeps}
 use Rattle.ring_steps.proofs.Writing.{close_keeps}
-use Rattle.packet_ring.specs.Table.{State, Home, away, home, Right, keeps, stepped, Allows}
-use Rattle.packet_ring.specs.Rule.{Limits, IsSized, IsPending, View, Knows, Holds, Fits, with_end, HomeFits, hold_of, holders, words_of, publisher_view, seat_view}
+use Rattle.packet_ring.specs.Table.{State, Access, exclusive, readable, Right, keeps, stepped, Allows}
+use Rattle.packet_ring.specs.Rule.{Limits, IsSized, IsPending, View, Knows, Holds, Fits, with_end, AccessFits, hold_of, holders, words_of, publisher_view, seat_view}
 use Rattle.packet_ring.specs.Operation.{Operation, StepsFrom}
 use Rattle.packet_ring.specs.Steps.{looked, attached, detached, lost_to, first_seen, second_seen, Loads, Appends, Closes}
 
@@ -69,10 +69,10 @@ same_holders keep [] i x y j at e = refl
 same_holders keep (z ∷ xs) zero x y j at e = let same : z ≡ x = ap (or_given z) at in ap (λ (n : ℕ). n + holders keep xs j) (ap (λ (s : Seat). hold_of s.phase (cursor s % (keep + 1)) j) same ∙ e)
 same_holders keep (z ∷ xs) (suc i) x y j at e = ap (λ (n : ℕ). hold_of z.phase (cursor z % (keep + 1)) j + n) (same_holders keep xs i x y j at e)
 
-homes_kept : (s : Ring.State) (i : ℕ) (x y : Seat) → slice_get s.seats i ≡ Some x → ((j : ℕ) → hold_of x.phase (cursor x % (s.keep + 1)) j ≡ hold_of y.phase (cursor y % (s.keep + 1)) j)
-    → (j : ℕ) (h : Home) → HomeFits s j h → HomeFits (with_seat s i y) j h
-homes_kept s i x y at same j away fit = fit
-homes_kept s i x y at same j (home m c) fit = (fit.0, fit.1 ∙ same_holders s.keep s.seats i x y j at (same j), fit.2)
+accesses_kept : (s : Ring.State) (i : ℕ) (x y : Seat) → slice_get s.seats i ≡ Some x → ((j : ℕ) → hold_of x.phase (cursor x % (s.keep + 1)) j ≡ hold_of y.phase (cursor y % (s.keep + 1)) j)
+    → (j : ℕ) (h : Access) → AccessFits s j h → AccessFits (with_seat s i y) j h
+accesses_kept s i x y at same j exclusive fit = fit
+accesses_kept s i x y at same j (readable m c) fit = (fit.0, fit.1 ∙ same_holders s.keep s.seats i x y j at (same j), fit.2)
 
 -- a step that leaves the words and the slots, and changes this seat's view, in which it holds no more and no less than before
 seat_kept : {L : Limits} (s : Ring.State) (t : State View (List ℕ)) → Fits L s t → (i : ℕ) (x y : Seat) (r : Right) → slice_get s.seats i ≡ Some x → Invariant (with_seat s i y)
@@ -88,7 +88,7 @@ seat_kept s t fits i x y r at sound same = record {
   words = set_same t.words 0 ∙ fits.words;
   views = ap (λ (vs : List View). set vs (suc i) (inr y)) fits.views ∙ ap (λ (vs : List View). publisher_view s ∷ vs) (map_set seat_view s.seats i y);
   log = fits.log;
-  homes = λ j near. homes_kept s i x y at same j (get_or t.homes (suc j) away) (fits.homes j near);
+  accesses = λ j near. accesses_kept s i x y at same j (get_or t.accesses (suc j) exclusive) (fits.accesses j near);
 }
 
 -- a block of a ring that keeps K packets has K + 2 units
@@ -154,9 +154,9 @@ pub publisher_there : {L : Limits} (s : Ring.State) (t : State View (List ℕ)) 
 publisher_there s t fits log p me is at = let e : publisher_view s ≡ inl (log, p) = some-injective (publisher_view s) (inl (log, p)) (ap (λ (vs : List View). get_elem? vs 0) (sym fits.views) ∙ at ∙ ap (λ (v : View). maybe.some v) is) in
     let known = λ (v : View). or_known log p v in (ap (λ (v : View). (known v).0) e, ap (λ (v : View). (known v).1) e)
 
-homes_same : (s : Ring.State) (head : Head) (log : List (List ℕ)) (p : Publisher) (j : ℕ) (h : Home) → HomeFits s j h → HomeFits (record s { head = head; log = log; publisher = p }) j h
-homes_same s head log p j away fit = fit
-homes_same s head log p j (home m c) fit = fit
+accesses_same : (s : Ring.State) (head : Head) (log : List (List ℕ)) (p : Publisher) (j : ℕ) (h : Access) → AccessFits s j h → AccessFits (record s { head = head; log = log; publisher = p }) j h
+accesses_same s head log p j exclusive fit = fit
+accesses_same s head log p j (readable m c) fit = fit
 
 unclosed : (b : Bool) → (b ≡ true → ⊥) → b ≡ false
 unclosed false h = refl
@@ -178,7 +178,7 @@ publisher_kept s t fits head log told p new w r all sound short packets pending 
   words = ap (λ (ws : List ℕ). set ws 0 new) fits.words ∙ ap (λ (n : ℕ). n ∷ map (λ (x : Slot). word_bits x.word) s.slots) bits;
   views = ap (λ (vs : List View). set vs 0 w) fits.views ∙ ap (λ (v : View). v ∷ map seat_view s.seats) is;
   log = all;
-  homes = λ j near. homes_same s head log p j (get_or t.homes (suc j) away) (fits.homes j near);
+  accesses = λ j near. accesses_same s head log p j (get_or t.accesses (suc j) exclusive) (fits.accesses j near);
 }
 
 -- with this packet more each packet of the log is sized

@@ -23,7 +23,7 @@ use Rattle.core.proofs.raw_atomic.Asked.{borrowed, Lies, Again}
 use Rattle.atomic_table.specs.Seated.{word, fact, seen, roster}
 use Rattle.atomic_table.proofs.Roster.{Moved, moves}
 use Rattle.packet_ring.specs.Table.{State, Me, Act, right_after, stepped, Allows}
-use Rattle.packet_ring.specs.Lent.{BlockId, age, unit_at, stride, row, shelf, carried, Placed, mine, Keeps, standing, inner, common}
+use Rattle.packet_ring.specs.Lent.{BlockId, block_life, unit_at, stride, row, accesses_row, carried, Placed, mine, Keeps, standing, inner, common}
 use Rattle.packet_ring.proofs.Units.{Reset, row_at, Acted, acts}
 
 module _ {M : Type 1} {𝓤 : Ura M} (𝓛 : Logic 𝓤) {V E : Type 0} (cv : Coded V) (ce : Coded E) (holds : State V E → Type 0) (p : Ptr) (z : BlockId) where
@@ -48,7 +48,7 @@ module _ {M : Type 1} {𝓤 : Ura M} (𝓛 : Logic 𝓤) {V E : Type 0} (cv : Co
 
   infixr 30 ◌-∗◌
   abbrev κ : Lft
-  κ = age z
+  κ = block_life z
 
   abbrev C : Fml
   C = common cv.code ce holds p z
@@ -79,11 +79,11 @@ module _ {M : Type 1} {𝓤 : Ura M} (𝓛 : Logic 𝓤) {V E : Type 0} (cv : Co
   placed = qed 𝓛 (‵ C ∷ []) ∵ fsplit ! $ keep ! (0 ∷ []) $ done !
 
   abbrev Rest : State V E → Fml
-  Rest s = fsep (shelf z 0 s.homes) (fsep (roster cv.code z.views_name 0 s.views) (now s.log))
+  Rest s = fsep (accesses_row z 0 s.accesses) (fsep (roster cv.code z.views_name 0 s.views) (now s.log))
 
   module _ (q : Share) where
     abbrev Next : ℕ → (ℕ → ℕ) → (ℕ → Fml) → State V E → State V E → Pr
-    Next i f after s t = guard 𝓤 ((t.words ≡ set s.words i (f (get_or s.words i 0))) × holds t × (length t.homes ≡ z.units)) (⟦ Rest t ⟧ ∗ ⟦ after (get_or s.words i 0) ⟧)
+    Next i f after s t = guard 𝓤 ((t.words ≡ set s.words i (f (get_or s.words i 0))) × holds t × (length t.accesses ≡ z.units)) (⟦ Rest t ⟧ ∗ ⟦ after (get_or s.words i 0) ⟧)
 
     -- the word i becomes f of what it was, where the rest of the block and the token can follow
     opened : (i : ℕ) (f : ℕ → ℕ) (after : ℕ → Fml) (K : Fml) → i < z.units
@@ -99,7 +99,7 @@ module _ {M : Type 1} {𝓤 : Ura M} (𝓛 : Logic 𝓤) {V E : Type 0} (cv : Co
         show ! (Lies 𝓛 κ q I b e f always after) n $ frame ! $ each ! (λ (_ : Unit {0}). Again 𝓛 κ q I b e f always after n) (λ _.
         use1 𝓛 (raw (Reset 𝓛 d b z.offset e ns i (f n))) (all_e 𝓤 (Reset 𝓛 d b z.offset e ns i) (f n)) $ assume ! (‵ (word b e (f n))) $ use2 𝓛 (‵ (row d b z.offset (set ns i (f n)))) (apply∗ 𝓤 ⟦ word b e (f n) ⟧ ⟦ row d b z.offset (set ns i (f n)) ⟧) $ move ! (1 ∷ 2 ∷ []) $
         use2 𝓛 (raw (upd 𝓤 (ex 𝓤 (Next i f after s)))) (law s so typed.1.fits) $
-        settle 𝓛 Z (some (λ (t : State V E). given ((t.words ≡ set ns i (f n)) × holds t × (length t.homes ≡ z.units)) (‵ (Rest t) ⊛ ‵ (after n)))) $ pick ! (λ t. learn ! (λ good. split ! $
+        settle 𝓛 Z (some (λ (t : State V E). given ((t.words ≡ set ns i (f n)) × holds t × (length t.accesses ≡ z.units)) (‵ (Rest t) ⊛ ‵ (after n)))) $ pick ! (λ t. learn ! (λ good. split ! $
         rewrite ! 2 (λ (ms : List ℕ). ‵ (row d b z.offset ms)) (sym good.0) refl $ nothing ! $ fpack ! (Keeps cv.code ce holds p z t) (λ _. ftrue) (good.1, subst (λ (ms : List ℕ). length ms ≡ z.units) (sym good.0) (length-set ns i (f n) ∙ long), good.2) $
         move ! (3 ∷ 1 ∷ 0 ∷ []) $ fjoin3 ! $ fpack ! (State V E) (standing cv.code ce holds p z) t $ suffices ! _ (upd_i 𝓤 Z) $ done !))))))))
 
@@ -112,7 +112,7 @@ module _ {M : Type 1} {𝓤 : Ura M} (𝓛 : Logic 𝓤) {V E : Type 0} (cv : Co
 
       pub steps : (does : ℕ → State V E → State V E → Type 0) → i < z.units → Allows holds does z.units id me i f then → ⟦ C ⟧ ∗ A.lft κ q ∗ ⟦ sat id me ⟧ ⊢ asks 𝓛 (block_ptr z.block (unit_at z i)) f always (λ n. fsep (flft κ q) (after n))
       steps does inside law = opened i f after (sat id me) inside (λ s so small. let Z : Pr = ex 𝓤 (Next i f after s) in let γ : ℕ = z.views_name in let n : ℕ = get_or s.words i 0 in
-          qed 𝓛 ((‵ (shelf z 0 s.homes) ⊛ ‵ (roster cv.code γ 0 s.views) ⊛ ‵ (now s.log)) ∷ ‵ (half id me.view) ∷ ‵ (past me.seen) ∷ ‵ (carried z me.right) ∷ []) ∵ split3 ! $ move ! (2 ∷ 4 ∷ []) $
+          qed 𝓛 ((‵ (accesses_row z 0 s.accesses) ⊛ ‵ (roster cv.code γ 0 s.views) ⊛ ‵ (now s.log)) ∷ ‵ (half id me.view) ∷ ‵ (past me.seen) ∷ ‵ (carried z me.right) ∷ []) ∵ split3 ! $ move ! (2 ∷ 4 ∷ []) $
           use2 𝓛 (given (IsPrefix me.seen s.log) (‵ (now s.log) ⊛ ‵ (past me.seen))) (latest_bounds O 𝓛 full_share z.log_name s.log me.seen) $ learn ! (λ pre. split ! $ move ! (3 ∷ 4 ∷ []) $
           use2 𝓛 (given (get_elem? s.views id ≡ maybe.some me.view) (raw (all 𝓤 (Moved 𝓛 cv γ 0 s.views id id)))) (moves 𝓛 cv γ s.views 0 id id me.view (omega arith)) $ learn ! (λ at.
           let r = law s so.0 so.1 so.2 at pre small in let u : V = r.0 in let a : Act = r.1 in let log' : List E = r.2 in let seen' : List E = r.3 in
@@ -120,7 +120,7 @@ module _ {M : Type 1} {𝓤 : Ura M} (𝓛 : Logic 𝓤) {V E : Type 0} (cv : Co
           use1 𝓛 (raw (Moved 𝓛 cv γ 0 s.views id id u)) (all_e 𝓤 (Moved 𝓛 cv γ 0 s.views id id) u) $ settle 𝓛 Z (‵ (roster cv.code γ 0 t.views) ⊛ ‵ (half id u)) $ split ! $ move ! (2 ∷ []) $
           use1 𝓛 (raw (upd 𝓤 ⟦ now log' ⟧)) (latest_grows O 𝓛 z.log_name s.log log' r.5) $ settle 𝓛 Z (‵ (now log')) $
           use1 𝓛 (‵ (now log') ⊛ ‵ (past seen')) (latest_shows O 𝓛 full_share z.log_name log' seen' r.6) $ split ! $ move ! (5 ∷ 6 ∷ []) $
-          use2 𝓛 (raw (upd 𝓤 (Acted 𝓛 z s.homes me.right a))) (acts 𝓛 z s.homes me.right a so.2 r.4) $ settle 𝓛 Z (given (length t.homes ≡ z.units) (‵ (shelf z 0 t.homes) ⊛ ‵ (carried z me'.right))) $ learn ! (λ long. split ! $
+          use2 𝓛 (raw (upd 𝓤 (Acted 𝓛 z s.accesses me.right a))) (acts 𝓛 z s.accesses me.right a so.2 r.4) $ settle 𝓛 Z (given (length t.accesses ≡ z.units) (‵ (accesses_row z 0 t.accesses) ⊛ ‵ (carried z me'.right))) $ learn ! (λ long. split ! $
           suffices ! _ (upd_i 𝓤 Z) $ show ! (Next i f after s) t $ check ! (refl, r.7, long) $ move ! (0 ∷ 4 ∷ 2 ∷ []) $ fjoin3 ! $ frame ! $ show ! (λ (x : Me V E). ⟦ next n x ⟧) me' $
           nothing ! $ fpack ! (then n me') (λ _. ftrue) r.9 $ move ! (0 ∷ 3 ∷ 2 ∷ 1 ∷ []) $ keep ! (0 ∷ 1 ∷ 2 ∷ 3 ∷ []) $ done !))))
 

@@ -28,8 +28,8 @@ use Rattle.ring_steps.proofs.Moves.{read_all_keeps}
 use Rattle.ring_steps.proofs.Reading.{own_packet}
 use Rattle.ring_steps.specs.declared.words.Word.{Word}
 use Rattle.packet_ring.specs.Steps.{Pins, Unpins, missed, took}
-use Rattle.packet_ring.specs.Table.{State, Home, away, home, Right, no_right, may_read, Act, keeps, pins, unpins, homes_after, stepped, Goes, Allows}
-use Rattle.packet_ring.specs.Rule.{Limits, IsSized, View, Knows, Holds, bytes_of, Fits, HomeFits, HasCells, hold_of, holders, publisher_view, seat_view}
+use Rattle.packet_ring.specs.Table.{State, Access, exclusive, readable, Right, no_right, may_read, Act, keeps, pins, unpins, accesses_after, stepped, Goes, Allows}
+use Rattle.packet_ring.specs.Rule.{Limits, IsSized, View, Knows, Holds, bytes_of, Fits, AccessFits, HasCells, hold_of, holders, publisher_view, seat_view}
 use Rattle.packet_ring.specs.Operation.{Operation}
 use Rattle.ring_steps.specs.declared.calls.SeatCall.TheVariants.{Take}
 use Rattle.ring_steps.specs.RingSteps.{by_seat}
@@ -59,8 +59,8 @@ sized most (q ∷ log) (suc k) p h at = sized most log k p (λ n l. h (suc n) (o
 
 -- a step by a seat on the word of the slot at place j, which changes the slot's word and the seat's view
 pub slot_kept : {L : Limits} (s : Ring.State) (t : State View (List ℕ)) → Fits L s t → (i j : ℕ) (y : Seat) (b : Slot) (v : ℕ) (r : Right) (a : Act) → Invariant (with_seat (with_slot s j b) i y) → v ≡ word_bits b.word
-    → ((k : ℕ) → k ≤ s.keep → HomeFits (with_seat (with_slot s j b) i y) k (get_or (homes_after t.homes r a) (suc k) away)) → Fits L (with_seat (with_slot s j b) i y) (stepped t (suc j) v (suc i) r (inr y) a t.log)
-slot_kept s t fits i j y b v r a sound bits homes = record {
+    → ((k : ℕ) → k ≤ s.keep → AccessFits (with_seat (with_slot s j b) i y) k (get_or (accesses_after t.accesses r a) (suc k) exclusive)) → Fits L (with_seat (with_slot s j b) i y) (stepped t (suc j) v (suc i) r (inr y) a t.log)
+slot_kept s t fits i j y b v r a sound bits accesses = record {
   sound = sound;
   few = length-set s.seats i y ∙ fits.few;
   many = fits.many;
@@ -70,7 +70,7 @@ slot_kept s t fits i j y b v r a sound bits homes = record {
   words = ap (λ (ws : List ℕ). set ws (suc j) v) fits.words ∙ ap (λ (ws : List ℕ). head_bits s.head ∷ ws) (ap (set (map (λ (x : Slot). word_bits x.word) s.slots) j) bits ∙ map_set (λ (x : Slot). word_bits x.word) s.slots j b);
   views = ap (λ (vs : List View). set vs (suc i) (inr y)) fits.views ∙ ap (λ (vs : List View). publisher_view s ∷ vs) (map_set seat_view s.seats i y);
   log = fits.log;
-  homes = homes;
+  accesses = accesses;
 }
 
 same_cells : (cells : List ℕ) (a b : Slot) → b.len ≡ a.len → b.bytes ≡ a.bytes → HasCells cells a → HasCells cells b
@@ -90,35 +90,35 @@ module _ (s : Ring.State) (i j n : ℕ) (x y : Seat) (there : slice_get s.seats 
   cells_kept : (k : ℕ) (cells : List ℕ) → HasCells cells (slot s k) → HasCells cells (slot pinned_to k)
   cells_kept k cells has = let p = pins_alone s.slots j n k in same_cells cells (slot s k) (slot pinned_to k) p.2 p.3 has
 
-  -- the home of a unit stays, where the seat holds as much there as before
-  home_kept : (k : ℕ) → before k ≡ now k → (h : Home) → HomeFits s k h → HomeFits pinned_to k h
-  home_kept k same away fit = (pins_alone s.slots j n k).1 ∙ fit
-  home_kept k same (home m c) fit = ((pins_alone s.slots j n k).1 ∙ fit.0, fit.1 ∙ same_holders s.keep s.seats i x y k there same, cells_kept k c fit.2)
+  -- the access to a unit stays, where the seat holds as much there as before
+  access_kept : (k : ℕ) → before k ≡ now k → (h : Access) → AccessFits s k h → AccessFits pinned_to k h
+  access_kept k same exclusive fit = (pins_alone s.slots j n k).1 ∙ fit
+  access_kept k same (readable m c) fit = ((pins_alone s.slots j n k).1 ∙ fit.0, fit.1 ∙ same_holders s.keep s.seats i x y k there same, cells_kept k c fit.2)
 
   -- and one with a part more or less out, where the seat holds more or less there
-  home_moved : (k m m' : ℕ) (c : List ℕ) → before k + m' ≡ now k + m → HomeFits s k (home m c) → HomeFits pinned_to k (home m' c)
-  home_moved k m m' c more fit = ((pins_alone s.slots j n k).1 ∙ fit.0, moved_holders s.keep s.seats i x y k m m' there more fit.1, cells_kept k c fit.2)
+  access_moved : (k m m' : ℕ) (c : List ℕ) → before k + m' ≡ now k + m → AccessFits s k (readable m c) → AccessFits pinned_to k (readable m' c)
+  access_moved k m m' c more fit = ((pins_alone s.slots j n k).1 ∙ fit.0, moved_holders s.keep s.seats i x y k m m' there more fit.1, cells_kept k c fit.2)
 
 -- ---- where a unit's cells are
-is_home : Home → Bool
-is_home away = false
-is_home (home m c) = true
+is_readable : Access → Bool
+is_readable exclusive = false
+is_readable (readable m c) = true
 
-pub home_there : (hs : List Home) (i m : ℕ) (c : List ℕ) → get_or hs i away ≡ home m c → get_elem? hs i ≡ maybe.some (home m c)
-home_there [] i m c e = absurd (cc)
-home_there (h ∷ hs) zero m c e = ap (λ (x : Home). maybe.some x) e
-home_there (h ∷ hs) (suc i) m c e = home_there hs i m c e
+pub readable_there : (hs : List Access) (i m : ℕ) (c : List ℕ) → get_or hs i exclusive ≡ readable m c → get_elem? hs i ≡ maybe.some (readable m c)
+readable_there [] i m c e = absurd (cc)
+readable_there (h ∷ hs) zero m c e = ap (λ (x : Access). maybe.some x) e
+readable_there (h ∷ hs) (suc i) m c e = readable_there hs i m c e
 
--- a slot that nobody writes has its cells at home
-pub record AtHome (s : Ring.State) (j : ℕ) (h : Home) : Type 0 where
+-- a slot that nobody writes has readable cells
+pub record AccessAt (s : Ring.State) (j : ℕ) (h : Access) : Type 0 where
   pub parts : ℕ
   pub cells : List ℕ
-  pub is : h ≡ home parts cells
-  pub fits : HomeFits s j (home parts cells)
+  pub is : h ≡ readable parts cells
+  pub fits : AccessFits s j (readable parts cells)
 
-pub at_home : (s : Ring.State) (j : ℕ) (h : Home) → HomeFits s j h → (word s j).writing ≡ false → AtHome s j h
-at_home s j away fit w = absurd (cc)
-at_home s j (home m c) fit w = record { parts = m; cells = c; is = refl; fits = fit }
+pub access_at : (s : Ring.State) (j : ℕ) (h : Access) → AccessFits s j h → (word s j).writing ≡ false → AccessAt s j h
+access_at s j exclusive fit w = absurd (cc)
+access_at s j (readable m c) fit w = record { parts = m; cells = c; is = refl; fits = fit }
 
 at_most_one : (b : Bool) → (Rattle.std.specs.Prelude.if◌then◌else◌ b 1 0) ≤ 1
 at_most_one true = omega arith
@@ -138,7 +138,7 @@ few_hold keep [] j = omega arith
 few_hold keep (x ∷ xs) j = let h = few_hold keep xs j in let o = one_holds x.phase (cursor x % (keep + 1)) j in omega arith
 
 -- ---- PIN
-pub elem_within : (hs : List Home) (i : ℕ) (h : Home) → get_elem? hs i ≡ maybe.some h → i < length hs
+pub elem_within : (hs : List Access) (i : ℕ) (h : Access) → get_elem? hs i ≡ maybe.some h → i < length hs
 elem_within [] i h e = absurd (maybe.some-ne-none h (sym e))
 elem_within (x ∷ hs) zero h e = omega arith
 elem_within (x ∷ hs) (suc i) h e = let l = elem_within hs i h e in omega arith
@@ -217,7 +217,7 @@ module _ (i : ℕ) (x : Seat) (seen : List (List ℕ)) where
     goes : (c : Bool) → holds (word s j) (cursor x) ≡ c → Goes (Holds L) (Operation L) t (suc i) me (suc j) (λ m. (m + 1) % 2 ^ 64) (Pins L.1 (suc j) x me)
     goes false is = let sound = sound_by false is in
         let kept = slot_kept s t fits i j (phased false) b ((get_or t.words (suc j) 0 + 1) % 2 ^ 64) no_right keeps sound (bits_now (phased false) sound)
-        (λ k low. home_kept s i j ((word s j).pins + 1) x (phased false) there k (sym (was_idle k)) (get_or t.homes (suc k) away) (fits.homes k low)) in (
+        (λ k low. access_kept s i j ((word s j).pins + 1) x (phased false) there k (sym (was_idle k)) (get_or t.accesses (suc k) exclusive) (fits.accesses k low)) in (
           inr (phased false),
           keeps,
           t.log,
@@ -231,14 +231,14 @@ module _ (i : ℕ) (x : Seat) (seen : List (List ℕ)) where
         )
     goes true is =
         let y : Seat = phased true in let sound = sound_by true is in let m' : ℕ = (word s j).pins + 1 in let s' : Ring.State = pinned_to s i j m' x y there in
-        let H = at_home s j (get_or t.homes (suc j) away) (fits.homes j near) (not_writing ((word s j).number == cursor x + 1) (word s j).writing is) in let m : ℕ = H.parts in let c : List ℕ = H.cells in
-        let elem = home_there t.homes (suc j) m c H.is in let few = few_hold s.keep s.seats j in let count : m ≡ holders s.keep s.seats j = H.fits.1 in let seats = fits.few in let many = fits.many in
-        let homes' : (k : ℕ) → k ≤ s.keep → HomeFits s' k (get_or (set t.homes (suc j) (home (suc m) c)) (suc k) away) = λ k low. elim (at_set t.homes (suc j) (suc k) (home (suc m) c) away (elem_within t.homes (suc j) (home m c) elem)) [
-          | inl e ↦ let same : k ≡ j = let f = e.0 in omega arith in subst (HomeFits s' k) (sym e.1) (subst (λ (l : ℕ). HomeFits s' l (home (suc m) c)) (sym same) (home_moved s i j m' x y there j m (suc m) c (let z = was_idle j in let o = own_hold j in omega arith) H.fits))
-          | inr e ↦ let other : j ≢ k = λ f. e.0 (ap suc (sym f)) in subst (HomeFits s' k) (sym e.1) (home_kept s i j m' x y there k (sym (was_idle k) ∙ other_hold j k other) (get_or t.homes (suc k) away) (fits.homes k low))
+        let H = access_at s j (get_or t.accesses (suc j) exclusive) (fits.accesses j near) (not_writing ((word s j).number == cursor x + 1) (word s j).writing is) in let m : ℕ = H.parts in let c : List ℕ = H.cells in
+        let elem = readable_there t.accesses (suc j) m c H.is in let few = few_hold s.keep s.seats j in let count : m ≡ holders s.keep s.seats j = H.fits.1 in let seats = fits.few in let many = fits.many in
+        let accesses' : (k : ℕ) → k ≤ s.keep → AccessFits s' k (get_or (set t.accesses (suc j) (readable (suc m) c)) (suc k) exclusive) = λ k low. elim (at_set t.accesses (suc j) (suc k) (readable (suc m) c) exclusive (elem_within t.accesses (suc j) (readable m c) elem)) [
+          | inl e ↦ let same : k ≡ j = let f = e.0 in omega arith in subst (AccessFits s' k) (sym e.1) (subst (λ (l : ℕ). AccessFits s' l (readable (suc m) c)) (sym same) (access_moved s i j m' x y there j m (suc m) c (let z = was_idle j in let o = own_hold j in omega arith) H.fits))
+          | inr e ↦ let other : j ≢ k = λ f. e.0 (ap suc (sym f)) in subst (AccessFits s' k) (sym e.1) (access_kept s i j m' x y there k (sym (was_idle k) ∙ other_hold j k other) (get_or t.accesses (suc k) exclusive) (fits.accesses k low))
         ] in
         let own = own_packet s' i y sound (read_place s.seats i x y there) tt in let has = cells_kept s i j m' x y there j c H.fits.2 in let B : List ℕ = bytes_of (drop 1 c) in
-        let kept = slot_kept s t fits i j y b ((get_or t.words (suc j) 0 + 1) % 2 ^ 64) no_right (pins (suc j) m c) sound (bits_now y sound) homes' in (
+        let kept = slot_kept s t fits i j y b ((get_or t.words (suc j) 0 + 1) % 2 ^ 64) no_right (pins (suc j) m c) sound (bits_now y sound) accesses' in (
           inr y,
           pins (suc j) m c,
           t.log,
@@ -307,7 +307,7 @@ module _ (i : ℕ) (x : Seat) {L : Limits} (s : Ring.State) (t : State View (Lis
       let bits : word_bits fewer.word + 1 ≡ word_bits (word s spot_of) = ap (λ (w : Word). word_bits w + 1) (sym (new_word (missed x))) ∙ e in
       let idle : (k : ℕ) → hold_of x.phase (cursor x % (s.keep + 1)) k ≡ 0 = λ k. subst (λ (φ : SeatPhase). hold_of φ (cursor x % (s.keep + 1)) k ≡ 0) (sym within) refl in
       let kept = slot_kept s t fits i spot_of (missed x) fewer (minus (get_or t.words (suc spot_of) 0)) no_right keeps sound (less_bits small bits)
-      (λ k low. home_kept s i spot_of ((word s spot_of).pins - 1) x (missed x) there k (idle k) (get_or t.homes (suc k) away) (fits.homes k low)) in (
+      (λ k low. access_kept s i spot_of ((word s spot_of).pins - 1) x (missed x) there k (idle k) (get_or t.accesses (suc k) exclusive) (fits.accesses k low)) in (
         inr (missed x),
         keeps,
         t.log,
@@ -343,16 +343,16 @@ module _ (i : ℕ) (x : Seat) {L : Limits} (s : Ring.State) (t : State View (Lis
       let e = unpin_bits s₁ i x₁ (record { sound = inv₁; there = there₁; within = refl }) in
       let bits : word_bits fewer.word + 1 ≡ word_bits (word s j) = ap (λ (w : Word). word_bits w + 1) (sym (new_word y)) ∙ e in
       let near : j ≤ s.keep = place_within s.keep (cursor x) in let m' : ℕ = (word s j).pins - 1 in let s' : Ring.State = pinned_to s i j m' x y there in
-      let number = fits.sound.slots.held i x there (subst IsHolding (sym within) tt) in let H = at_home s j (get_or t.homes (suc j) away) (fits.homes j near) number.1 in let c : List ℕ = H.cells in
+      let number = fits.sound.slots.held i x there (subst IsHolding (sym within) tt) in let H = access_at s j (get_or t.accesses (suc j) exclusive) (fits.accesses j near) number.1 in let c : List ℕ = H.cells in
       let m : ℕ = holders s.keep (set s.seats i y) j in let here : 1 ≡ hold_of x.phase j j = subst (λ (φ : SeatPhase). 1 ≡ hold_of φ j j) (sym within) (own_hold j) in
       let more : H.parts ≡ suc m = let cm = count_moved s.keep s.seats i x y j there in let f : H.parts ≡ holders s.keep s.seats j = H.fits.1 in omega arith in
-      let elem = home_there t.homes (suc j) (suc m) c (H.is ∙ ap (λ (k : ℕ). home k c) more) in let few = few_hold s.keep s.seats j in let count : H.parts ≡ holders s.keep s.seats j = H.fits.1 in let seats = fits.few in let many = fits.many in
-      let homes' : (k : ℕ) → k ≤ s.keep → HomeFits s' k (get_or (set t.homes (suc j) (home m c)) (suc k) away) = λ k low. elim (at_set t.homes (suc j) (suc k) (home m c) away (elem_within t.homes (suc j) (home (suc m) c) elem)) [
-        | inl f ↦ let same : k ≡ j = let g = f.0 in omega arith in subst (HomeFits s' k) (sym f.1) (subst (λ (l : ℕ). HomeFits s' l (home m c)) (sym same) (home_moved s i j m' x y there j H.parts m c (omega arith) H.fits))
+      let elem = readable_there t.accesses (suc j) (suc m) c (H.is ∙ ap (λ (k : ℕ). readable k c) more) in let few = few_hold s.keep s.seats j in let count : H.parts ≡ holders s.keep s.seats j = H.fits.1 in let seats = fits.few in let many = fits.many in
+      let accesses' : (k : ℕ) → k ≤ s.keep → AccessFits s' k (get_or (set t.accesses (suc j) (readable m c)) (suc k) exclusive) = λ k low. elim (at_set t.accesses (suc j) (suc k) (readable m c) exclusive (elem_within t.accesses (suc j) (readable (suc m) c) elem)) [
+        | inl f ↦ let same : k ≡ j = let g = f.0 in omega arith in subst (AccessFits s' k) (sym f.1) (subst (λ (l : ℕ). AccessFits s' l (readable m c)) (sym same) (access_moved s i j m' x y there j H.parts m c (omega arith) H.fits))
         | inr f ↦ let other : j ≢ k = λ g. f.0 (ap suc (sym g)) in let none : hold_of x.phase j k ≡ 0 = subst (λ (φ : SeatPhase). hold_of φ j k ≡ 0) (sym within) (sym (other_hold j k other)) in
-            subst (HomeFits s' k) (sym f.1) (home_kept s i j m' x y there k none (get_or t.homes (suc k) away) (fits.homes k low))
+            subst (AccessFits s' k) (sym f.1) (access_kept s i j m' x y there k none (get_or t.accesses (suc k) exclusive) (fits.accesses k low))
       ] in
-      let kept = slot_kept s t fits i j y fewer (minus (get_or t.words (suc j) 0)) (may_read (suc j) cells) (unpins m c) sound (less_bits small bits) homes' in (
+      let kept = slot_kept s t fits i j y fewer (minus (get_or t.words (suc j) 0)) (may_read (suc j) cells) (unpins m c) sound (less_bits small bits) accesses' in (
         inr y,
         unpins m c,
         t.log,

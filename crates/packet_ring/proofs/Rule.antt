@@ -5,8 +5,8 @@ use Rattle.ring_steps.specs.declared.words.Slot.{Slot}
 use Rattle.ring_steps.specs.Ring.{empty_ring, new_seat, fresh_slot}
 use Rattle.ring_steps.specs.Bits.{word_bits}
 use Rattle.ring_steps.proofs.Opening.{empty_keeps, same_fresh}
-use Rattle.packet_ring.specs.Table.{Home, away, home, AreWide, opening, flat}
-use Rattle.packet_ring.specs.Rule.{Holds, View, HasCells, HomeFits, holders, fresh_units, fresh_views, publisher_view, seat_view}
+use Rattle.packet_ring.specs.Table.{Access, exclusive, readable, AreWide, opening, flat}
+use Rattle.packet_ring.specs.Rule.{Holds, View, HasCells, AccessFits, holders, fresh_units, fresh_views, publisher_view, seat_view}
 
 map_same : {A B : Type 0} (f : A → B) (n : ℕ) (a : A) → map f (replicate n a) ≡ replicate n (f a)
 map_same f zero a = refl
@@ -20,13 +20,13 @@ fresh_cells : (width : ℕ) → HasCells (replicate width 0) fresh_slot
 fresh_cells zero = (refl, refl)
 fresh_cells (suc w) = (refl, refl)
 
-fresh_fits : (keep seats width j : ℕ) → HomeFits (empty_ring keep seats) j (home 0 (replicate width 0))
+fresh_fits : (keep seats width j : ℕ) → AccessFits (empty_ring keep seats) j (readable 0 (replicate width 0))
 fresh_fits keep seats width j = let at : get_or (replicate (keep + 1) fresh_slot) j fresh_slot ≡ fresh_slot = same_fresh (keep + 1) j in
     (ap (λ (t : Slot). t.word.writing) at, no_holders keep seats j, subst (HasCells (replicate width 0)) (sym at) (fresh_cells width))
 
-fresh_homes : (keep seats width j : ℕ) → j ≤ keep → HomeFits (empty_ring keep seats) j (get_or (map (λ u. home 0 u.1) (fresh_units keep width)) (suc j) away)
-fresh_homes keep seats width j near = let cells : List ℕ = replicate width 0 in
-    subst (HomeFits (empty_ring keep seats) j) (sym (ap (λ (hs : List Home). get_or hs j away) (map_same (λ u. home 0 u.1) (keep + 1) (0, cells)) ∙ get_or-replicate (keep + 1) j (home 0 cells) away (omega arith))) (fresh_fits keep seats width j)
+fresh_accesses : (keep seats width j : ℕ) → j ≤ keep → AccessFits (empty_ring keep seats) j (get_or (map (λ u. readable 0 u.1) (fresh_units keep width)) (suc j) exclusive)
+fresh_accesses keep seats width j near = let cells : List ℕ = replicate width 0 in
+    subst (AccessFits (empty_ring keep seats) j) (sym (ap (λ (hs : List Access). get_or hs j exclusive) (map_same (λ u. readable 0 u.1) (keep + 1) (0, cells)) ∙ get_or-replicate (keep + 1) j (readable 0 cells) exclusive (omega arith))) (fresh_fits keep seats width j)
 
 pub fresh_holds : (keep seats width most : ℕ) → 1 ≤ keep → seats ≤ 1024 → Holds (seats, most) (opening (fresh_units keep width) (fresh_views seats))
 fresh_holds keep seats width most some few = (
@@ -41,7 +41,7 @@ fresh_holds keep seats width most some few = (
     words = ap (λ (ns : List ℕ). 0 ∷ ns) (map_same (λ u. u.0) (keep + 1) (0, replicate width 0) ∙ sym (map_same (λ (x : Slot). word_bits x.word) (keep + 1) fresh_slot));
     views = ap (λ (vs : List View). publisher_view (empty_ring keep seats) ∷ vs) (sym (map_same seat_view seats new_seat));
     log = refl;
-    homes = fresh_homes keep seats width;
+    accesses = fresh_accesses keep seats width;
   },
 )
 

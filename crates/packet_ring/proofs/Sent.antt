@@ -11,8 +11,8 @@ use denote.Param.Send.{IsSend, IsSync, sendable, part_keyless, array_send, array
 use types.Keyed.{entry_keyless}
 use Rattle.atomic_table.specs.Seated.{halved}
 use Rattle.atomic_table.proofs.Sent.{roster_keyless}
-use Rattle.packet_ring.specs.Table.{Home, away, home, Right, no_right, may_read, may_end, may_write, State, Me}
-use Rattle.packet_ring.specs.Lent.{BlockId, Spot, spot, row, cells_row, held, shown, lasting, at_home, shelf, carried, owed, mine, waiting, inner, block_owns, block_shares}
+use Rattle.packet_ring.specs.Table.{Access, exclusive, readable, Right, no_right, may_read, may_end, may_write, State, Me}
+use Rattle.packet_ring.specs.Lent.{BlockId, Spot, spot, row, cells_row, held, shown, lasting, access_at, accesses_row, carried, owed, mine, waiting, inner, block_owns, block_shares}
 
 row_Keyless : (d b o : ℕ) (ns : List ℕ) → Keyless (row d b o ns)
 row_Keyless d b o [] = tt
@@ -34,14 +34,14 @@ module _ (t : Spot) where
   lasting_keyless : (a : ℕ) (x : List ℕ) → Keyless (lasting t a x)
   lasting_keyless a x = (shown_keyless a x, (held_keyless, tt))
 
-  home_keyless : (h : Home) → Keyless (at_home t h)
-  home_keyless away = λ c. tt
-  home_keyless (home m x) = λ a. ((λ e c. (tt, tt)), lasting_keyless a x)
+  access_keyless : (h : Access) → Keyless (access_at t h)
+  access_keyless exclusive = λ c. tt
+  access_keyless (readable m x) = λ a. ((λ e c. (tt, tt)), lasting_keyless a x)
 
 module _ (z : BlockId) where
-  shelf_keyless : (k : ℕ) (hs : List Home) → Keyless (shelf z k hs)
-  shelf_keyless k [] = tt
-  shelf_keyless k (h ∷ hs) = (home_keyless (spot z k) h, shelf_keyless (suc k) hs)
+  accesses_row_keyless : (k : ℕ) (hs : List Access) → Keyless (accesses_row z k hs)
+  accesses_row_keyless k [] = tt
+  accesses_row_keyless k (h ∷ hs) = (access_keyless (spot z k) h, accesses_row_keyless (suc k) hs)
 
   owed_keyless : (k n : ℕ) → Keyless (owed z k n)
   owed_keyless k zero = tt
@@ -71,7 +71,7 @@ module _ (z : BlockId) where
 
     module _ (holds : State V E → Type 0) (p : Ptr) where
       inner_keyless : Keyless (inner c e holds p z)
-      inner_keyless = λ s. (row_Keyless _ _ _ s.words, ((shelf_keyless 0 s.homes, (roster_keyless c z.views_name 0 s.views, latest_keyless full_share s.log)), λ _. tt))
+      inner_keyless = λ s. (row_Keyless _ _ _ s.words, ((accesses_row_keyless 0 s.accesses, (roster_keyless c z.views_name 0 s.views, latest_keyless full_share s.log)), λ _. tt))
 
       pub owns_keyless : Keyless (block_owns c e holds p z)
       unfolding Rattle.packet_ring.specs.Lent.seal

@@ -13,7 +13,7 @@ use denote.Sharing.{ShrLaws, one, said}
 use denote.SharingLaws.{beside_shr_laws, one_shr_laws}
 use denote.Struct.Lending.{Lends, Lends-both}
 use Rattle.packet_ring.specs.Table.{State}
-use Rattle.packet_ring.specs.Lent.{BlockId, age, common, rights, block_owns, block_shares}
+use Rattle.packet_ring.specs.Lent.{BlockId, block_life, common, rights, block_owns, block_shares}
 use Rattle.packet_ring.proofs.Moves.{common_twice}
 
 module _ {V E : Type 0} (cv : Coded V) (ce : Coded E) (holds : State V E → Type 0) (p : Ptr) (z : BlockId) where
@@ -21,7 +21,7 @@ module _ {V E : Type 0} (cv : Coded V) (ce : Coded E) (holds : State V E → Typ
   C = common cv.code ce holds p z
 
   abbrev Φ : Share → Fml
-  Φ q = flft (age z) q
+  Φ q = flft (block_life z) q
 
   pub shown_laws : ShrLaws (block_shares cv.code ce holds p z)
   unfolding Rattle.packet_ring.specs.Lent.seal

@@ -1,7 +1,7 @@
 -- What the ring's block and its tokens own. The block lends its memory for a lifetime of its own, whose
 -- token it keeps, and a `&` to it shows that the lifetime lasts. An invariant holds the borrow of the
--- words, the cells that are at home, a quarter of each token's view, and the log. While a unit's cells are
--- at home they are shared for a further lifetime, a round, of whose token each reader has one part in
+-- words, the readable cells, a quarter of each token's view, and the log. While a unit's cells are
+-- readable they are shared for a further lifetime, a round, of whose token each reader has one part in
 -- 2 ^ 63.
 use Rattle.std.specs.Prelude.{◌≡◌, ℕ, zero, suc, ◌+◌, ◌-◌, ◌*◌, ◌^◌, ◌<◌, List, [], ◌∷◌, length, slice_index_or}
 use base.Fraction.{full_share}
@@ -17,7 +17,7 @@ use denote.Memory.{mem, shared_of}
 use denote.RawPtr.{Ptr, block_ptr}
 use Rattle.atomic_table.specs.Seated.{word, fact, seen, roster}
 use Rattle.counted_slot.specs.Counting.{parts, idle}
-use Rattle.packet_ring.specs.Table.{Home, away, home, Right, no_right, may_read, may_end, may_write, State, Me}
+use Rattle.packet_ring.specs.Table.{Access, exclusive, readable, Right, no_right, may_read, may_end, may_write, State, Me}
 
 -- which block it is: how many units it has, how many cells a unit, how many seats the ring and bytes a
 -- packet at most, and what no other block shares with it; `names` has the names of each unit's rounds and of its cells' value
@@ -38,8 +38,8 @@ block_id_coded = coded_via (coded× coded_ℕ (coded× coded_ℕ (coded× (coded
     (λ x y e i. record { units = (e i).0; width = (e i).1.0; limits = (e i).1.1.0; views_name = (e i).1.1.1.0; log_name = (e i).1.1.1.1.0; atom = (e i).1.1.1.1.1.0; block = (e i).1.1.1.1.1.1.0; offset = (e i).1.1.1.1.1.1.1.0; names = (e i).1.1.1.1.1.1.1.1 })
 
 -- the lifetime for which the block lends its memory
-abbrev pub age : BlockId → Lft
-age z = z.atom ∷ []
+abbrev pub block_life : BlockId → Lft
+block_life z = z.atom ∷ []
 
 abbrev pub start : BlockId → Ptr
 start z = block_ptr z.block z.offset
@@ -68,7 +68,7 @@ pub record Spot : Type 0 where
 
 abbrev pub spot : BlockId → ℕ → Spot
 spot z k = record {
-  life = age z;
+  life = block_life z;
   width = z.width;
   block = z.block;
   offset = unit_at z k + 8;
@@ -107,14 +107,14 @@ round t x = fex ℕ (λ a. fsep (flft (a ∷ []) full_share) (lasting t a x))
 abbrev pub reader : Spot → List ℕ → Fml
 reader t x = fex ℕ (λ a. fsep (parts t.round_name a 1) (shown t a x))
 
-abbrev pub at_home : Spot → Home → Fml
-at_home t away = idle t.round_name
-at_home t (home m x) = fex ℕ (λ a. fsep (parts t.round_name a (2 ^ 63 - m)) (lasting t a x))
+abbrev pub access_at : Spot → Access → Fml
+access_at t exclusive = idle t.round_name
+access_at t (readable m x) = fex ℕ (λ a. fsep (parts t.round_name a (2 ^ 63 - m)) (lasting t a x))
 
 module _ (z : BlockId) where
-  abbrev pub shelf : ℕ → List Home → Fml
-  shelf k [] = ftrue
-  shelf k (h ∷ hs) = fsep (at_home (spot z k) h) (shelf (suc k) hs)
+  abbrev pub accesses_row : ℕ → List Access → Fml
+  accesses_row k [] = ftrue
+  accesses_row k (h ∷ hs) = fsep (access_at (spot z k) h) (accesses_row (suc k) hs)
 
   abbrev pub carried : Right → Fml
   carried no_right = ftrue
@@ -125,7 +125,7 @@ module _ (z : BlockId) where
   -- the rights to have the cells of n units back, from the k-th on
   abbrev pub owed : ℕ → ℕ → Fml
   owed k zero = ftrue
-  owed k (suc n) = fsep (flent (age z) (held (spot z k))) (owed (suc k) n)
+  owed k (suc n) = fsep (flent (block_life z) (held (spot z k))) (owed (suc k) n)
 
 abbrev pub Placed : Ptr → BlockId → Type 0
 Placed p z = (p ≡ start z) × (z.units * stride z < 2 ^ 63)
@@ -145,30 +145,30 @@ module _ {V E : Type 0} (c : V → Gv) (e : Coded E) where
 
   module _ (holds : State V E → Type 0) (p : Ptr) (z : BlockId) where
     abbrev pub Keeps : State V E → Type 0
-    Keeps s = holds s × (length s.words ≡ z.units) × (length s.homes ≡ z.units)
+    Keeps s = holds s × (length s.words ≡ z.units) × (length s.accesses ≡ z.units)
 
     abbrev pub standing : State V E → Fml
-    standing s = fsep (row (stride z) z.block z.offset s.words) (fsep (fsep (shelf z 0 s.homes) (fsep (roster c z.views_name 0 s.views) (latest (prefixes e) full_share z.log_name s.log))) (fact (Keeps s)))
+    standing s = fsep (row (stride z) z.block z.offset s.words) (fsep (fsep (accesses_row z 0 s.accesses) (fsep (roster c z.views_name 0 s.views) (latest (prefixes e) full_share z.log_name s.log))) (fact (Keeps s)))
 
     abbrev pub inner : Fml
     inner = fex (State V E) standing
 
     abbrev pub common : Fml
-    common = fsep (fact (Placed p z)) (finv (fbor (age z) inner))
+    common = fsep (fact (Placed p z)) (finv (fbor (block_life z) inner))
 
     abbrev pub rights : Fml
-    rights = fsep (flent (age z) inner) (owed z 0 z.units)
+    rights = fsep (flent (block_life z) inner) (owed z 0 z.units)
 
 -- It keeps `holds` in sight as an argument, where `search` can match it
 unfoldable pub seal : (X : Type 1) → X → (X → Fml) → Fml
 seal X x F = F x
 
 abbrev pub lasts : BlockId → Lft → Fml
-lasts z κ = fshr_bor κ (λ q. flft (age z) q)
+lasts z κ = fshr_bor κ (λ q. flft (block_life z) q)
 
 module _ {V E : Type 0} (c : V → Gv) (e : Coded E) (holds : State V E → Type 0) (p : Ptr) (z : BlockId) where
   abbrev pub block_owns : Fml
-  block_owns = seal (State V E → Type 0) holds (λ h. fsep (flft (age z) full_share) (fsep (common c e h p z) (rights c e h p z)))
+  block_owns = seal (State V E → Type 0) holds (λ h. fsep (flft (block_life z) full_share) (fsep (common c e h p z) (rights c e h p z)))
 
   abbrev pub block_shares : Lft → Fml
   block_shares κ = seal (State V E → Type 0) holds (λ h. fsep (lasts z κ) (common c e h p z))

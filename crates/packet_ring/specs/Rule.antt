@@ -16,7 +16,7 @@ use Rattle.ring_steps.specs.Bits.{head_bits, word_bits}
 use Rattle.ring_steps.specs.Ring as Ring
 use Rattle.ring_steps.specs.Ring.{cursor, new_publisher, new_seat, slot, word}
 use Rattle.ring_steps.specs.Slots.{Invariant}
-use Rattle.packet_ring.specs.Table.{Home, away, home, Me, right_coded, State}
+use Rattle.packet_ring.specs.Table.{Access, exclusive, readable, Me, right_coded, State}
 
 -- what a token knows: the publisher its log and its view, and a seat its view
 abbrev pub View : Type 0
@@ -72,11 +72,11 @@ abbrev pub holders : (keep : ℕ) → List Seat → (j : ℕ) → ℕ
 holders keep [] j = 0
 holders keep (x ∷ xs) j = hold_of x.phase (cursor x % (keep + 1)) j + holders keep xs j
 
--- the cells of the slot at place j are away exactly while it is written; else as many parts of the right
+-- the access to the cells of the slot at place j is exclusive exactly while it is written; else as many parts of the right
 -- to read them are out as seats hold their packet there
-abbrev pub HomeFits : Ring.State → (place : ℕ) → Home → Type 0
-HomeFits s j away = (word s j).writing ≡ true
-HomeFits s j (home m x) = ((word s j).writing ≡ false) × (m ≡ holders s.keep s.seats j) × HasCells x (slot s j)
+abbrev pub AccessFits : Ring.State → (place : ℕ) → Access → Type 0
+AccessFits s j exclusive = (word s j).writing ≡ true
+AccessFits s j (readable m x) = ((word s j).writing ≡ false) × (m ≡ holders s.keep s.seats j) × HasCells x (slot s j)
 
 -- a packet has at least its tag, and with it at most so many bytes
 abbrev pub IsSized : (most : ℕ) → List ℕ → Type 0
@@ -107,7 +107,7 @@ pub record Fits (L : Limits) (s : Ring.State) (t : State View (List ℕ)) : Type
   pub words : t.words ≡ words_of s
   pub views : t.views ≡ views_of s
   pub log : t.log ≡ with_end s.head.closed s.log
-  pub homes : (j : ℕ) → j ≤ s.keep → HomeFits s j (slice_index_or t.homes (Prim.Native.Nat.suc j) away)
+  pub accesses : (j : ℕ) → j ≤ s.keep → AccessFits s j (slice_index_or t.accesses (Prim.Native.Nat.suc j) exclusive)
 
 abbrev pub Holds : Limits → State View (List ℕ) → Type 0
 Holds L t = (s : Ring.State) × Fits L s t

@@ -1,5 +1,5 @@
 -- The block as plain data, and what one atomic step does to it. A block has units, each with a word,
--- which changes in single steps, and cells, which are at home or away; tokens, each with a view, which
+-- which changes in single steps, and cells, which many may read or one may write; tokens, each with a view, which
 -- its own steps alone change; and a log, which only grows.
 use Rattle.std.specs.Prelude.{◌≡◌, ℕ, suc, ◌<◌, ◌^◌, List, [], ◌∷◌, ◌++◌, map, length, slice_index, slice_set}
 use mathlib.Core.Option.{some}
@@ -9,11 +9,11 @@ use mathlib.Core.Path.{refl, ap}
 use native.Mathlib.Omega.{arith}
 use base.Stored.{Coded, coded×, coded_ℕ, coded_list, coded_via}
 
--- the cells of a unit: at home, with so many parts of the right to read them out with tokens, or away
--- with the token that may write them
-pub data Home : Type 0 where
-  away : Home
-  home : (parts : ℕ) → (cells : List ℕ) → Home
+-- the access to a unit's cells: they are readable, with so many parts of the right to read them out with tokens, or
+-- one token alone may write them
+pub data Access : Type 0 where
+  exclusive : Access
+  readable : (parts : ℕ) → (cells : List ℕ) → Access
 
 -- the right that a token has to a unit's cells: none, to read them, to write them, or to write them once
 -- the time for which they were shared has ended
@@ -34,7 +34,7 @@ pub data Act : Type 0 where
 
 pub record State (V E : Type 0) : Type 0 where
   pub words : List ℕ
-  pub homes : List Home
+  pub accesses : List Access
   pub views : List V
   pub log : List E
 
@@ -51,41 +51,41 @@ right_after r (unpins m x) = no_right
 right_after r (begins k x) = may_end k x
 right_after r finishes = no_right
 
-abbrev pub homes_after : List Home → Right → Act → List Home
-homes_after hs r keeps = hs
-homes_after hs r (pins k m x) = slice_set hs k (home (suc m) x)
-homes_after hs (may_read k x) (unpins m y) = slice_set hs k (home m y)
-homes_after hs r (unpins m x) = hs
-homes_after hs r (begins k x) = slice_set hs k away
-homes_after hs (may_end k x) finishes = slice_set hs k (home 0 x)
-homes_after hs r finishes = hs
+abbrev pub accesses_after : List Access → Right → Act → List Access
+accesses_after hs r keeps = hs
+accesses_after hs r (pins k m x) = slice_set hs k (readable (suc m) x)
+accesses_after hs (may_read k x) (unpins m y) = slice_set hs k (readable m y)
+accesses_after hs r (unpins m x) = hs
+accesses_after hs r (begins k x) = slice_set hs k exclusive
+accesses_after hs (may_end k x) finishes = slice_set hs k (readable 0 x)
+accesses_after hs r finishes = hs
 
 -- the act can be done
-abbrev pub Valid : List Home → Right → Act → Type 0
+abbrev pub Valid : List Access → Right → Act → Type 0
 Valid hs r keeps = Unit {0}
-Valid hs no_right (pins k m x) = (get_elem? hs k ≡ some (home m x)) × (suc m < 2 ^ 63)
-Valid hs (may_read k x) (unpins m y) = (get_elem? hs k ≡ some (home (suc m) y)) × (suc m < 2 ^ 63)
-Valid hs no_right (begins k x) = get_elem? hs k ≡ some (home 0 x)
-Valid hs (may_end k x) finishes = get_elem? hs k ≡ some away
+Valid hs no_right (pins k m x) = (get_elem? hs k ≡ some (readable m x)) × (suc m < 2 ^ 63)
+Valid hs (may_read k x) (unpins m y) = (get_elem? hs k ≡ some (readable (suc m) y)) × (suc m < 2 ^ 63)
+Valid hs no_right (begins k x) = get_elem? hs k ≡ some (readable 0 x)
+Valid hs (may_end k x) finishes = get_elem? hs k ≡ some exclusive
 Valid hs r a = ⊥
 
 module _ {V E : Type 0} where
   -- the block after a step of the token `id`: the word i is n, and the token's view is w
   abbrev pub stepped : State V E → (i n id : ℕ) → Right → V → Act → List E → State V E
-  stepped s i n id r w a log = record { words = slice_set s.words i n; homes = homes_after s.homes r a; views = slice_set s.views id w; log = log }
+  stepped s i n id r w a log = record { words = slice_set s.words i n; accesses = accesses_after s.accesses r a; views = slice_set s.views id w; log = log }
 
   -- Where the word i becomes f of what it was, the token has a new view, an act and a longer log that keep
   -- the rule, `does` holds of the token, of the block before and of the block after, and `then` of the number
   -- found and of the token after
   abbrev pub Goes : (State V E → Type 0) → (ℕ → State V E → State V E → Type 0) → State V E → (id : ℕ) → Me V E → (word : ℕ) → (ℕ → ℕ) → (ℕ → Me V E → Type 0) → Type 0
   Goes holds does s id me i f then =
-      (w : V) × (a : Act) × (log : List E) × (seen : List E) × Valid s.homes me.right a × IsPrefix s.log log × IsPrefix seen log
+      (w : V) × (a : Act) × (log : List E) × (seen : List E) × Valid s.accesses me.right a × IsPrefix s.log log × IsPrefix seen log
       × holds (stepped s i (f (slice_index s.words i)) id me.right w a log)
       × does id s (stepped s i (f (slice_index s.words i)) id me.right w a log) × then (slice_index s.words i) (record { view = w; right = right_after me.right a; seen = seen })
 
   -- So it is whatever the block is
   abbrev pub Allows : (State V E → Type 0) → (ℕ → State V E → State V E → Type 0) → (units : ℕ) → (id : ℕ) → Me V E → (word : ℕ) → (ℕ → ℕ) → (ℕ → Me V E → Type 0) → Type 0
-  Allows holds does units id me i f then = (s : State V E) → holds s → length s.words ≡ units → length s.homes ≡ units → get_elem? s.views id ≡ some me.view → IsPrefix me.seen s.log → slice_index s.words i < 18446744073709551616
+  Allows holds does units id me i f then = (s : State V E) → holds s → length s.words ≡ units → length s.accesses ≡ units → get_elem? s.views id ≡ some me.view → IsPrefix me.seen s.log → slice_index s.words i < 18446744073709551616
       → Goes holds does s id me i f then
 
 -- a unit's word and cells, side by side, one unit after another
@@ -100,7 +100,7 @@ AreWide w (u ∷ us) = (length u.1 ≡ w) × AreWide w us
 
 -- the block at the start
 abbrev pub opening : {V E : Type 0} → List (ℕ × List ℕ) → List V → State V E
-opening us vs = record { words = map (λ u. u.0) us; homes = map (λ u. home 0 u.1) us; views = vs; log = [] }
+opening us vs = record { words = map (λ u. u.0) us; accesses = map (λ u. readable 0 u.1) us; views = vs; log = [] }
 
 -- the right to end a round becomes the right to write, once the round is over
 abbrev pub settled_right : Right → Right

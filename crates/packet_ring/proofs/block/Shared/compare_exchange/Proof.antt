@@ -6,7 +6,7 @@ use Rattle.core.proofs.atomic.Steps.{tail}
 use Rattle.packet_ring.specs.Table.{Allows}
 use Rattle.packet_ring.specs.Operation.{Operation}
 use Rattle.packet_ring.specs.Steps.{step}
-use Rattle.packet_ring.specs.Lent.{BlockId, age, unit_at, Placed, common, mine}
+use Rattle.packet_ring.specs.Lent.{BlockId, block_life, unit_at, Placed, common, mine}
 use Rattle.packet_ring.specs.Rule.{Knows, view_coded, packet_coded, Holds}
 use Rattle.packet_ring.specs.contracts.block.Shared as block
 use Rattle.packet_ring.specs.contracts.block.Token as token
@@ -27,7 +27,7 @@ compare_exchange_spec 𝓤 𝓛 𝓜 𝓡 wired Mv _ g d _ =
     let hs : Stays En.signature.params En.kept = (stay_dropped self yes, (stay_ref (1 ∷ []) tt sitter, (stay_dropped (plain (λ _. usize)) yes, (stay_dropped (plain (λ _. usize)) yes, (stay_dropped (plain (λ _. u64)) yes, (stay_dropped (plain (λ _. u64)) yes, tt)))))) in
     proved 𝓛 En hs c 𝓜 𝓡 (Goes-dropped 𝓛 3 self yes (λ κs x f. refl), (Goes-ref 𝓛 3 1 tt sitter, (number, (number, (word, (word, tt)))))) (#self inst) fn (code.unfolded 𝓤 H 𝓜 𝓡 wired (Mv, tt) d)
     (λ κs. (shr_vals, (mut_vals, (uint_vals w64, (uint_vals w64, (uint_vals w64, (uint_vals w64, tt))))))) (λ κs. (shr_Tells (named 0) κs.0 Row, (mut_Tells (named 1) κs.1.0 Sr, (uint_Tells w64, (uint_Tells w64, (uint_Tells w64, (uint_Tells w64, tt))))))) (λ κs qs bounds a gh are.
-    let b : ℕ = a.0.ref_ptr.0 in let o : ℕ = a.0.ref_ptr.1 in let κ : Lft = κs.0 in let t : Row.Denot = a.0.now in let p : Ptr = t.base in let z : BlockId = t.id in let α : Lft = age z in
+    let b : ℕ = a.0.ref_ptr.0 in let o : ℕ = a.0.ref_ptr.1 in let κ : Lft = κs.0 in let t : Row.Denot = a.0.now in let p : Ptr = t.base in let z : BlockId = t.id in let α : Lft = block_life z in
     let us : List Val = strip_of p ∷ [] in let C : Fml = common view_coded.code packet_coded (Holds z.limits) p z in
     let b' : ℕ = a.1.0.ref_ptr.0 in let o' : ℕ = a.1.0.ref_ptr.1 in let h : Sr.Denot = a.1.0.now in let id : ℕ = h.number in let v : Knows = h.me in let i : ℕ = a.1.1.0 in let k : ℕ = a.1.1.1.0 in let m0 : ℕ = a.1.1.1.1.0 in let m1 : ℕ = a.1.1.1.1.1.0 in
     let f : ℕ → ℕ = λ n. prog.Atomic.either (lib.Dec.eqb n m0) m1 n in let then : ℕ → Knows → Type 0 = g.then (step z.limits z.units i m0 m1) v in
