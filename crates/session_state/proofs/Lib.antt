@@ -14,6 +14,7 @@ pub mod Namesakes
 pub mod Identifiers
 pub mod AcceptedEntries
 pub mod OneAnswer
+pub mod OneLookup
 pub mod Moving
 pub mod Sessioning
 pub mod Announcing

@@ -4,6 +4,7 @@ ghost use Rattle.rtsp_message.specs.declared.request.Request as messages;
 ghost use Rattle.rtsp_message.specs.declared.reply.Reply.{Reply};
 ghost use Rattle.rtsp_message.specs.Reply.{code_of};
 ghost use Rattle.mounts.specs.declared.mount.Mount.{Mount};
+ghost use Rattle.mounts.specs.Mounts.{named, numbered, owned_by};
 ghost use Rattle.session_state.specs.declared.act.Act.{Act};
 ghost use Rattle.session_state.specs.declared.act.Act.TheVariants as acts;
 ghost use Rattle.session_state.specs.declared.entry.Entry.{Entry};
@@ -73,6 +74,27 @@ pub fn mounts_differ()
 pub fn sessions_differ()
     ensures { (seats conn other : ℕ) (history : History) (session second : Session) → IsSession seats conn history session → IsSession seats other history second
         → session.number ≡ second.number → conn ≡ other }
+{}
+
+/// Which mounts live doesn't go by how they are listed: two lists of them find the same mount by each number, name and owner.
+pub fn mounts_are_found_in_any_list()
+    ensures numbers { (seats : ℕ) (history : History) (mounts others : List Mount) (number : ℕ) → IsLegal seats history → AreLive seats history mounts → AreLive seats history others
+        → numbered number mounts ≡ numbered number others }
+    ensures names { (seats : ℕ) (history : History) (mounts others : List Mount) (name : List ℕ) → IsLegal seats history → AreLive seats history mounts → AreLive seats history others
+        → named name mounts ≡ named name others }
+    ensures owners { (seats : ℕ) (history : History) (mounts others : List Mount) (owner : ℕ) → IsLegal seats history → AreLive seats history mounts → AreLive seats history others
+        → owned_by owner mounts ≡ owned_by owner others }
+{}
+
+/// In a legal history a connection has one session, whatever lists of mounts it is looked up in: its number, its word, its mount
+/// and that mount's name, whether it records, and its state. Of its channels nothing is said here.
+pub fn sessions_are_told_once()
+    ensures number { (seats conn : ℕ) (history : History) (one other : Session) → IsLegal seats history → IsSession seats conn history one → IsSession seats conn history other → one.number ≡ other.number }
+    ensures word { (seats conn : ℕ) (history : History) (one other : Session) → IsLegal seats history → IsSession seats conn history one → IsSession seats conn history other → one.word ≡ other.word }
+    ensures mount { (seats conn : ℕ) (history : History) (one other : Session) → IsLegal seats history → IsSession seats conn history one → IsSession seats conn history other → one.mount ≡ other.mount }
+    ensures name { (seats conn : ℕ) (history : History) (one other : Session) → IsLegal seats history → IsSession seats conn history one → IsSession seats conn history other → one.name ≡ other.name }
+    ensures recording { (seats conn : ℕ) (history : History) (one other : Session) → IsLegal seats history → IsSession seats conn history one → IsSession seats conn history other → one.recording ≡ other.recording }
+    ensures state { (seats conn : ℕ) (history : History) (one other : Session) → IsLegal seats history → IsSession seats conn history one → IsSession seats conn history other → one.state ≡ other.state }
 {}
 
 /// A request has one answer, whatever seat it takes: among the mounts that live and with the session that there is, no two

@@ -60,6 +60,8 @@ fn the_laws_are_called() {
     laws::sessions_change_by_their_own();
     laws::connections_come_first();
     laws::mounts_differ();
+    laws::mounts_are_found_in_any_list();
     laws::sessions_differ();
+    laws::sessions_are_told_once();
     laws::one_reply();
 }
