@@ -16,4 +16,6 @@ pub use spares::MountPasses;
 #[cfg(test)]
 mod exchange_tests;
 #[cfg(test)]
+mod row_tests;
+#[cfg(test)]
 mod tests;
