@@ -24,7 +24,7 @@ use std::collections::hash_map::RandomState;
 use std::io;
 use std::process::ExitCode;
 use task::{Ended, Task, do_steps, do_talk, exit_code, task_named};
-use words::{DrawnWords, FixedWord, read_word};
+use words::{DrawnWords, FixedWord, Words, read_word};
 
 fn main(rt: HostRuntime) -> anyhow::Result<ExitCode> {
     let alloc = rt.alloc();
@@ -59,6 +59,8 @@ const FAILED: u8 = 1;
 /// The exit status after a command line that isn't understood.
 const COMMAND_LINE_FAULT: u8 = 2;
 
+const NO_RANDOM_SOURCE: &str = "relay: no random source";
+
 /// A request that `relay talk` answers, as a line for the shell.
 const TALK_EXAMPLE: &str = "Example: the methods that the relay knows
 
@@ -90,33 +92,30 @@ fn command<'a>(alloc: Global) -> Result<Command<'a>, AllocError> {
         .subcommand(steps)
 }
 
-/// Answers one connection over the standard streams, with this word in each session identifier, or with words that are
-/// drawn.
-fn talk_on_standard_streams(rt: &HostRuntime, word: Option<&str>) -> anyhow::Result<ExitCode> {
+/// Answers one connection over the standard streams, with the word of this text in each session identifier, or with words
+/// that are drawn.
+fn talk_on_standard_streams(rt: &HostRuntime, text: Option<&str>) -> anyhow::Result<ExitCode> {
+    let Some(text) = text else {
+        let drawn: io::Result<StdRng> = make_rng(rt);
+        let Ok(rng) = drawn else {
+            return Ok(fails(rt, FAILED, NO_RANDOM_SOURCE));
+        };
+        return talk_with(rt, &mut DrawnWords(rng));
+    };
+    match read_word(text) {
+        Some(word) => talk_with(rt, &mut FixedWord(word)),
+        None => Ok(fails(rt, COMMAND_LINE_FAULT, "relay: bad word")),
+    }
+}
+
+/// Answers one connection over the standard streams, with these words.
+fn talk_with<V: Words>(rt: &HostRuntime, words: &mut V) -> anyhow::Result<ExitCode> {
     let Ok(hasher) = RandomState::new(rt) else {
-        return Ok(fails(rt, FAILED, "relay: no random source"));
+        return Ok(fails(rt, FAILED, NO_RANDOM_SOURCE));
     };
     let reader = Reading::new(rt.stdin());
     let mut writer = Writing::new(rt.stdout());
-    let Some(text) = word else {
-        let drawn: io::Result<StdRng> = make_rng(rt);
-        let Ok(rng) = drawn else {
-            return Ok(fails(rt, FAILED, "relay: no random source"));
-        };
-        let mut words = DrawnWords(rng);
-        let ended = do_talk(rt.alloc(), hasher, reader, &mut writer, &mut words)?;
-        return Ok(tell(rt, &ended));
-    };
-    let Some(word) = read_word(text) else {
-        return Ok(fails(rt, COMMAND_LINE_FAULT, "relay: bad word"));
-    };
-    let ended = do_talk(
-        rt.alloc(),
-        hasher,
-        reader,
-        &mut writer,
-        &mut FixedWord(word),
-    )?;
+    let ended = do_talk(rt.alloc(), hasher, reader, &mut writer, words)?;
     Ok(tell(rt, &ended))
 }
 

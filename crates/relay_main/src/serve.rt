@@ -1,4 +1,5 @@
 //! The command `relay serve`.
+use crate::NO_RANDOM_SOURCE;
 use crate::words::DrawnWords;
 use clap::{Arg, ArgAction, ArgMatches, Command};
 use log::Log;
@@ -25,7 +26,6 @@ const SERVE_EXAMPLE: &str = "Examples:
 /// How a server that can't go on is told of on standard error.
 const CANNOT_LISTEN: &str = "relay: cannot listen";
 
-const NO_RANDOM_SOURCE: &str = "relay: no random source";
 
 const OUT_OF_MEMORY: &str = "relay: out of memory";
 
