@@ -10,9 +10,9 @@ use session_lock::Book;
 use std::alloc::{AllocError, Global};
 use std::collections::hash_map::RandomState;
 use std::io;
+use std::io::Eprint;
 use std::net::{Net, TcpListener, TcpStream};
 use std::random::RandomSource;
-use std::io::Eprint;
 use std::sync::{Arc, Mutex, Wait};
 use std::thread::Threads;
 use std::time::Clock;
@@ -25,7 +25,6 @@ const SERVE_EXAMPLE: &str = "Examples:
 
 /// How a server that can't go on is told of on standard error.
 const CANNOT_LISTEN: &str = "relay: cannot listen";
-
 
 const OUT_OF_MEMORY: &str = "relay: out of memory";
 
