@@ -178,8 +178,8 @@ fn idle_seat(rt: HostRuntime) -> Result<(), Fail> {
     Ok(())
 }
 
-/// A publisher, a pass and a seat of one ring go in this order. Each is an owner of the block until it goes: the
-/// last one frees it, and once, or the address sanitizer that tests run under stops.
+/// A publisher, a pass and a seat of one ring go in this order. Each is an owner of the block until it goes, and
+/// the last one frees it, once: its `Slots` and their `Lease` can be neither let go nor released twice.
 fn drop_in(order: usize, publisher: Publisher, pass: Pass, seat: Subscriber) -> bool {
     let all = Arc::strong_count(&publisher.ring) == 3;
     let last = match order {
