@@ -70,6 +70,7 @@ pub fn serve_command<'a>(alloc: Global) -> Result<Command<'a>, AllocError> {
         .help("Hang a player up once the last packet of its mount was written");
     Command::new(alloc, "serve")
         .about("Serves publishers and players over TCP")
+        .after_help(SERVE_EXAMPLE)
         .arg(addr)?
         .arg(keep)?
         .arg(seats)?
@@ -77,7 +78,6 @@ pub fn serve_command<'a>(alloc: Global) -> Result<Command<'a>, AllocError> {
         .arg(accept)?
         .arg(gather)?
         .arg(hang_up_ended)
-        .map(|command| command.after_help(SERVE_EXAMPLE))
 }
 
 /// Listens and serves. Answers the line that tells why it can't go on.
@@ -110,7 +110,11 @@ where
     };
     let seats = number(matches, "seats", 64).clamp(1, 1024);
     let keep = number(matches, "keep", 512).clamp(1, 4095);
-    let maker = RingMaker::new(keep, seats, number(matches, "packet-bytes", 16_384).max(1));
+    let maker = RingMaker::new(
+        keep,
+        seats,
+        number(matches, "packet-bytes", 16_384).clamp(12, 65_535),
+    );
     let Ok(book) = Arc::new(alloc, Mutex::new(Book::new(alloc, seats, hasher))) else {
         return Err(OUT_OF_MEMORY);
     };
