@@ -52,14 +52,15 @@ impl Bell {
 pub(crate) fn wake_players<R: Wait + Clock>(rt: &R, bell: &Bell, board: &Board, gather: Duration) {
     for _ in rt.forever() {
         bell.wait(rt);
-        if bell.stopped.load(Ordering::SeqCst) {
-            return;
-        }
         if !gather.is_zero() {
             thread::sleep(rt, gather);
         }
         // What is published from here on rings again; what was published before is marked already.
         bell.rung.store(0, Ordering::SeqCst);
         board.wake_marked(rt);
+        // Looked at behind the clearing: a stop before it is seen here, and one after it rings.
+        if bell.stopped.load(Ordering::SeqCst) {
+            return;
+        }
     }
 }

@@ -115,11 +115,7 @@ where
     };
     let mut intake = Intake::new(alloc, reader);
     let end = connection.serve(&mut intake);
-    if let ConnectionEnd::StreamFault(_) = end {
-        connection.hand.wire.close_writes();
-        read_away(&mut intake.into_source());
-    }
-    connection.hang_up(end)
+    connection.hang_up(end, &mut intake.into_source())
 }
 
 impl<R, M, V, G, W, H> Connection<R, M, V, G, W, H>
@@ -145,6 +141,8 @@ where
                 InStop::ReadFailed if self.torn_down => ConnectionEnd::Done,
                 InStop::ReadFailed => ConnectionEnd::ReadFailed,
                 InStop::Fault(fault) => {
+                    // No frame comes behind the fixed text.
+                    let _ = self.detach();
                     let _ = self.write_plain(status_of(fault), None);
                     ConnectionEnd::StreamFault(fault)
                 }
@@ -320,19 +318,29 @@ where
         }
     }
 
-    /// Hangs up in the book, and does what is left to do. Says how the connection ended, which may be by its frames.
-    fn hang_up(mut self, end: ConnectionEnd) -> ConnectionEnd {
+    /// Hangs up in the book, and does what is left to do. Says how the connection ended, which may be by its frames. Behind
+    /// a fault the peer is given a moment to read the fixed text.
+    fn hang_up<S: Source>(mut self, end: ConnectionEnd, source: &mut S) -> ConnectionEnd {
         let act = self.shared.book.lock(&self.rt).hangup(self.conn);
-        // A frame thread may wait for a peer that reads nothing.
+        let is_fault = matches!(end, ConnectionEnd::StreamFault(_));
         self.hand.stop();
-        self.hand.wire.hang_up();
+        if !is_fault {
+            // A frame thread may wait for a peer that reads nothing.
+            self.hand.wire.hang_up();
+        }
         let sent = self.detach();
         if act == Act::End {
             self.end_mount();
         }
+        if is_fault {
+            self.hand.wire.close_writes(AFTER_FAULT);
+            read_away(source);
+            return end;
+        }
         match sent {
             FrameEnd::WriteFailed => ConnectionEnd::WriteFailed,
             FrameEnd::OutOfMemory => ConnectionEnd::OutOfMemory,
+            FrameEnd::Ended if self.shared.hang_up_ended => ConnectionEnd::Done,
             FrameEnd::Stopped | FrameEnd::Ended => end,
         }
     }
@@ -383,8 +391,11 @@ fn skip_frames<S: Source + Drop>(rt: &impl Wait, intake: &mut Intake<S>) -> InSt
     unreachable!()
 }
 
+/// How long a read behind a fault waits, in milliseconds.
+const AFTER_FAULT: u64 = 200;
+
 /// How many reads may follow a fault.
-const LAST_READS: u32 = 64;
+const LAST_READS: u32 = 8;
 
 /// Reads what a peer still sends behind a fault, so that it isn't told of a reset before it has read the fixed text.
 fn read_away<S: Source>(source: &mut S) {

@@ -14,6 +14,9 @@ use std::thread;
 use std::thread::{JoinHandle, Threads};
 use transport_header::TrackChannels;
 
+/// How long a peer that was sent its last packet may say nothing before it is hung up, in milliseconds.
+const AFTER_END: u64 = 10_000;
+
 /// Why a frame thread ended.
 #[derive(Clone, Copy, Debug, PartialEq, Eq, Drop)]
 pub(crate) enum FrameEnd {
@@ -78,8 +81,10 @@ impl<T: Tap + Drop, W: Sink + Drop, H: HangUp + Drop> Hand<T, W, H> {
         if self.stop.load(Ordering::SeqCst) {
             return FrameEnd::Stopped;
         }
-        if end != FrameEnd::Ended || hang_up_ended {
-            self.wire.hang_up();
+        match end {
+            FrameEnd::Ended if !hang_up_ended => {}
+            FrameEnd::Ended => self.wire.close_writes(AFTER_END),
+            _ => self.wire.hang_up(),
         }
         end
     }

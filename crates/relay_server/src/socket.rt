@@ -10,13 +10,10 @@ use std::time::Duration;
 pub trait HangUp {
     fn hang_up(&self);
 
-    /// Nothing more is written, and a read ends when the peer says nothing for a while. So the peer can read what was
-    /// written last before the connection is closed.
-    fn close_writes(&self);
+    /// Nothing more is written, and a read ends when the peer says nothing for so many milliseconds. So the peer can read
+    /// what was written last before the connection is closed.
+    fn close_writes(&self, wait: u64);
 }
-
-/// How long the peer is waited for when nothing more is written, in milliseconds.
-const LAST_WAIT: u64 = 500;
 
 /// One of several owners of a socket, which is closed with the last of them.
 #[derive(Drop)]
@@ -56,10 +53,9 @@ impl HangUp for Socket {
         let _ = self.stream.shutdown(Shutdown::Both);
     }
 
-    fn close_writes(&self) {
-        let _ = self
-            .stream
-            .set_read_timeout(Some(Duration::from_millis(LAST_WAIT)));
+    fn close_writes(&self, wait: u64) {
+        let wait = Duration::from_millis(wait);
+        let _ = self.stream.set_read_timeout(Some(wait));
         let _ = self.stream.shutdown(Shutdown::Write);
     }
 }

@@ -45,7 +45,7 @@ session_told seats history tables conn same stands there = by (kept_of conn tabl
     by None at some = absurd (cc)
     by (Some session) at some =
         subst (λ told. IsSessionOf seats conn history told) (sym (ap (λ k. option_and_then (λ kept. kept) k) at))
-          (subst (λ n. IsSessionOf n conn history session) same (stands.sessions conn session at))
+        (subst (λ n. IsSessionOf n conn history session) same (stands.sessions conn session at))
 
 pub mount_told : (seats : ℕ) (history : History) (tables : Tables) (conn : ℕ) (told : Option ℕ) → tables.mounts.seats ≡ seats → Stands history tables
     → told ≡ option_map (λ (one : Session). one.mount) (session_kept tables conn) → is_open conn history ≡ true

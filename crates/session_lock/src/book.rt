@@ -80,6 +80,7 @@ impl<P: Drop> Book<P> {
     /// The session of an open connection, as it stands now. `None` without a session.
     pub fn session_of(&self, conn: u64) -> Option<&Session>
         ensures open { is_open conn self.now.history ≡ true → IsSessionOf self.now.seats conn self.now.history (option_copied result) }
+        ensures closed { is_open conn self.now.history ≡ false → option_copied result ≡ None }
     {
         self.world.session_of(conn)
     }

@@ -16,6 +16,8 @@ pub use spares::MountPasses;
 #[cfg(test)]
 mod exchange_tests;
 #[cfg(test)]
+mod mounts_tests;
+#[cfg(test)]
 mod row_tests;
 #[cfg(test)]
 mod tests;

@@ -1,0 +1,195 @@
+//! Two mounts of two seats over one book, by every method.
+use super::*;
+use base_syntax::Items;
+use rtsp_message::{Reader, Request, Unit};
+use session_state::{Act, Given, State};
+use std::alloc::Global;
+use std::collections::hash_map::RandomState;
+use std::test::Fail;
+
+/// What is asked and answered with 200 before anybody plays, and the act: connection 1 records into `a`, and 2 owns `b`.
+const OPENING: &[(u64, &[u8], Act)] = &[
+    (
+        1,
+        b"ANNOUNCE rtsp://h/a RTSP/1.0\nCSeq: 1\nContent-Length: 26\n\nv=0\nm=audio 0 RTP/AVP 0  \n",
+        Act::Open,
+    ),
+    (
+        2,
+        b"ANNOUNCE rtsp://h/b RTSP/1.0\nCSeq: 1\nContent-Length: 26\n\nv=0\nm=audio 0 RTP/AVP 0  \n",
+        Act::Open,
+    ),
+    (
+        1,
+        b"SETUP rtsp://h/a/trackID=0 RTSP/1.0\nCSeq: 2\nTransport: RTP/AVP/TCP;interleaved=8-9;mode=record\n\n",
+        Act::None,
+    ),
+    (
+        1,
+        b"RECORD rtsp://h/a RTSP/1.0\nCSeq: 3\nSession: 0000000100000007\n\n",
+        Act::Record,
+    ),
+    (
+        3,
+        b"SETUP rtsp://h/a/trackID=0 RTSP/1.0\nCSeq: 1\nTransport: RTP/AVP/TCP\n\n",
+        Act::None,
+    ),
+    (
+        4,
+        b"SETUP rtsp://h/a/trackID=0 RTSP/1.0\nCSeq: 1\nTransport: RTP/AVP/TCP\n\n",
+        Act::None,
+    ),
+    (
+        5,
+        b"SETUP rtsp://h/b/trackID=0 RTSP/1.0\nCSeq: 1\nTransport: RTP/AVP/TCP\n\n",
+        Act::None,
+    ),
+    (6, b"DESCRIBE rtsp://h/b RTSP/1.0\nCSeq: 1\n\n", Act::None),
+    (6, b"GET_PARAMETER * RTSP/1.0\nCSeq: 2\n\n", Act::None),
+    (6, b"OPTIONS * RTSP/1.0\nCSeq: 3\n\n", Act::None),
+];
+
+const PLAY_3: &[u8] = b"PLAY rtsp://h/a RTSP/1.0\nCSeq: 2\nSession: 0000000200000007\n\n";
+
+const PLAY_4: &[u8] = b"PLAY rtsp://h/a RTSP/1.0\nCSeq: 2\nSession: 0000000300000007\n\n";
+
+const PLAY_5: &[u8] = b"PLAY rtsp://h/b RTSP/1.0\nCSeq: 2\nSession: 0000000400000007\n\n";
+
+const PAUSE_3: &[u8] = b"PAUSE rtsp://h/a RTSP/1.0\nCSeq: 3\nSession: 0000000200000007\n\n";
+
+const PAUSE_4: &[u8] = b"PAUSE rtsp://h/a RTSP/1.0\nCSeq: 3\nSession: 0000000300000007\n\n";
+
+const TEARDOWN_1: &[u8] = b"TEARDOWN rtsp://h/a RTSP/1.0\nCSeq: 4\nSession: 0000000100000007\n\n";
+
+fn read_request(alloc: Global, text: &[u8]) -> Option<Request> {
+    let mut units = Reader::new(alloc).feed(text).ok()?.units;
+    match units.pop() {
+        Some(Unit::Message(request)) => Some(request),
+        _ => None,
+    }
+}
+
+/// What is answered with 200 and adds one entry. Connection 1 offers the passes 10 and 11, connection 2 20 and 21.
+fn asked(book: &mut Book<u16>, alloc: Global, conn: u64, text: &[u8]) -> Option<Answer<u16>> {
+    let kept = book.kept();
+    let request = read_request(alloc, text)?;
+    let first = if conn == 1 { 10u16 } else { 20 };
+    let offer = match text.starts_with(b"ANNOUNCE") {
+        true => Some(vec![in alloc; first, first + 1].ok()?),
+        false => None,
+    };
+    let given = Given {
+        word: 7,
+        points: Items::empty(alloc),
+    };
+    let answer = book.ask(conn, &request, &given, offer).ok()?;
+    let is_one_more = book.kept() == kept.wrapping_add(1);
+    if is_one_more && answer.reply.status.code() == 200 {
+        Some(answer)
+    } else {
+        None
+    }
+}
+
+/// The pass that was offered for a seat, behind the first one.
+fn pass_of(first: u16, seat: usize) -> u16 {
+    if seat == 0 {
+        first
+    } else {
+        first.wrapping_add(1)
+    }
+}
+
+/// The seat that a PLAY takes of this mount, where the pass is the one that was offered for it.
+fn seat_of(answer: Option<Answer<u16>>, wanted: u64, first: u16) -> Option<usize> {
+    let answer = answer?;
+    match answer.act {
+        Act::Play { mount, seat } if mount == wanted => {
+            let is_its_pass = answer.pass == Some(pass_of(first, seat));
+            if is_its_pass && seat < 2 {
+                Some(seat)
+            } else {
+                None
+            }
+        }
+        _ => None,
+    }
+}
+
+/// Whether a pass is handed back, and nothing is added.
+fn refuses(book: &mut Book<u16>, mount: u64, seat: usize) -> bool {
+    let kept = book.kept();
+    book.give_back(mount, seat, 99) == Some(99) && book.kept() == kept
+}
+
+/// A book in which the opening was asked and answered.
+fn opened(book: &mut Book<u16>, alloc: Global) -> bool {
+    for _ in 0..6 {
+        let _ = book.connect();
+    }
+    for (conn, text, act) in OPENING {
+        match asked(book, alloc, *conn, text) {
+            Some(answer) if answer.act == *act => {}
+            _ => return false,
+        }
+    }
+    true
+}
+
+#[test]
+fn seats_of_two_mounts(rt: HostRuntime) -> Result<(), Fail> {
+    let alloc = rt.alloc();
+    let mut book: Book<u16> = Book::new(alloc, 2, RandomState::new(&rt)?);
+    assert!(rt; opened(&mut book, alloc));
+    let third = seat_of(asked(&mut book, alloc, 3, PLAY_3), 1, 10).ok_or("no seat")?;
+    let fourth = seat_of(asked(&mut book, alloc, 4, PLAY_4), 1, 10).ok_or("no seat")?;
+    let fifth = seat_of(asked(&mut book, alloc, 5, PLAY_5), 2, 20).ok_or("no seat")?;
+    assert!(rt; third != fourth);
+    assert!(rt; asked(&mut book, alloc, 4, PAUSE_4).is_some());
+    assert!(rt; book.give_back(1, fourth, pass_of(10, fourth)).is_none());
+    // It is free now, beside one that is out.
+    assert!(rt; refuses(&mut book, 1, fourth));
+    assert!(rt; seat_of(asked(&mut book, alloc, 4, PLAY_4), 1, 10) == Some(fourth));
+    assert!(rt; asked(&mut book, alloc, 1, TEARDOWN_1).is_some());
+    assert!(rt; book.mount_of(1).is_none() && book.mount_of(3) == Some(1));
+    assert!(rt; asked(&mut book, alloc, 3, PAUSE_3).is_some());
+    // Its mount has ended.
+    assert!(rt; refuses(&mut book, 1, third));
+    assert!(rt;
+        book.hangup(5)
+            == Act::Stop {
+                mount: 2,
+                seat: fifth
+            }
+    );
+    assert!(rt; book.mount_of(5).is_none() && book.session_of(5).is_none());
+    assert!(rt; book.give_back(2, fifth, 20).is_none());
+    Ok(())
+}
+
+#[test]
+fn a_session_is_told_with_its_channels(rt: HostRuntime) -> Result<(), Fail> {
+    let alloc = rt.alloc();
+    let mut book: Book<u16> = Book::new(alloc, 2, RandomState::new(&rt)?);
+    assert!(rt; opened(&mut book, alloc));
+    let session = book.session_of(1).ok_or("no session")?;
+    assert!(rt; session.state == State::Recording && session.mount == 1);
+    assert!(rt; session.channels.tag_on(8) == Some(0) && session.channels.tag_on(9) == Some(1));
+    assert!(rt; book.session_of(2).is_none());
+    Ok(())
+}
+
+/// More requests than a server's connections send in a while.
+const MANY: usize = 3000;
+
+#[test]
+fn many_requests_are_answered(rt: HostRuntime) -> Result<(), Fail> {
+    let alloc = rt.alloc();
+    let mut book: Book<u16> = Book::new(alloc, 0, RandomState::new(&rt)?);
+    assert!(rt; book.connect() == Ok(1));
+    for _ in 0..MANY {
+        assert!(rt; asked(&mut book, alloc, 1, b"OPTIONS * RTSP/1.0\nCSeq: 1\n\n").is_some());
+    }
+    assert!(rt; book.kept() == MANY + 1);
+    Ok(())
+}
