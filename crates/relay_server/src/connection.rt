@@ -1,4 +1,5 @@
 //! One connection, from its coming to its hang-up.
+use crate::counts::Counts;
 use crate::ending::ConnectionEnd;
 use crate::frames::{FrameEnd, Frames, Hand};
 use crate::gate::Gate;
@@ -12,7 +13,7 @@ use crate::words::Words;
 use base_syntax::Items;
 use cursor::Feed;
 use interleaved::{Sink, Source};
-use publisher::{InStop, relay_in};
+use publisher::{InReport, InStop, relay_in};
 use rtsp_message::{Fault, Intake, Next, Reply, Request, Status, Unit, put_reply};
 use session_lock::Answer;
 use session_state::{Act, Given, Method, Session, State, read_method};
@@ -65,6 +66,7 @@ pub(crate) struct Connection<R, M: Maker, V, G, W: Sink, H> {
     frames: Option<Frames>,
     /// Whether the last request ended the session.
     torn_down: bool,
+    counts: Counts,
 }
 
 /// Serves an open connection: answers its requests in order, publishes what comes in while it records, and sends what
@@ -78,7 +80,7 @@ pub fn run_connection<R, M, V, G, S, W, H>(
     reader: S,
     line: Line<W>,
     wire: H,
-) -> ConnectionEnd
+) -> (ConnectionEnd, Counts)
 where
     R: Threads + Wait + Copy + Send + 'static,
     M: Maker + Drop,
@@ -97,7 +99,7 @@ where
                 .line
                 .write_plain(&rt, Status::ServiceUnavailable, None);
             let _ = shared.book.lock(&rt).hangup(conn);
-            return ConnectionEnd::OutOfMemory;
+            return (ConnectionEnd::OutOfMemory, Counts::new());
         }
     };
     let mut connection = Connection {
@@ -112,6 +114,7 @@ where
         mount: None,
         frames: None,
         torn_down: false,
+        counts: Counts::new(),
     };
     let mut intake = Intake::new(alloc, reader);
     let end = connection.serve(&mut intake);
@@ -160,9 +163,11 @@ where
     fn next_message<S: Source + Drop>(&mut self, intake: &mut Intake<S>) -> InStop {
         match (&mut self.publishing, &self.session) {
             (Some(feed), Some(session)) if session.recording => {
-                publish_frames(intake, feed, &session.channels)
+                let report = publish_frames(intake, feed, &session.channels);
+                self.counts.add_in(&report);
+                report.stop
             }
-            _ => skip_frames(&self.rt, intake),
+            _ => skip_frames(&self.rt, intake, &mut self.counts),
         }
     }
 
@@ -178,26 +183,63 @@ where
         }
     }
 
-    /// Has the book decide a request. With an ANNOUNCE comes the feed of the mount that it may open.
+    /// Has the book decide a request. With an ANNOUNCE that is accepted comes the feed of its mount.
     fn ask(&mut self, request: &Request) -> Result<Asked<R, M>, AllocError> {
         let rt = self.rt;
         self.shared.gate.pass(self.conn, self.turns);
         self.turns = self.turns.saturating_add(1);
         let word = self.shared.words.lock(&rt).word();
-        let (feed, offer, points) = match read_method(request.method.as_slice()) {
-            Some(Method::Announce) => {
-                let (feed, seats) = self.offer()?;
-                (Some(feed), Some(seats), Items::empty(self.alloc))
+        match read_method(request.method.as_slice()) {
+            Some(Method::Announce) => self.ask_to_publish(request, word),
+            Some(Method::Play) => {
+                let points = self.points()?;
+                Ok((self.ask_book(request, word, points, None)?, None))
             }
-            Some(Method::Play) => (None, None, self.points()?),
-            _ => (None, None, Items::empty(self.alloc)),
+            _ => {
+                let points = Items::empty(self.alloc);
+                Ok((self.ask_book(request, word, points, None)?, None))
+            }
+        }
+    }
+
+    /// A ring is made for each ANNOUNCE, and is gone again where that is refused before another one is made.
+    fn ask_to_publish(&mut self, request: &Request, word: u32) -> Result<Asked<R, M>, AllocError> {
+        let shared = Arc::try_clone(&self.shared)?;
+        let one_at_a_time = shared.making.lock(&self.rt);
+        let (feed, seats) = self.offer()?;
+        let points = Items::empty(self.alloc);
+        let answer = self.ask_book(request, word, points, Some(seats))?;
+        let Answer {
+            reply,
+            act,
+            pass,
+            back,
+        } = answer;
+        drop(back);
+        let feed = if act == Act::Open { Some(feed) } else { None };
+        drop(one_at_a_time);
+        let answer = Answer {
+            reply,
+            act,
+            pass,
+            back: None,
         };
+        Ok((answer, feed))
+    }
+
+    fn ask_book(
+        &mut self,
+        request: &Request,
+        word: u32,
+        points: Items<Option<Point>>,
+        offer: Option<Vec<Seat<M::Pass>>>,
+    ) -> Result<Answer<Seat<M::Pass>>, AllocError> {
         let given = Given { word, points };
-        let mut book = self.shared.book.lock(&rt);
+        let mut book = self.shared.book.lock(&self.rt);
         match book.ask(self.conn, request, &given, offer) {
             Ok(answer) => {
                 self.session = book.session_of(self.conn).map(Told::of);
-                Ok((answer, feed))
+                Ok(answer)
             }
             Err(_) => Err(AllocError),
         }
@@ -299,11 +341,14 @@ where
         frames.notice.wake();
         let end = frames.join(&self.rt);
         if let Some(tap) = self.hand.take(&self.rt) {
-            let (pass, _) = self.shared.maker.detach(tap);
+            let (pass, left) = self.shared.maker.detach(tap);
+            self.counts.add_out(&left);
             let (mount, seat, notice) = frames.into_seat();
             let mut book = self.shared.book.lock(&self.rt);
-            // The pass comes back where the mount has ended.
-            let _ = book.give_back(mount, seat, Seat { pass, notice });
+            let returned = book.give_back(mount, seat, Seat { pass, notice });
+            // The pass comes back where the mount has ended, and its ring may go with it: not under the lock.
+            drop(book);
+            drop(returned);
         }
         end
     }
@@ -320,7 +365,7 @@ where
 
     /// Hangs up in the book, and does what is left to do. Says how the connection ended, which may be by its frames. Behind
     /// a fault the peer is given a moment to read the fixed text.
-    fn hang_up<S: Source>(mut self, end: ConnectionEnd, source: &mut S) -> ConnectionEnd {
+    fn hang_up<S: Source>(mut self, end: ConnectionEnd, source: &mut S) -> (ConnectionEnd, Counts) {
         let act = self.shared.book.lock(&self.rt).hangup(self.conn);
         let is_fault = matches!(end, ConnectionEnd::StreamFault(_));
         self.hand.stop();
@@ -335,14 +380,15 @@ where
         if is_fault {
             self.hand.wire.close_writes(AFTER_FAULT);
             read_away(source);
-            return end;
+            return (end, self.counts);
         }
-        match sent {
+        let end = match sent {
             FrameEnd::WriteFailed => ConnectionEnd::WriteFailed,
             FrameEnd::OutOfMemory => ConnectionEnd::OutOfMemory,
             FrameEnd::Ended if self.shared.hang_up_ended => ConnectionEnd::Done,
             FrameEnd::Stopped | FrameEnd::Ended => end,
-        }
+        };
+        (end, self.counts)
     }
 
     fn write_reply(&self, reply: &Reply) -> Result<(), ConnectionEnd> {
@@ -369,18 +415,25 @@ fn publish_frames<S: Source + Drop, F: Feed>(
     intake: &mut Intake<S>,
     feed: &mut F,
     channels: &TrackChannels,
-) -> InStop {
+) -> InReport {
     let mut points = [None; MOST_TRACKS];
     // No more tracks than these are set up.
     let _most = channels.pair_of(0);
-    relay_in(intake, feed, channels, &mut points).stop
+    relay_in(intake, feed, channels, &mut points)
 }
 
 /// Drops frames until a message comes, the end or a fault.
-fn skip_frames<S: Source + Drop>(rt: &impl Wait, intake: &mut Intake<S>) -> InStop {
+fn skip_frames<S: Source + Drop>(
+    rt: &impl Wait,
+    intake: &mut Intake<S>,
+    counts: &mut Counts,
+) -> InStop {
     for _ in rt.forever() {
         return match intake.next() {
-            Next::Unit(Unit::Frame(_)) => continue,
+            Next::Unit(Unit::Frame(_)) => {
+                counts.add_stranger();
+                continue;
+            }
             Next::Unit(Unit::Message(request)) => InStop::Message(request),
             Next::End => InStop::End,
             Next::Fault(fault) => InStop::Fault(fault),

@@ -4,6 +4,9 @@
 mod bell;
 mod board;
 mod connection;
+#[cfg(test)]
+mod connection_tests;
+mod counts;
 mod ending;
 mod frames;
 mod gate;
@@ -14,6 +17,8 @@ mod maker;
 mod notice;
 mod options;
 mod posting;
+#[cfg(test)]
+mod row_tests;
 mod server;
 mod shared;
 mod socket;
@@ -22,6 +27,7 @@ mod tests;
 mod words;
 
 pub use connection::run_connection;
+pub use counts::Counts;
 pub use ending::ConnectionEnd;
 pub use gate::{Gate, OpenGate};
 pub use line::Line;

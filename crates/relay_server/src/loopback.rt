@@ -40,6 +40,8 @@ pub(crate) const ANNOUNCE: &str =
 pub(crate) struct Client {
     stream: TcpStream,
     alloc: Global,
+    /// What was read and not asked for yet.
+    rest: Vec<u8>,
 }
 
 impl Client {
@@ -50,37 +52,59 @@ impl Client {
     ) -> io::Result<Client> {
         let stream = TcpStream::connect(rt, addr)?;
         stream.set_read_timeout(Some(Duration::from_secs(10)))?;
-        Ok(Client { stream, alloc })
+        Ok(Client {
+            stream,
+            alloc,
+            rest: Vec::new(alloc),
+        })
     }
 
     pub(crate) fn say(&mut self, bytes: &[u8]) -> io::Result<()> {
         self.stream.write_all(bytes)
     }
 
+    /// Reads a piece more. `false` at the end.
+    fn read_more(&mut self) -> io::Result<bool> {
+        let mut piece = [0; 4096];
+        let count = self.stream.read(&mut piece)?;
+        self.rest.extend_from_slice(&piece[..count])?;
+        Ok(count > 0)
+    }
+
+    /// The first so many bytes of what was read.
+    fn take(&mut self, count: usize) -> io::Result<Vec<u8>> {
+        let count = count.min(self.rest.len());
+        let taken = Vec::from_slice(self.alloc, &self.rest[..count])?;
+        self.rest = Vec::from_slice(self.alloc, &self.rest[count..])?;
+        Ok(taken)
+    }
+
     /// The next so many bytes, or fewer where there are no more.
     pub(crate) fn bytes(&mut self, count: usize) -> io::Result<Vec<u8>> {
-        let mut all = Vec::new(self.alloc);
-        for _ in 0..count {
-            let mut byte = [0];
-            if self.stream.read(&mut byte)? == 0 {
+        for _ in 0..100_000u32 {
+            if self.rest.len() >= count || !self.read_more()? {
                 break;
             }
-            all.push(byte[0])?;
         }
-        Ok(all)
+        self.take(count)
     }
 
     /// The next bytes up to an empty line, or up to the end.
     pub(crate) fn head(&mut self) -> io::Result<Vec<u8>> {
-        let mut all = Vec::new(self.alloc);
         for _ in 0..100_000u32 {
-            let mut byte = [0];
-            if all.as_slice().ends_with(b"\r\n\r\n") || self.stream.read(&mut byte)? == 0 {
+            let end = self
+                .rest
+                .as_slice()
+                .windows(4)
+                .position(|four| four == b"\r\n\r\n".as_slice());
+            if let Some(place) = end {
+                return self.take(place.saturating_add(4));
+            }
+            if !self.read_more()? {
                 break;
             }
-            all.push(byte[0])?;
         }
-        Ok(all)
+        self.take(usize::MAX)
     }
 
     /// Asks, and answers the head of the reply.
@@ -128,6 +152,8 @@ pub(crate) struct Set {
     pub(crate) accept: u64,
     pub(crate) seats: usize,
     pub(crate) hang_up_ended: bool,
+    /// The milliseconds for which packets gather.
+    pub(crate) gather: u64,
 }
 
 /// Starts a server whose rings keep 512 packets of at most 1,024 bytes.
@@ -157,7 +183,7 @@ where
     let theirs = Arc::try_clone(&book)?;
     let options = Options {
         accept: Some(set.accept),
-        gather: 1,
+        gather: set.gather,
         hang_up_ended: set.hang_up_ended,
     };
     let maker = RingMaker::new(512, seats, 1024);

@@ -1,6 +1,7 @@
 //! The listening thread, and the threads of connections.
 use crate::bell::wake_players;
 use crate::connection::run_connection;
+use crate::counts::Counts;
 use crate::ending::ConnectionEnd;
 use crate::gate::Gate;
 use crate::line::Line;
@@ -11,7 +12,7 @@ use crate::shared::{Shared, SharedBook};
 use crate::socket::Socket;
 use crate::words::Words;
 use interleaved::{Reading, Writing, write_all};
-use log::{Log, warn};
+use log::{Log, info, warn};
 use packet_ring::Pass;
 use rtsp_message::{Status, put_plain};
 use std::alloc::{AllocError, Global};
@@ -148,8 +149,8 @@ where
     shared.live.fetch_add(1, Ordering::SeqCst);
     let started = thread::spawn(&rt, move || {
         let line = Line::new(alloc, writer);
-        let end = run_connection(rt, alloc, theirs, conn, reader, line, wire);
-        tell_end(&rt, peer, end);
+        let (end, counts) = run_connection(rt, alloc, theirs, conn, reader, line, wire);
+        tell_end(&rt, peer, end, &counts);
         leave(&same);
     });
     match started {
@@ -161,10 +162,14 @@ where
     }
 }
 
-/// A warning where a connection ended by a fault, a failed read or write, or for want of memory or a thread.
-fn tell_end<R: Log>(rt: &R, peer: SocketAddr, end: ConnectionEnd) {
+/// A warning where a connection ended by a fault, a failed read or write, or for want of memory or a thread, and a line
+/// where packets were lost or refused.
+fn tell_end<R: Log>(rt: &R, peer: SocketAddr, end: ConnectionEnd, counts: &Counts) {
     if end != ConnectionEnd::Done {
         warn!(rt; "{peer}: {end}");
+    }
+    if counts.has_losses() {
+        info!(rt; "{peer}: {counts}");
     }
 }
 

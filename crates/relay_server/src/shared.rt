@@ -15,6 +15,8 @@ pub type SharedBook<P> = Arc<Mutex<Book<P>>, Global>;
 pub struct Shared<M: Maker, V, G> {
     pub(crate) maker: M,
     pub(crate) book: SharedBook<Seat<M::Pass>>,
+    /// Held while a ring is made and offered, so that one at a time is made that may be refused.
+    pub(crate) making: Mutex<()>,
     pub(crate) words: Mutex<V>,
     pub(crate) gate: G,
     pub(crate) board: Board,
@@ -38,6 +40,7 @@ impl<M: Maker + Drop, V: Drop, G: Drop> Shared<M, V, G> {
         Ok(Shared {
             maker,
             book,
+            making: Mutex::new(()),
             words: Mutex::new(words),
             gate,
             board: Board::new(alloc),

@@ -52,6 +52,7 @@ fn a_frame_comes_out_where_it_was_set_up(rt: HostRuntime) -> Result<(), Fail> {
         accept: 3,
         seats: 2,
         hang_up_ended: false,
+        gather: 1,
     };
     let server = start(rt, alloc, set, RandomState::new(&rt)?, OpenGate)?;
     let mut camera = publisher(&rt, alloc, server.addr)?;
@@ -87,6 +88,7 @@ fn each_connection_comes_asks_and_hangs_up(rt: HostRuntime) -> Result<(), Fail> 
         accept: 2,
         seats: 1,
         hang_up_ended: false,
+        gather: 1,
     };
     let server = start(rt, alloc, set, RandomState::new(&rt)?, OpenGate)?;
     for _ in 0..2 {
@@ -135,6 +137,7 @@ fn connections_are_served_side_by_side(rt: HostRuntime) -> Result<(), Fail> {
         accept: 2,
         seats: 1,
         hang_up_ended: false,
+        gather: 1,
     };
     let server = start(rt, alloc, set, RandomState::new(&rt)?, gate)?;
     let mut held = Client::connect(&rt, alloc, server.addr)?;
@@ -185,6 +188,40 @@ fn number_in(frame: &[u8]) -> u16 {
     }
 }
 
+/// How many packets are published while one player reads nothing: more than a system's buffers hold.
+const PUBLISHED: u16 = 12_000;
+
+/// So many packets are published before the players that read have read them.
+const BATCH: u16 = 100;
+
+/// Whether a player reads just these packets next.
+fn reads(player: &mut Client, from: u16) -> io::Result<bool> {
+    for place in 0..BATCH {
+        if number_in(player.bytes(1004)?.as_slice()) != from.wrapping_add(place) {
+            return Ok(false);
+        }
+    }
+    Ok(true)
+}
+
+/// How many packets a player reads up to the end, and one more than the last number; none where numbers fall.
+fn read_to_the_end(player: &mut Client) -> io::Result<Option<(u16, u16)>> {
+    let mut count = 0u16;
+    let mut next = 0u16;
+    for _ in 0..PUBLISHED {
+        let frame = player.bytes(1004)?;
+        if frame.is_empty() {
+            break;
+        }
+        if number_in(frame.as_slice()) < next {
+            return Ok(None);
+        }
+        next = number_in(frame.as_slice()).saturating_add(1);
+        count = count.saturating_add(1);
+    }
+    Ok(Some((count, next)))
+}
+
 #[test]
 fn a_player_that_reads_nothing_hurts_no_other(rt: HostRuntime) -> Result<(), Fail> {
     let alloc = rt.alloc();
@@ -192,35 +229,47 @@ fn a_player_that_reads_nothing_hurts_no_other(rt: HostRuntime) -> Result<(), Fai
         accept: 4,
         seats: 3,
         hang_up_ended: true,
+        gather: 1,
     };
     let server = start(rt, alloc, set, RandomState::new(&rt)?, OpenGate)?;
     let mut camera = publisher(&rt, alloc, server.addr)?;
     let mut first = player(&rt, alloc, server.addr, 2)?;
     let mut second = player(&rt, alloc, server.addr, 3)?;
     let mut stalled = player(&rt, alloc, server.addr, 4)?;
-    for batch in 0..10u16 {
-        for place in 0..100 {
-            camera.say(numbered(alloc, batch * 100 + place)?.as_slice())?;
+    let mut from = 0u16;
+    for _ in 0..PUBLISHED / BATCH {
+        for place in 0..BATCH {
+            camera.say(numbered(alloc, from.wrapping_add(place))?.as_slice())?;
         }
-        for place in 0..100 {
-            assert!(rt; number_in(first.bytes(1004)?.as_slice()) == batch * 100 + place);
-            assert!(rt; number_in(second.bytes(1004)?.as_slice()) == batch * 100 + place);
-        }
+        assert!(rt; reads(&mut first, from)? && reads(&mut second, from)?);
+        from = from.wrapping_add(BATCH);
     }
     camera.ask(asking(alloc, "TEARDOWN", 1)?.as_bytes())?;
     // The mount has ended, and players are hung up when they have read what was kept for them.
     assert!(rt; first.bytes(1)?.is_empty() && second.bytes(1)?.is_empty());
-    let mut next = 0;
-    for _ in 0..1000u16 {
-        let frame = stalled.bytes(1004)?;
-        if frame.is_empty() {
-            break;
-        }
-        assert!(rt; number_in(frame.as_slice()) >= next);
-        next = number_in(frame.as_slice()).saturating_add(1);
-    }
-    assert!(rt; next == 1000);
+    let Some((count, next)) = read_to_the_end(&mut stalled)? else {
+        return Err(Fail::from("numbers fell"));
+    };
+    assert!(rt; next == PUBLISHED && count < PUBLISHED);
     drop((camera, first, second, stalled));
+    let _book = server.end(&rt)?;
+    Ok(())
+}
+
+#[test]
+fn a_server_ends_while_packets_gather(rt: HostRuntime) -> Result<(), Fail> {
+    let alloc = rt.alloc();
+    let set = Set {
+        accept: 1,
+        seats: 1,
+        hang_up_ended: false,
+        gather: 100,
+    };
+    let server = start(rt, alloc, set, RandomState::new(&rt)?, OpenGate)?;
+    let mut camera = publisher(&rt, alloc, server.addr)?;
+    camera.say(FRAME)?;
+    camera.ask(OPTIONS)?;
+    drop(camera);
     let _book = server.end(&rt)?;
     Ok(())
 }
@@ -232,6 +281,7 @@ fn a_seat_is_free_again_behind_a_pause(rt: HostRuntime) -> Result<(), Fail> {
         accept: 3,
         seats: 1,
         hang_up_ended: false,
+        gather: 1,
     };
     let server = start(rt, alloc, set, RandomState::new(&rt)?, OpenGate)?;
     let mut camera = publisher(&rt, alloc, server.addr)?;
@@ -264,6 +314,7 @@ fn connections_that_cannot_be_served_are_told_so(rt: HostRuntime) -> Result<(), 
         accept: 3,
         seats: 1,
         hang_up_ended: false,
+        gather: 1,
     };
     let server = start(rt, alloc, set, RandomState::new(&rt)?, OpenGate)?;
     let mut odd = Client::connect(&rt, alloc, server.addr)?;

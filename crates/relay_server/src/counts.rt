@@ -1,0 +1,86 @@
+//! What became of the packets of a connection.
+use cursor::Left;
+use publisher::InReport;
+use std::fmt;
+
+/// What became of the packets of a connection. A count that would pass 2^64 - 1 stays there.
+#[derive(Clone, Copy, Debug, PartialEq, Eq, Drop)]
+pub struct Counts {
+    /// The frames that came in and were published.
+    pub published: u64,
+    /// Those that were refused, since a player was just copying what they would have replaced.
+    pub pinned: u64,
+    /// Those that are longer than a packet may be.
+    pub oversize: u64,
+    /// Those on an RTP channel that are no RTP packets (RFC 3550, 5.1).
+    pub bad_rtp: u64,
+    /// Those on a channel of no track that is set up, and those that came while nothing was recorded.
+    pub strangers: u64,
+    /// Those that the mount had no number or no memory for.
+    pub unkept: u64,
+    /// The packets that were taken to be sent.
+    pub taken: u64,
+    /// The packets that this player lost, since it was too far behind.
+    pub lost: u64,
+}
+
+impl Counts {
+    pub(crate) fn new() -> Counts {
+        Counts {
+            published: 0,
+            pinned: 0,
+            oversize: 0,
+            bad_rtp: 0,
+            strangers: 0,
+            unkept: 0,
+            taken: 0,
+            lost: 0,
+        }
+    }
+
+    /// Adds what is told of frames that came in.
+    pub(crate) fn add_in(&mut self, report: &InReport) {
+        self.published = self.published.saturating_add(report.published);
+        self.pinned = self.pinned.saturating_add(report.pinned);
+        self.oversize = self.oversize.saturating_add(report.oversize);
+        self.bad_rtp = self.bad_rtp.saturating_add(report.bad_rtp);
+        self.strangers = self.strangers.saturating_add(report.strangers);
+        self.unkept = self
+            .unkept
+            .saturating_add(report.worn)
+            .saturating_add(report.unkept);
+    }
+
+    /// Adds a frame that came while nothing was recorded.
+    pub(crate) fn add_stranger(&mut self) {
+        self.strangers = self.strangers.saturating_add(1);
+    }
+
+    /// Adds the account of a seat that was left.
+    pub(crate) fn add_out(&mut self, left: &Left) {
+        self.taken = self.taken.saturating_add(left.taken);
+        self.lost = self.lost.saturating_add(left.lost);
+    }
+
+    /// Whether a packet of a mount was lost or refused. What players send on channels is nobody's loss.
+    pub fn has_losses(&self) -> bool {
+        self.pinned > 0 || self.oversize > 0 || self.bad_rtp > 0 || self.unkept > 0 || self.lost > 0
+    }
+}
+
+impl fmt::Display for Counts {
+    fn fmt<W: fmt::Write>(&self, f: &mut fmt::Formatter<W>) -> fmt::Result {
+        write!(
+            f,
+            "published {}, pinned {}, oversize {}, bad RTP {}, strangers {}, unkept {}, sent {}, lost {}",
+            self.published,
+            self.pinned,
+            self.oversize,
+            self.bad_rtp,
+            self.strangers,
+            self.unkept,
+            self.taken,
+            self.lost
+        )
+    }
+}
