@@ -1,12 +1,12 @@
 -- A talk so far, and how it ends.
 use Rattle.std.proofs.Common.{◌≡◌, ℕ, ◌+◌, ◌<◌, ◌≤◌, Bool, true, List, [], ◌++◌, ◌⊎◌, inl, inr, Option, None, length, take, refl, sym, ap, subst, ◌∙◌, arith, append_assoc, append-nil, length-append}
 use Rattle.std.specs.Io.KnownBytes.{Appends, IsAtEnd}
-use Rattle.std.proofs.KnownBytes.{Appends-trans, Appends-nil}
+use Rattle.std.proofs.KnownBytes.{Appends-trans, Appends-nil, Consumes-nil}
 use Rattle.std.proofs.Math.Seq.{take-append-add}
 use Rattle.std.proofs.lemmas.List.{take-append-le}
 use Rattle.rtsp_message.specs.declared.fault.Fault.{Fault}
 use Rattle.rtsp_message.specs.declared.unit.Unit.{Unit as StreamUnit}
-use Rattle.rtsp_message.specs.Stream.{Fails, Reads, fault_of}
+use Rattle.rtsp_message.specs.Stream.{Fails, Waits, Reads, fault_of}
 use Rattle.rtsp_message.specs.Intakes.{IntakeState, HandsOut, IsDrained, fresh}
 use Rattle.rtsp_message.proofs.Compose.{nothing_reads}
 use Rattle.rtsp_message.proofs.HandingOut.{HandsOut-trans, holds_same}
@@ -14,7 +14,7 @@ use Rattle.relay_main.specs.declared.talk.TalkEnd.TheVariants as ends
 use Rattle.session_state.specs.History.{History}
 use Rattle.relay_main.specs.Exchange.{AreAnswers, AreDrawn, opening}
 use Rattle.relay_main.proofs.Exchanges.{AreAnswers-append, AreDrawn-append, answers_open, opening_opens}
-use Rattle.relay_main.specs.Talk.{closing_of, refusal, Talk, IsTalk, Talks}
+use Rattle.relay_main.specs.Talk.{closing_of, refusal, IsRefused, Talk, IsTalk, Talks}
 
 module _ {R W V : Type 0} (incoming : R → Option (List ℕ)) (written : W → Option (List ℕ)) (gives : V → ℕ → V → Type 0) where
   -- These units were handed out, and their answers were written: the words were drawn from the first, and now stand so.
@@ -58,6 +58,10 @@ module _ {R W V : Type 0} (incoming : R → Option (List ℕ)) (written : W → 
     wrote = Appends-trans (written old) (written now) (written last) p.text text p.wrote wrote;
   }
 
+  -- what closes a talk: the text of the fault, or the refusal for bytes that are held
+  abbrev pub Closes : IntakeState R → List ℕ → Type 0
+  Closes new closing = (closing ≡ closing_of new.reading) ⊎ ((closing ≡ refusal) × (0 < length new.held))
+
   -- the talk in which these units were handed out last, these are their answers, and this closes it
   pub talk_of : (reader : R) (old : W) (first : V) (intake new : IntakeState R) (now : W) (drawn then : V) (history after : History) (us : List StreamUnit) (text closing : List ℕ)
       → SoFar reader old first intake now drawn history → Answers intake new drawn then history after us text → Talk
@@ -78,7 +82,7 @@ module _ {R W V : Type 0} (incoming : R → Option (List ℕ)) (written : W → 
 
   pub is_talk : (reader : R) (old : W) (first : V) (intake new : IntakeState R) (now : W) (drawn then : V) (history after : History) (us : List StreamUnit) (text closing : List ℕ)
       (p : SoFar reader old first intake now drawn history) (q : Answers intake new drawn then history after us text)
-      → (closing ≡ []) ⊎ ((new.queue ≡ []) × ((closing ≡ closing_of new.reading) ⊎ (closing ≡ refusal)))
+      → (closing ≡ []) ⊎ ((new.queue ≡ []) × Closes new closing)
       → IsTalk incoming gives reader new.source first then (talk_of reader old first intake new now drawn then history after us text closing p q)
   unfolding talk_of
   is_talk reader old first intake new now drawn then history after us text closing p q closes =
@@ -91,8 +95,14 @@ module _ {R W V : Type 0} (incoming : R → Option (List ℕ)) (written : W → 
         are_drawn = AreDrawn-append gives first drawn then p.words q.words p.are_drawn q.are_drawn;
         are_answers = all;
         legal = (answers_open opening (p.units ++ us) (p.words ++ q.words) after (p.text ++ text) all opening_opens).legal;
-        closing_is = closes;
+        closing_is = told closes;
       }
+    where
+      told : (closing ≡ []) ⊎ ((new.queue ≡ []) × Closes new closing)
+          → (closing ≡ []) ⊎ ((new.queue ≡ []) × ((closing ≡ closing_of new.reading) ⊎ ((closing ≡ refusal) × IsRefused (talk_of reader old first intake new now drawn then history after us text closing p q).read new.held)))
+      told (inl none) = inl none
+      told (inr (empty, inl closing_is)) = inr (empty, inl closing_is)
+      told (inr (empty, inr (is_refusal, holds))) = inr (empty, inr (is_refusal, inl holds))
 
   -- nothing is answered at the end
   pub no_more : (intake new : IntakeState R) (drawn : V) (history : History) → HandsOut incoming intake new [] → Answers intake new drawn drawn history history [] []
@@ -143,13 +153,13 @@ module _ {R W V : Type 0} (incoming : R → Option (List ℕ)) (read_failed : R 
       )
 
   pub ends_out_of_memory : (reader : R) (old : W) (first : V) (new : IntakeState R) (now after : W) (drawn : V) → Before reader old first new now drawn → new.queue ≡ [] → fault_of new.reading ≡ None
-      → Appends (written now) (written after) refusal → Talks incoming read_failed written write_failed gives reader new.source first drawn old after ends.OutOfMemory
+      → 0 < length new.held → Appends (written now) (written after) refusal → Talks incoming read_failed written write_failed gives reader new.source first drawn old after ends.OutOfMemory
   unfolding talk_of
-  ends_out_of_memory reader old first new now after drawn b empty waits wrote =
+  ends_out_of_memory reader old first new now after drawn b empty waits holds wrote =
       let q = no_more incoming written gives b.intake new drawn b.history b.last in (
         talk_of incoming written gives reader old first b.intake new now drawn drawn b.history b.history [] [] refusal b.far q,
-        is_talk incoming written gives reader old first b.intake new now drawn drawn b.history b.history [] [] refusal b.far q (inr (empty, inr refl)),
-        ((empty, closed old now after b.far.text refusal b.far.wrote wrote), waits, refl),
+        is_talk incoming written gives reader old first b.intake new now drawn drawn b.history b.history [] [] refusal b.far q (inr (empty, inr (refl, holds))),
+        ((empty, closed old now after b.far.text refusal b.far.wrote wrote), waits, refl, inl holds),
       )
 
   -- a text that was cut off in the middle of what was due
@@ -167,7 +177,7 @@ module _ {R W V : Type 0} (incoming : R → Option (List ℕ)) (read_failed : R 
 
   -- cut off in the closing text
   pub ends_cut_closing : (reader : R) (old : W) (first : V) (new : IntakeState R) (now after : W) (drawn : V) (closing : List ℕ) (k : ℕ) → Before reader old first new now drawn → new.queue ≡ []
-      → (closing ≡ closing_of new.reading) ⊎ (closing ≡ refusal) → k < length closing → Appends (written now) (written after) (take k closing) → write_failed after ≡ true
+      → Closes incoming written gives new closing → k < length closing → Appends (written now) (written after) (take k closing) → write_failed after ≡ true
       → Talks incoming read_failed written write_failed gives reader new.source first drawn old after ends.WriteFailed
   unfolding talk_of IsCut
   ends_cut_closing reader old first new now after drawn closing k b empty closes less part failed =
@@ -193,11 +203,39 @@ module _ {R W V : Type 0} (incoming : R → Option (List ℕ)) (read_failed : R 
         (failed, cut.0, cut.1, cut.2),
       )
 
-  -- before the first unit
-  pub begun : (reader : R) (old : W) (first : V) → Before reader old first (fresh reader) old first
-  begun reader old first = record {
-    intake = fresh reader;
+  -- the talk of a connection that can't come: nothing was read
+  at_once : Talk
+  at_once = record {
+    read = [];
+    taken = [];
+    held = [];
+    units = [];
+    unanswered = [];
+    ending = Waits [];
+    words = [];
     history = opening;
-    far = nothing_so_far incoming written gives reader old first;
-    last = holds_same incoming (fresh reader) nothing_reads;
+    answers = [];
+    closing = refusal;
   }
+
+  is_at_once : (reader : R) (first : V) → IsTalk incoming gives reader reader first first at_once
+  unfolding at_once
+  is_at_once reader first = record {
+    given = Consumes-nil (incoming reader);
+    parts = refl;
+    reads = nothing_reads;
+    are_drawn = refl;
+    are_answers = (refl, refl, refl);
+    legal = opening_opens.legal;
+    closing_is = inr (refl, inr (refl, inr refl));
+  }
+
+  pub refused_at_once : (reader : R) (old after : W) (first : V) → Appends (written old) (written after) refusal
+      → Talks incoming read_failed written write_failed gives reader reader first first old after ends.OutOfMemory
+  unfolding at_once
+  refused_at_once reader old after first wrote = (at_once, is_at_once reader first, ((refl, wrote), refl, refl, inr refl))
+
+  pub refused_in_part : (reader : R) (old after : W) (first : V) (k : ℕ) → k < length refusal → Appends (written old) (written after) (take k refusal) → write_failed after ≡ true
+      → Talks incoming read_failed written write_failed gives reader reader first first old after ends.WriteFailed
+  unfolding at_once
+  refused_in_part reader old after first k less part failed = (at_once, is_at_once reader first, (failed, k, less, part))

@@ -31,6 +31,10 @@ closing_of (Fails fault) = plain_text (status_of fault) None
 abbrev pub refusal : List ℕ
 refusal = plain_text statuses.ServiceUnavailable None
 
+-- memory was refused to the reader for bytes that it holds, or for the connection before any byte was read
+abbrev pub IsRefused : (read held : List ℕ) → Type 0
+IsRefused read held = (0 < length held) ⊎ (read ≡ [])
+
 -- What a talk was: the bytes that were read, of which some are held where memory was refused, their units, some of which
 -- aren't answered behind a failed write, and the words, the history and the whole text that go with those that are.
 pub record Talk : Type 0 where
@@ -54,7 +58,7 @@ pub record IsTalk {R V : Type 0} (incoming : R → Option (List ℕ)) (gives : V
   pub are_drawn : AreDrawn gives words talk.words drawn
   pub are_answers : AreAnswers opening talk.units talk.words talk.history talk.answers
   pub legal : IsLegal 1 talk.history
-  pub closing_is : (talk.closing ≡ []) ⊎ ((talk.unanswered ≡ []) × ((talk.closing ≡ closing_of talk.ending) ⊎ (talk.closing ≡ refusal)))
+  pub closing_is : (talk.closing ≡ []) ⊎ ((talk.unanswered ≡ []) × ((talk.closing ≡ closing_of talk.ending) ⊎ ((talk.closing ≡ refusal) × IsRefused talk.read talk.held)))
 
 module _ {R W V : Type 0} (incoming : R → Option (List ℕ)) (read_failed : R → Bool) (written : W → Option (List ℕ)) (write_failed : W → Bool) (gives : V → ℕ → V → Type 0) where
   -- each message was answered, and all that is due was written
@@ -68,7 +72,7 @@ module _ {R W V : Type 0} (incoming : R → Option (List ℕ)) (read_failed : R 
   EndsSo last talk old new (ends.StreamFault fault) = WritesAll talk old new × (talk.ending ≡ Fails fault) × (talk.closing ≡ closing_of talk.ending)
   EndsSo last talk old new ends.ReadFailed =
       WritesAll talk old new × (fault_of talk.ending ≡ None) × (talk.closing ≡ []) × (talk.held ≡ []) × (read_failed last ≡ true)
-  EndsSo last talk old new ends.OutOfMemory = WritesAll talk old new × (fault_of talk.ending ≡ None) × (talk.closing ≡ refusal)
+  EndsSo last talk old new ends.OutOfMemory = WritesAll talk old new × (fault_of talk.ending ≡ None) × (talk.closing ≡ refusal) × IsRefused talk.read talk.held
   EndsSo last talk old new ends.WriteFailed =
       (write_failed new ≡ true) × (n : ℕ) × (n < length (talk.answers ++ talk.closing)) × Appends (written old) (written new) (take n (talk.answers ++ talk.closing))
 

@@ -135,6 +135,48 @@ fn each_message_has_a_word(rt: HostRuntime) -> Result<(), Fail> {
 }
 
 #[test]
+fn no_word_is_asked_for_behind_a_failed_write(rt: HostRuntime) -> Result<(), Fail> {
+    let alloc = rt.alloc();
+    let input = b"OPTIONS * RTSP/1.0\nCSeq: 1\n\nOPTIONS * RTSP/1.0\nCSeq: 2\n\n";
+    let source = ListSource::new(Vec::from_slice(alloc, input)?, 100, None);
+    let mut sink = ListSink::new(alloc, 3)?;
+    let mut words = CountedWords(10);
+    let (end, _last) = run_talk(alloc, RandomState::new(&rt)?, source, &mut sink, &mut words);
+    assert!(rt; end == TalkEnd::WriteFailed && words.0 == 11);
+    Ok(())
+}
+
+/// More requests than a reader holds at a time.
+const MANY: usize = 2000;
+
+#[test]
+fn many_requests_of_one_talk(rt: HostRuntime) -> Result<(), Fail> {
+    let alloc = rt.alloc();
+    let mut input = Vec::new(alloc);
+    for _ in 0..MANY {
+        input.extend_from_slice(b"GET_PARAMETER * RTSP/1.0\nCSeq: 1\n\n")?;
+    }
+    let reply = b"RTSP/1.0 200 OK\r\nCSeq: 1\r\n\r\n";
+    let source = ListSource::new(input, 5000, None);
+    let mut sink = ListSink::new(alloc, 100_000)?;
+    let (end, _last) = run_talk(
+        alloc,
+        RandomState::new(&rt)?,
+        source,
+        &mut sink,
+        &mut CountedWords(10),
+    );
+    assert!(rt; end == TalkEnd::Done);
+    assert!(rt; sink.bytes().len() == MANY * reply.len());
+    assert!(rt;
+        sink.bytes()
+            .chunks(reply.len())
+            .all(|one| one == reply.as_slice())
+    );
+    Ok(())
+}
+
+#[test]
 fn a_connection_leaves_its_book(rt: HostRuntime) -> Result<(), Fail> {
     let mut book = Book::new(rt.alloc(), 1, RandomState::new(&rt)?);
     assert!(rt; book.connect() == Ok(1));

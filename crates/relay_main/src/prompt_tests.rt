@@ -12,6 +12,14 @@ use std::test::Fail;
 
 const OPTIONS: &[u8] = b"OPTIONS * RTSP/1.0\r\nCSeq: 1\r\n\r\n";
 
+/// Two requests in one piece.
+const TWO: &[u8] = b"OPTIONS * RTSP/1.0\r\nCSeq: 1\r\n\r\nOPTIONS * RTSP/1.0\r\nCSeq: 1\r\n\r\n";
+
+/// A request and the beginning of the next one, and its rest.
+const AND_A_HALF: &[u8] = b"OPTIONS * RTSP/1.0\r\nCSeq: 1\r\n\r\nOPTIONS * RT";
+
+const OTHER_HALF: &[u8] = b"SP/1.0\r\nCSeq: 1\r\n\r\n";
+
 /// What comes in, one piece a read, and how often it was read and written.
 #[derive(Drop)]
 struct Wire<'a> {
@@ -66,6 +74,9 @@ impl Write for Answered<'_> {
 fn an_answer_is_written_before_more_is_read(rt: HostRuntime) -> Result<(), Fail> {
     let rows = [
         ([OPTIONS, OPTIONS, OPTIONS], TalkEnd::Done, 4),
+        // Each answer is a write of its own, and none waits for the rest of another request.
+        ([TWO, OPTIONS, b""], TalkEnd::Done, 3),
+        ([AND_A_HALF, OTHER_HALF, OPTIONS], TalkEnd::Done, 4),
         (
             // Behind a fault nothing is read.
             [OPTIONS, OPTIONS, b"HELLO\r\n"],

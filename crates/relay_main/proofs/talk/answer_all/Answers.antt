@@ -72,11 +72,11 @@ returns-in-Err-write_plain-2-clause-talks g c reader begins =
     ends_cut_closing g.R.Source.incoming g.R.Source.failed g.W.Sink.written g.W.Sink.failed g.V.Words.gives reader c.args.writer.now c.args.words.now c.next.new.self c.loop-unit.writer c.write_plain-in-OutOfMemory.new.writer c.loop-unit.words
     (plain_text ServiceUnavailable None) c.in-Err-write_plain-2.field-0.written
     (record { intake = c.loop-unit.intake; history = c.loop-unit.book.history; far = c.loop-unit.invariant.2 reader begins; last = c.in-OutOfMemory.ensures.hands_out })
-    tells.0 (inr refl) cut.0 cut.1 c.in-Err-write_plain-2.ensures.failed
+    tells.0 (inr (refl, tells.2)) cut.0 cut.1 c.in-Err-write_plain-2.ensures.failed
 
 pub returns-in-OutOfMemory-clause-talks : goal.returns-in-OutOfMemory-clause-talks
 returns-in-OutOfMemory-clause-talks g c reader begins =
     let tells = c.in-OutOfMemory.ensures.tells in
     ends_out_of_memory g.R.Source.incoming g.R.Source.failed g.W.Sink.written g.W.Sink.failed g.V.Words.gives reader c.args.writer.now c.args.words.now c.next.new.self c.loop-unit.writer c.write_plain-in-OutOfMemory.new.writer c.loop-unit.words
     (record { intake = c.loop-unit.intake; history = c.loop-unit.book.history; far = c.loop-unit.invariant.2 reader begins; last = c.in-OutOfMemory.ensures.hands_out })
-    tells.0 tells.1 c.in_default-write_plain-2.ensures.ok
+    tells.0 tells.1 tells.2 c.in_default-write_plain-2.ensures.ok
