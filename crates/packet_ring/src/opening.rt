@@ -1,5 +1,5 @@
 //! How a ring is made.
-ghost use Rattle.std.specs.Prelude.{◌≡◌, ◌+◌, ◌*◌, ◌^◌, ◌<◌, ◌≤◌, [], length, replicate, IfOk};
+ghost use Rattle.std.specs.Prelude.{◌≡◌, ◌+◌, ◌*◌, ◌%◌, ◌^◌, ◌<◌, ◌≤◌, [], length, replicate, IfOk};
 ghost use Rattle.std.specs.Arc.{arc_value};
 ghost use Rattle.packet_ring.specs.Rule.{seat_views};
 ghost use Rattle.packet_ring.specs.Views.{keep_of, new_pass, packet_bytes_of, seats_of};
@@ -44,6 +44,7 @@ fn width_for(packet_bytes: usize) -> usize
     requires { packet_bytes ≤ 65535 }
     ensures fits { packet_bytes + 9 ≤ 8 * result }
     ensures narrow { result ≤ 16384 }
+    ensures lines { 8 * (result + 1) % 64 ≡ 0 }
 {
     (packet_bytes / 8 + 10) / 8 * 8 - 1
 }
