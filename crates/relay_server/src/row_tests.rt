@@ -101,9 +101,8 @@ fn a_track_has_its_owners_name_and_its_players(rt: HostRuntime) -> Result<(), Fa
     }
     // The track that its owner set up as 1 is the one that its player set up as 0.
     let frame = b"\x24\x00\x00\x0c\x80\x60\x00\x07\x00\x00\x23\x28\x00\x00\x00\x00";
-    let [owner, player] = &mut clients;
-    owner.say(frame)?;
-    let came = player.bytes(16)?;
+    clients[0].say(frame)?;
+    let came = clients[1].bytes(16)?;
     assert!(rt; came.as_slice().starts_with(b"\x24\x08\x00\x0c"));
     for row in BEHIND_THE_END {
         assert!(rt;
