@@ -15,7 +15,8 @@ use Rattle.ring_steps.specs.Bits.{head_bits, word_bits, known_word}
 use Rattle.ring_steps.specs.Ring as Ring
 use Rattle.ring_steps.specs.Ring.{cursor, place, slot, word, with_publisher, with_slot, fresh_slot}
 use Rattle.ring_steps.specs.Slots.{Invariant, pin_of, pins_of}
-use Rattle.ring_steps.specs.Step.{Outcome, PublisherActs, is_known, next_place, begun, refused}
+use Rattle.ring_steps.specs.Atomic.{is_atomic}
+use Rattle.ring_steps.specs.Step.{PublisherActs, is_known, next_place, begun, refused}
 use Rattle.ring_steps.proofs.Places.{at_set, place_within}
 use Rattle.ring_steps.proofs.Begins.{begin_keeps, refused_step}
 use Rattle.ring_steps.proofs.Bits.{known_bits, begin_bits, pins_fit, words_apart}
@@ -26,7 +27,8 @@ use Rattle.ring_steps.specs.declared.calls.PublisherCall.TheVariants.{Publish}
 use Rattle.ring_steps.specs.declared.views.PublisherPhase.{PublisherPhase}
 use Rattle.ring_steps.specs.RingSteps.{by_publisher}
 use Rattle.packet_ring.specs.Steps.{Begins}
-use Rattle.packet_ring.proofs.Heads.{map_set, set_same, units_of, publisher_there}
+use Rattle.packet_ring.proofs.Going.{OneStep, goes_by, known_to}
+use Rattle.packet_ring.proofs.Heads.{map_set, set_same}
 use Rattle.packet_ring.proofs.Pinned.{word_at, access_at, readable_there, elem_within}
 
 -- a step by the publisher on the word of the slot at place j, which changes that slot and the publisher's view
@@ -96,8 +98,21 @@ module _ {L : Limits} (s : Ring.State) (t : State View (List ℕ)) (fits : Fits 
   sound_by : (c : Bool) → is_known s w ≡ c → Invariant (if c then begun s q else refused s).state
   sound_by c is = subst (λ (d : Bool). Invariant (if d then begun s q else refused s).state) is (begin_keeps s q fits.sound within open_)
 
-  begin_step : (c : Bool) → is_known s w ≡ c → PublisherActs s.publisher.phase (Publish q) s (if c then begun s q else refused s)
-  begin_step c is = subst (λ (φ : PublisherPhase). PublisherActs φ (Publish q) s (if c then begun s q else refused s)) (sym within) (open_, sym (ap (λ (d : Bool). if d then begun s q else refused s) is))
+  begin_atomic : (c : Bool) → is_atomic (if c then begun s q else refused s).saw ≡ true
+  begin_atomic true = refl
+  begin_atomic false = refl
+
+  begin_one : (c : Bool) → is_known s w ≡ c → OneStep 0 s (if c then begun s q else refused s).state
+  begin_one c is = record {
+    by = by_publisher (Publish q);
+    own = tt;
+    from = s;
+    copied = inl refl;
+    outcome = if c then begun s q else refused s;
+    step = subst (λ (φ : PublisherPhase). PublisherActs φ (Publish q) s (if c then begun s q else refused s)) (sym within) (open_, sym (ap (λ (d : Bool). if d then begun s q else refused s) is));
+    atomic = begin_atomic c;
+    leads = refl;
+  }
 
   begin_goes : (c : Bool) → is_known s w ≡ c → Goes (Holds L) (Operation L) t 0 me (suc j) swap (Begins L.0 (suc j) s.log s.publisher q known me)
   begin_goes false is =
@@ -117,18 +132,9 @@ module _ {L : Limits} (s : Ring.State) (t : State View (List ℕ)) (fits : Fits 
         views = ap (λ (vs : List View). set vs 0 (inl (s.log, p'))) fits.views;
         log = fits.log;
         accesses = λ k low. same_access s p' k (get_or t.accesses (suc k) exclusive) (fits.accesses k low);
-      } in (
-        inl (s.log, p'),
-        keeps,
-        t.log,
-        t.log,
-        tt,
-        prefix_refl t.log,
-        prefix_refl t.log,
-        (with_publisher s p', kept),
-        record { old = s; new = with_publisher s p'; before = fits; after = kept; by = by_publisher (Publish q); own = tt; from = s; copied = inl refl; outcome = refused s; step = begin_step false is; atomic = refl; leads = refl },
-        record { word = w; bits = found; begun = λ e. absurd (not e); refused = λ e. (refl, refl, saw.some, (let most = saw.within in let few = fits.few in omega arith), fits.many); grows = pre },
-      )
+      } in
+      goes_by 0 (suc j) me swap (Begins L.0 (suc j) s.log s.publisher q known me) (inl (s.log, p')) keeps t.log tt (prefix_refl t.log) fits kept (begin_one false is)
+      (record { word = w; bits = found; begun = λ e. absurd (not e); refused = λ e. (refl, refl, saw.some, (let most = saw.within in let few = fits.few in omega arith), fits.many); grows = pre })
   begin_goes true is =
       let p' : Publisher = record s.publisher { phase = publishing.Begun; packet = q; written = 0 } in let b : Slot = record (slot s j) { word = record w { writing = true } } in let s' : Ring.State = with_publisher (with_slot s j b) p' in
       let e : word_bits w ≡ known = (known_bits s w few_pins).0 is in let same : w ≡ known_word s = (words_apart w (known_word s) few_pins (omega arith)).0 e in let hit : get_or t.words (suc j) 0 ≡ known = found ∙ e in
@@ -142,28 +148,15 @@ module _ {L : Limits} (s : Ring.State) (t : State View (List ℕ)) (fits : Fits 
         | inl f ↦ let at : k ≡ j = let g = f.0 in omega arith in subst (AccessFits s' k) (sym f.1) (subst (λ (l : ℕ). AccessFits s' l exclusive) (sym at) (ap (λ (u : Slot). u.word.writing) there))
         | inr f ↦ subst (AccessFits s' k) (sym f.1) (other_access s j b p' k (get_or t.accesses (suc k) exclusive) (get_or-set_other s.slots j k b fresh_slot (λ g. f.0 (ap suc g))) (fits.accesses k small))
       ] in
-      let kept = written_kept s t fits j p' b (swap (get_or t.words (suc j) 0)) no_right (begins (suc j) c) fit sound (swapped ∙ sym bits) accesses' in (
-        inl (s.log, p'),
-        begins (suc j) c,
-        t.log,
-        t.log,
-        elem,
-        prefix_refl t.log,
-        prefix_refl t.log,
-        (s', kept),
-        record { old = s; new = s'; before = fits; after = kept; by = by_publisher (Publish q); own = tt; from = s; copied = inl refl; outcome = begun s q; step = begin_step true is; atomic = refl; leads = refl },
-        record { word = w; bits = found; begun = λ f. (c, refl, refl); refused = λ f. absurd (f hit); grows = pre },
-      )
+      let kept = written_kept s t fits j p' b (swap (get_or t.words (suc j) 0)) no_right (begins (suc j) c) fit sound (swapped ∙ sym bits) accesses' in
+      goes_by 0 (suc j) me swap (Begins L.0 (suc j) s.log s.publisher q known me) (inl (s.log, p')) (begins (suc j) c) t.log elem (prefix_refl t.log) fits kept (begin_one true is) (record { word = w; bits = found; begun = λ f. (c, refl, refl); refused = λ f. absurd (f hit); grows = pre })
 
 pub begin_allows : {L : Limits} (units keep : ℕ) → keep + 2 ≡ units → (log : List (List ℕ)) (p : Publisher) (q : List ℕ) (seen : List (List ℕ)) → p.phase ≡ publishing.Between → p.closed ≡ false → IsSized L.1 q
     → let me : Knows = record { view = inl (log, p); right = no_right; seen = seen } in let unit = suc (length log % (keep + 1)) in let known = 131072 * (length log - keep) in
     Allows (Holds L) (Operation L) units 0 me unit (λ m. either (eqb m known) (known + 2 ^ 16) m) (Begins L.0 unit log p q known me)
 begin_allows {L = L} units keep size log p q seen within open_ fit t held long rooms at pre small =
-    let s : Ring.State = held.0 in let fits : Fits L s t = held.1 in let many = units_of s t fits units long in let same : s.keep ≡ keep = omega arith in
-    let e = publisher_there s t fits log p (record { view = inl (log, p); right = no_right; seen = seen }) refl at in
-    let Out : ℕ → ℕ → List (List ℕ) → Publisher → Type 0 = λ k known l r. let m : Knows = record { view = inl (l, r); right = no_right; seen = seen } in let unit = suc (length l % (k + 1)) in
-    Goes (Holds L) (Operation L) t 0 m unit (λ n. either (eqb n known) (known + 2 ^ 16) n) (Begins L.0 unit l r q known m) in
-    let base = begin_goes s t fits q seen pre (ap (λ (r : Publisher). r.phase) e.1 ∙ within) (ap (λ (r : Publisher). r.closed) e.1 ∙ open_) fit (is_known s (word s (next_place s))) refl in
-    let number : word_bits (known_word s) ≡ 131072 * (length log - keep) = let n : length s.log ≡ length log = ap length e.0 in omega arith in
-    subst (λ (r : Publisher). Out keep (131072 * (length log - keep)) log r) e.1 (subst (λ (l : List (List ℕ)). Out keep (131072 * (length log - keep)) l s.publisher) e.0
-    (subst (λ (k : ℕ). Out k (131072 * (length log - keep)) s.log s.publisher) same (subst (λ (n : ℕ). Out s.keep n s.log s.publisher) number base)))
+    let s : Ring.State = held.0 in let fits : Fits L s t = held.1 in let me : List (List ℕ) → Publisher → Knows = λ l r. record { view = inl (l, r); right = no_right; seen = seen } in
+    let At : ℕ → ℕ → List (List ℕ) → Publisher → Type 0 = λ known k l r. let unit = suc (length l % (k + 1)) in Goes (Holds L) (Operation L) t 0 (me l r) unit (λ n. either (eqb n known) (known + 2 ^ 16) n) (Begins L.0 unit l r q known (me l r)) in
+    let number : word_bits (known_word s) ≡ 131072 * (length s.log - s.keep) = omega arith in
+    known_to units keep size log p (λ k l r. r.phase ≡ publishing.Between → r.closed ≡ false → At (131072 * (length l - k)) k l r) (me log p) refl s t fits long at
+    (λ between unclosed. subst (λ (n : ℕ). At n s.keep s.log s.publisher) number (begin_goes s t fits q seen pre between unclosed fit (is_known s (word s (next_place s))) refl)) within open_

@@ -31,7 +31,7 @@ use Rattle.packet_ring.specs.Operation.{Operation}
 use Rattle.ring_steps.specs.declared.calls.PublisherCall.TheVariants.{Publish}
 use Rattle.ring_steps.specs.RingSteps.{by_publisher}
 use Rattle.packet_ring.specs.Steps.{Finishes, HasPacket}
-use Rattle.packet_ring.proofs.Heads.{units_of, publisher_there}
+use Rattle.packet_ring.proofs.Going.{goes_by, known_to, units_of}
 use Rattle.packet_ring.proofs.Pinned.{word_at, set_twice}
 use Rattle.packet_ring.proofs.Begun.{written_kept, other_access}
 
@@ -144,40 +144,23 @@ module _ {L : Limits} (s : Ring.State) (t : State View (List ℕ)) (fits : Fits 
         | inl f ↦ let at : l ≡ j = let g = f.0 in omega arith in subst (AccessFits s' l) (sym f.1) (subst (λ (m : ℕ). AccessFits s' m (readable 0 c)) (sym at) now)
         | inr f ↦ subst (AccessFits s' l) (sym f.1) (other_access s j (done_ full) p' l (get_or t.accesses (suc l) exclusive) (get_or-set_other s.slots j l (done_ full) fresh_slot (λ g. f.0 (ap suc g))) (fits.accesses l low))
       ] in
-      let kept = written_kept s t fits j p' (done_ full) ((get_or t.words (suc j) 0 + k) % 2 ^ 64) (may_end (suc j) c) finishes (subst (λ (φ : PublisherPhase). IsPending L.1 φ q) within fits.pending) sound bits accesses' in (
-        inl (s.log, p'),
-        finishes,
-        t.log,
-        t.log,
-        elem,
-        prefix_refl t.log,
-        prefix_refl t.log,
-        (s', kept),
-        record {
-          old = s;
-          new = s';
-          before = fits;
-          after = kept;
-          by = by_publisher (Publish q);
-          own = tt;
-          from = s₁;
-          copied = inr (record { sound = fits.sound; within = within }, refl);
-          outcome = finish s₁;
-          step = (refl, sym (ap (λ (d : Bool). if d then write_byte s₁ else finish s₁) (le-ltb (length q) (length q) (omega arith))));
-          atomic = refl;
-          leads = arrives;
-        },
-        record { view = refl; right = refl; grows = pre },
-      )
+      let kept = written_kept s t fits j p' (done_ full) ((get_or t.words (suc j) 0 + k) % 2 ^ 64) (may_end (suc j) c) finishes (subst (λ (φ : PublisherPhase). IsPending L.1 φ q) within fits.pending) sound bits accesses' in
+      goes_by 0 (suc j) me (λ m. (m + k) % 2 ^ 64) (λ _. Finishes s.log s.publisher me) (inl (s.log, p')) finishes t.log elem (prefix_refl t.log) fits kept (record {
+        by = by_publisher (Publish q);
+        own = tt;
+        from = s₁;
+        copied = inr (record { sound = fits.sound; within = within }, refl);
+        outcome = finish s₁;
+        step = (refl, sym (ap (λ (d : Bool). if d then write_byte s₁ else finish s₁) (le-ltb (length q) (length q) (omega arith))));
+        atomic = refl;
+        leads = arrives;
+      }) (record { view = refl; right = refl; grows = pre })
 
 pub finish_allows : {L : Limits} (units keep : ℕ) → keep + 2 ≡ units → (log : List (List ℕ)) (p : Publisher) (c : List ℕ) (seen : List (List ℕ)) (k : ℕ) → p.phase ≡ publishing.Begun → HasPacket c p.packet
     → k ≡ 131072 * (length log + 1 - (length log - keep)) - 65536
     → let unit = suc (length log % (keep + 1)) in let me : Knows = record { view = inl (log, p); right = may_end unit c; seen = seen } in Allows (Holds L) (Operation L) units 0 me unit (λ m. (m + k) % 2 ^ 64) (λ _. Finishes log p me)
 finish_allows {L = L} units keep size log p c seen k within has adds t held long rooms at pre small =
-    let s : Ring.State = held.0 in let fits : Fits L s t = held.1 in let many = units_of s t fits units long in let same : s.keep ≡ keep = omega arith in
-    let e = publisher_there s t fits log p (record { view = inl (log, p); right = may_end (suc (length log % (keep + 1))) c; seen = seen }) refl at in
-    let Out : ℕ → List (List ℕ) → Publisher → Type 0 = λ m l r. let unit = suc (length l % (m + 1)) in let me : Knows = record { view = inl (l, r); right = may_end unit c; seen = seen } in
-    Goes (Holds L) (Operation L) t 0 me unit (λ n. (n + k) % 2 ^ 64) (λ _. Finishes l r me) in
-    let base = finish_goes s t fits (rooms ∙ sym many) c seen pre (ap (λ (r : Publisher). r.phase) e.1 ∙ within) (subst (λ (r : Publisher). HasPacket c r.packet) (sym e.1) has) k
-    (let n : length s.log ≡ length log = ap length e.0 in omega arith) in
-    subst (λ (r : Publisher). Out keep log r) e.1 (subst (λ (l : List (List ℕ)). Out keep l s.publisher) e.0 (subst (λ (m : ℕ). Out m s.log s.publisher) same base))
+    let s : Ring.State = held.0 in let fits : Fits L s t = held.1 in let me : ℕ → List (List ℕ) → Publisher → Knows = λ m l r. record { view = inl (l, r); right = may_end (suc (length l % (m + 1))) c; seen = seen } in
+    let Of : ℕ → List (List ℕ) → Publisher → Type 0 = λ m l r. r.phase ≡ publishing.Begun → HasPacket c r.packet → k ≡ 131072 * (length l + 1 - (length l - m)) - 65536
+    → Goes (Holds L) (Operation L) t 0 (me m l r) (suc (length l % (m + 1))) (λ n. (n + k) % 2 ^ 64) (λ _. Finishes l r (me m l r)) in
+    known_to units keep size log p Of (me keep log p) refl s t fits long at (λ begun holds more. finish_goes s t fits (rooms ∙ sym (units_of s t fits units long)) c seen pre begun holds k more) within has adds

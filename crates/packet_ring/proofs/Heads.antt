@@ -2,10 +2,7 @@
 use Rattle.std.proofs.Common.{◌≡◌, ℕ, zero, suc, ◌+◌, ◌-◌, ◌*◌, ◌%◌, ◌≤◌, ◌<◌, ◌^◌, false, true, List, [], ◌∷◌, ◌++◌, map, length, get_or, set, sym, refl, ap, ◌∙◌, subst, length-append, length-set, arith, Option, Some, None}
 use Rattle.std.specs.Prelude.{slice_get, nat_lt, Bool, ◌==◌, if◌then◌else◌}
 use mathlib.Core.Logic.{inl, inr}
-use mathlib.Core.Option as maybe
-use mathlib.Core.Option.{some-injective, some-ne-none}
 use base.Growing.{prefix_refl}
-use lib.ListN.{get_elem?, length-map}
 use Rattle.ring_steps.specs.declared.words.Head.{Head}
 use Rattle.ring_steps.specs.declared.views.Publisher.{Publisher}
 use Rattle.ring_steps.specs.declared.views.PublisherPhase.{PublisherPhase}
@@ -18,18 +15,18 @@ use Rattle.ring_steps.specs.declared.words.Slot.{Slot}
 use Rattle.ring_steps.specs.Ring as Ring
 use Rattle.ring_steps.specs.Ring.{cursor, with_seat}
 use Rattle.ring_steps.specs.Slots.{Invariant, SeatKnows}
-use Rattle.ring_steps.specs.Step.{append, attach, close, detach, end_take, find_packet, first_load, lose, second_load, Outcome, PublisherActs, SeatActs, SeatStep}
+use Rattle.ring_steps.specs.Step.{append, attach, close, detach, end_take, find_packet, first_load, lose, second_load, PublisherActs, SeatActs}
 use Rattle.ring_steps.specs.Atomic.{is_atomic}
 use Rattle.ring_steps.specs.declared.calls.PublisherCall.TheVariants.{Publish, Close}
-use Rattle.ring_steps.specs.declared.calls.SeatCall.{SeatCall}
-use Rattle.ring_steps.specs.declared.calls.SeatCall.TheVariants.{Attach, Detach, Take}
+use Rattle.ring_steps.specs.declared.calls.SeatCall.TheVariants.{Attach, Detach}
 use Rattle.ring_steps.specs.RingSteps.{by_publisher, by_seat}
 use Rattle.ring_steps.proofs.Loads.{attach_keeps, detach_keeps, first_load_keeps, second_load_keeps}
 use Rattle.ring_steps.proofs.Writing.{append_keeps}
 use Rattle.ring_steps.proofs.Writing.{close_keeps}
 use Rattle.packet_ring.specs.Table.{State, Access, exclusive, readable, Right, keeps, stepped, Allows}
-use Rattle.packet_ring.specs.Rule.{Limits, IsSized, IsPending, View, Knows, Holds, Fits, with_end, AccessFits, hold_of, holders, words_of, publisher_view, seat_view}
-use Rattle.packet_ring.specs.Operation.{Operation, StepsFrom}
+use Rattle.packet_ring.specs.Rule.{Limits, IsSized, IsPending, View, Knows, Holds, Fits, with_end, AccessFits, hold_of, holders, publisher_view, seat_view}
+use Rattle.packet_ring.specs.Operation.{Operation}
+use Rattle.packet_ring.proofs.Going.{OneStep, take_step, goes_by, seat_allows, publisher_there}
 use Rattle.packet_ring.specs.Steps.{looked, attached, detached, lost_to, first_seen, second_seen, Loads, Appends, Closes}
 
 -- ---- lists
@@ -44,23 +41,9 @@ module _ {A B : Type 0} (f : A → B) where
   map_set (x ∷ xs) zero y = refl
   map_set (x ∷ xs) (suc i) y = ap (λ (ys : List B). f x ∷ ys) (map_set xs i y)
 
-abbrev or_seat : Seat → View → Seat
-or_seat d (inl p) = d
-or_seat d (inr x) = x
-
 abbrev pub or_given : Seat → Option Seat → Seat
 or_given d None = d
 or_given d (Some x) = x
-
-abbrev or_known : List (List ℕ) → Publisher → View → List (List ℕ) × Publisher
-or_known log p (inl u) = u
-or_known log p (inr x) = (log, p)
-
--- a seat's view stands among the tokens' views
-pub seat_there : (xs : List Seat) (i : ℕ) (x : Seat) → get_elem? (map seat_view xs) i ≡ maybe.some (inr x) → slice_get xs i ≡ Some x
-seat_there [] i x e = absurd (some-ne-none _ (sym e))
-seat_there (y ∷ xs) zero x e = ap (λ (v : View). Some (or_seat y v)) (some-injective (inr y) (inr x) e)
-seat_there (y ∷ xs) (suc i) x e = seat_there xs i x e
 
 -- ---- who holds a packet
 pub same_holders : (keep : ℕ) (xs : List Seat) (i : ℕ) (x y : Seat) (j : ℕ) → slice_get xs i ≡ Some x
@@ -91,69 +74,39 @@ seat_kept s t fits i x y r at sound same = record {
   accesses = λ j near. accesses_kept s i x y at same j (get_or t.accesses (suc j) exclusive) (fits.accesses j near);
 }
 
--- a block of a ring that keeps K packets has K + 2 units
-pub units_of : {L : Limits} (s : Ring.State) (t : State View (List ℕ)) → Fits L s t → (units : ℕ) → length t.words ≡ units → s.keep + 2 ≡ units
-units_of s t fits units long = let n : length (words_of s) ≡ units = ap length (sym fits.words) ∙ long in let m : length (map (λ (x : Slot). word_bits x.word) s.slots) ≡ length s.slots = length-map s.slots (λ x. word_bits x.word) in
-    let w : length s.slots ≡ s.keep + 1 = fits.sound.phases.width in omega arith
-
--- a load of the head by a seat, as one step of the core
-pub record LoadsBy (s : Ring.State) (i : ℕ) (t : Ring.State) : Type 0 where
-  pub call : SeatCall
-  pub from : StepsFrom s (by_seat i call) s
-  pub outcome : Outcome
-  pub step : SeatStep s i call outcome
-  pub atomic : is_atomic outcome.saw ≡ true
-  pub leads : outcome.state ≡ t
-
 module _ (phase : SeatPhase) (f : Head → Seat → Seat) (units : ℕ) (idle : (at j : ℕ) → 0 ≡ hold_of phase at j) (then_idle : (h : Head) (x : Seat) → x.phase ≡ phase → (at j : ℕ) → 0 ≡ hold_of (f h x).phase at j)
     (law : (s : Ring.State) (i : ℕ) (x : Seat) → s.keep + 2 ≡ units → Invariant s → slice_get s.seats i ≡ Some x → x.phase ≡ phase → Invariant (with_seat s i (f s.head x)))
-    (does : (s : Ring.State) (i : ℕ) (x : Seat) → s.keep + 2 ≡ units → slice_get s.seats i ≡ Some x → x.phase ≡ phase → LoadsBy s i (with_seat s i (f s.head x))) where
+    (does : (s : Ring.State) (i : ℕ) (x : Seat) → s.keep + 2 ≡ units → slice_get s.seats i ≡ Some x → x.phase ≡ phase → OneStep (suc i) s (with_seat s i (f s.head x))) where
   -- a load of the head by a seat, where the core's law says that its new view keeps the invariant
   pub loads_allow : {L : Limits} (i : ℕ) (x : Seat) (me : Knows) → me.view ≡ inr x → x.phase ≡ phase → Allows (Holds L) (Operation L) units (suc i) me 0 (λ n. n) (Loads (units - 2) f x me)
-  loads_allow {L = L} i x me is within t held long rooms at pre small =
-      let s : Ring.State = held.0 in let fits : Fits L s t = held.1 in let y : Seat = f s.head x in
-      let there = seat_there s.seats i x (ap (λ (vs : List View). get_elem? vs (suc i)) (sym fits.views) ∙ at ∙ ap (λ (v : View). maybe.some v) is) in
+  loads_allow {L = L} i x me is within = seat_allows units (units - 2) i x (λ k. me) (λ k. 0) (λ n. n) (λ k. Loads (units - 2) f x me) (λ k e. omega arith) (λ k. is) (λ s t fits many there pre small.
+      let y : Seat = f s.head x in
       let same : (j : ℕ) → hold_of x.phase (cursor x % (s.keep + 1)) j ≡ hold_of y.phase (cursor y % (s.keep + 1)) j = λ j.
       sym (subst (λ (φ : SeatPhase). 0 ≡ hold_of φ (cursor x % (s.keep + 1)) j) (sym within) (idle (cursor x % (s.keep + 1)) j)) ∙ then_idle s.head x within (cursor y % (s.keep + 1)) j in
-      let many = units_of s t fits units long in let kept = seat_kept s t fits i x y me.right there (law s i x many fits.sound there within) same in let by : LoadsBy s i (with_seat s i y) = does s i x many there within in (
-        inr y,
-        keeps,
-        t.log,
-        t.log,
-        tt,
-        prefix_refl t.log,
-        prefix_refl t.log,
-        (with_seat s i y, kept),
-        record { old = s; new = with_seat s i y; before = fits; after = kept; by = by_seat i by.call; own = refl; from = s; copied = by.from; outcome = by.outcome; step = by.step; atomic = by.atomic; leads = by.leads },
-        record {
-          head = s.head;
-          bits = ap (λ (ws : List ℕ). get_or ws 0 0) fits.words;
-          short = (let n = fits.short in let e = fits.sound.slots.numbers.size in omega arith);
-          behind = λ is_missed. let n = subst (λ (φ : SeatPhase). SeatKnows φ s.keep s.log x) is_missed (fits.sound.phases.knows i x there) in let k = n.1 in let e = fits.sound.slots.numbers.size in let u = units_of s t fits units long in omega arith;
-          view = refl;
-          right = refl;
-          log = s.log;
-          size = sym fits.sound.slots.numbers.size;
-          full = λ n l. (fits.packets n l).0;
-          seen = fits.log;
-          grows = pre;
-        },
-      )
+      goes_by (suc i) 0 me (λ n. n) (Loads (units - 2) f x me) (inr y) keeps t.log tt (prefix_refl t.log) fits (seat_kept s t fits i x y me.right there (law s i x many fits.sound there within) same) (does s i x many there within) (record {
+        head = s.head;
+        bits = ap (λ (ws : List ℕ). get_or ws 0 0) fits.words;
+        short = (let n = fits.short in let e = fits.sound.slots.numbers.size in omega arith);
+        behind = λ is_missed. let n = subst (λ (φ : SeatPhase). SeatKnows φ s.keep s.log x) is_missed (fits.sound.phases.knows i x there) in let k = n.1 in let e = fits.sound.slots.numbers.size in omega arith;
+        view = refl;
+        right = refl;
+        log = s.log;
+        size = sym fits.sound.slots.numbers.size;
+        full = λ n l. (fits.packets n l).0;
+        seen = fits.log;
+        grows = pre;
+      }))
 
 -- an attachment and a detachment
 pub attaches : {L : Limits} (units i : ℕ) (x : Seat) (me : Knows) → me.view ≡ inr x → x.phase ≡ seating.Out → Allows (Holds L) (Operation L) units (suc i) me 0 (λ n. n) (Loads (units - 2) attached x me)
 attaches units = loads_allow seating.Out attached units (λ at j. refl) (λ h x w at j. refl) (λ s i x k sound there within. attach_keeps s i x sound there within)
-    (λ s i x k there within. record { call = Attach; from = refl; outcome = attach s i x; step = record { view = x; there = there; acts = subst (λ (φ : SeatPhase). SeatActs φ Attach s i x (attach s i x)) (sym within) refl }; atomic = refl; leads = refl })
+    (λ s i x k there within. record { by = by_seat i Attach; own = refl; from = s; copied = refl; outcome = attach s i x; step = record { view = x; there = there; acts = subst (λ (φ : SeatPhase). SeatActs φ Attach s i x (attach s i x)) (sym within) refl }; atomic = refl; leads = refl })
 
 pub detaches : {L : Limits} (units i : ℕ) (x : Seat) (me : Knows) → me.view ≡ inr x → x.phase ≡ seating.Between → Allows (Holds L) (Operation L) units (suc i) me 0 (λ n. n) (Loads (units - 2) detached x me)
 detaches units = loads_allow seating.Between detached units (λ at j. refl) (λ h x w at j. refl) (λ s i x k sound there within. detach_keeps s i x sound there within)
-    (λ s i x k there within. record { call = Detach; from = refl; outcome = detach s i x; step = record { view = x; there = there; acts = subst (λ (φ : SeatPhase). SeatActs φ Detach s i x (detach s i x)) (sym within) refl }; atomic = refl; leads = refl })
+    (λ s i x k there within. record { by = by_seat i Detach; own = refl; from = s; copied = refl; outcome = detach s i x; step = record { view = x; there = there; acts = subst (λ (φ : SeatPhase). SeatActs φ Detach s i x (detach s i x)) (sym within) refl }; atomic = refl; leads = refl })
 
 -- ---- the publisher
-pub publisher_there : {L : Limits} (s : Ring.State) (t : State View (List ℕ)) → Fits L s t → (log : List (List ℕ)) (p : Publisher) (me : Knows) → me.view ≡ inl (log, p) → get_elem? t.views 0 ≡ maybe.some me.view → (s.log ≡ log) × (s.publisher ≡ p)
-publisher_there s t fits log p me is at = let e : publisher_view s ≡ inl (log, p) = some-injective (publisher_view s) (inl (log, p)) (ap (λ (vs : List View). get_elem? vs 0) (sym fits.views) ∙ at ∙ ap (λ (v : View). maybe.some v) is) in
-    let known = λ (v : View). or_known log p v in (ap (λ (v : View). (known v).0) e, ap (λ (v : View). (known v).1) e)
-
 accesses_same : (s : Ring.State) (head : Head) (log : List (List ℕ)) (p : Publisher) (j : ℕ) (h : Access) → AccessFits s j h → AccessFits (record s { head = head; log = log; publisher = p }) j h
 accesses_same s head log p j exclusive fit = fit
 accesses_same s head log p j (readable m c) fit = fit
@@ -197,31 +150,17 @@ appends {L = L} units log p me new is within short stored t held long rooms at p
     let same : log ++ p.packet ∷ [] ≡ more = ap (λ (u : List (List ℕ) × Publisher). u.0 ++ u.1.packet ∷ []) {x = (log, p)} {y = (s.log, s.publisher)} (λ i. (sym e.0 i, sym e.1 i)) in
     let w : View = inl (log ++ p.packet ∷ [], record p { phase = publishing.Between; packet = [] }) in let finished = ap (λ (q : Publisher). q.phase) e.1 ∙ within in
     let kept = publisher_kept s t fits (append s).state.head more more (append s).state.publisher new w me.right refl (append_keeps s fits.sound finished) (omega arith) (more_sized L.1 s.log s.publisher.packet fits.packets (subst (λ (φ : PublisherPhase). IsPending L.1 φ s.publisher.packet) finished fits.pending)) tt (stored ∙ (let r : 2 * (length log + 1) ≡ 0 + 2 * (length s.log + 1) = omega arith in r))
-    (λ i. inl (same i, record (sym e.1 i) { phase = publishing.Between; packet = [] })) in (
-      w,
-      keeps,
-      more,
-      more,
-      tt,
-      (s.publisher.packet ∷ [], ap (λ (l : List (List ℕ)). l ++ s.publisher.packet ∷ []) all),
-      prefix_refl more,
-      ((append s).state, kept),
-      record {
-        old = s;
-        new = (append s).state;
-        before = fits;
-        after = kept;
-        by = by_publisher (Publish s.publisher.packet);
-        own = tt;
-        from = s;
-        copied = inl refl;
-        outcome = append s;
-        step = subst (λ (φ : PublisherPhase). PublisherActs φ (Publish s.publisher.packet) s (append s)) (sym finished) (refl, refl);
-        atomic = refl;
-        leads = refl;
-      },
-      record { view = refl; right = refl; seen = sym same },
-    )
+    (λ i. inl (same i, record (sym e.1 i) { phase = publishing.Between; packet = [] })) in
+    goes_by 0 0 me (λ _. new) (λ _. Appends log p me) w keeps more tt (s.publisher.packet ∷ [], ap (λ (l : List (List ℕ)). l ++ s.publisher.packet ∷ []) all) fits kept (record {
+      by = by_publisher (Publish s.publisher.packet);
+      own = tt;
+      from = s;
+      copied = inl refl;
+      outcome = append s;
+      step = subst (λ (φ : PublisherPhase). PublisherActs φ (Publish s.publisher.packet) s (append s)) (sym finished) (refl, refl);
+      atomic = refl;
+      leads = refl;
+    }) (record { view = refl; right = refl; seen = sym same })
 
 -- a close
 pub closes : {L : Limits} (units : ℕ) (log : List (List ℕ)) (p : Publisher) (me : Knows) (new : ℕ) → me.view ≡ inl (log, p) → p.phase ≡ publishing.Between → p.closed ≡ false → new ≡ 2 * length log + 1
@@ -231,31 +170,17 @@ closes {L = L} units log p me new is within unended stored t held long rooms at 
     let all : t.log ≡ s.log = fits.log ∙ ap (λ (b : Bool). with_end b s.log) (fits.sound.slots.numbers.closed ∙ ap (λ (q : Publisher). q.closed) e.1 ∙ unended) in
     let w : View = inl (log, record p { closed = true }) in let between = ap (λ (q : Publisher). q.phase) e.1 ∙ within in
     let kept = publisher_kept s t fits (close s).state.head s.log (s.log ++ [] ∷ []) (close s).state.publisher new w me.right refl (close_keeps s fits.sound between) fits.short fits.packets fits.pending (stored ∙ (let r : 2 * length log + 1 ≡ 1 + 2 * length s.log = omega arith in r))
-    (λ i. inl (sym e.0 i, record (sym e.1 i) { closed = true })) in (
-      w,
-      keeps,
-      s.log ++ [] ∷ [],
-      s.log ++ [] ∷ [],
-      tt,
-      ([] ∷ [], ap (λ (l : List (List ℕ)). l ++ [] ∷ []) all),
-      prefix_refl (s.log ++ [] ∷ []),
-      ((close s).state, kept),
-      record {
-        old = s;
-        new = (close s).state;
-        before = fits;
-        after = kept;
-        by = by_publisher Close;
-        own = tt;
-        from = s;
-        copied = refl;
-        outcome = close s;
-        step = subst (λ (φ : PublisherPhase). PublisherActs φ Close s (close s)) (sym between) (ap (λ (q : Publisher). q.closed) e.1 ∙ unended, refl);
-        atomic = refl;
-        leads = refl;
-      },
-      record { view = refl; right = refl; seen = ap (λ (l : List (List ℕ)). l ++ [] ∷ []) e.0 },
-    )
+    (λ i. inl (sym e.0 i, record (sym e.1 i) { closed = true })) in
+    goes_by 0 0 me (λ _. new) (λ _. Closes log p me) w keeps (s.log ++ [] ∷ []) tt ([] ∷ [], ap (λ (l : List (List ℕ)). l ++ [] ∷ []) all) fits kept (record {
+      by = by_publisher Close;
+      own = tt;
+      from = s;
+      copied = refl;
+      outcome = close s;
+      step = subst (λ (φ : PublisherPhase). PublisherActs φ Close s (close s)) (sym between) (ap (λ (q : Publisher). q.closed) e.1 ∙ unended, refl);
+      atomic = refl;
+      leads = refl;
+    }) (record { view = refl; right = refl; seen = ap (λ (l : List (List ℕ)). l ++ [] ∷ []) e.0 })
 
 -- ---- a take's two loads
 module _ (keep units : ℕ) (size : keep + 2 ≡ units) where
@@ -282,15 +207,8 @@ module _ (keep units : ℕ) (size : keep + 2 ≡ units) where
   first_atomic s i x false true = refl
   first_atomic s i x false false = refl
 
-  first_does : (s : Ring.State) (i : ℕ) (x : Seat) → s.keep + 2 ≡ units → slice_get s.seats i ≡ Some x → x.phase ≡ seating.Between → LoadsBy s i (with_seat s i (first_seen keep s.head x))
-  first_does s i x k there within = record {
-    call = Take;
-    from = inl refl;
-    outcome = first_load s i x;
-    step = record { view = x; there = there; acts = subst (λ (φ : SeatPhase). SeatActs φ Take s i x (first_load s i x)) (sym within) refl };
-    atomic = first_atomic s i x (s.head.length == cursor x) (nat_lt (cursor x) (s.head.length - s.keep));
-    leads = first_leads s i x k;
-  }
+  first_does : (s : Ring.State) (i : ℕ) (x : Seat) → s.keep + 2 ≡ units → slice_get s.seats i ≡ Some x → x.phase ≡ seating.Between → OneStep (suc i) s (with_seat s i (first_seen keep s.head x))
+  first_does s i x k there within = take_step s (with_seat s i (first_seen keep s.head x)) i x (first_load s i x) seating.Between there within refl (first_atomic s i x (s.head.length == cursor x) (nat_lt (cursor x) (s.head.length - s.keep))) (first_leads s i x k)
 
   first_keeps : (s : Ring.State) (i : ℕ) (x : Seat) → s.keep + 2 ≡ units → Invariant s → slice_get s.seats i ≡ Some x → x.phase ≡ seating.Between → Invariant (with_seat s i (first_seen keep s.head x))
   first_keeps s i x k sound there within = subst Invariant (first_leads s i x k) (first_load_keeps s i x sound there within)
@@ -301,15 +219,8 @@ module _ (keep units : ℕ) (size : keep + 2 ≡ units) where
   second_keeps : (s : Ring.State) (i : ℕ) (x : Seat) → s.keep + 2 ≡ units → Invariant s → slice_get s.seats i ≡ Some x → x.phase ≡ seating.Missed → Invariant (with_seat s i (second_seen keep s.head x))
   second_keeps s i x k sound there within = let e : s.keep ≡ keep = omega arith in subst (λ (m : ℕ). Invariant (with_seat s i (second_seen m s.head x))) e (second_load_keeps s i x sound there within)
 
-  second_does : (s : Ring.State) (i : ℕ) (x : Seat) → s.keep + 2 ≡ units → slice_get s.seats i ≡ Some x → x.phase ≡ seating.Missed → LoadsBy s i (with_seat s i (second_seen keep s.head x))
-  second_does s i x k there within = let e : s.keep ≡ keep = omega arith in record {
-    call = Take;
-    from = inl refl;
-    outcome = second_load s i x;
-    step = record { view = x; there = there; acts = subst (λ (φ : SeatPhase). SeatActs φ Take s i x (second_load s i x)) (sym within) refl };
-    atomic = refl;
-    leads = ap (λ (m : ℕ). with_seat s i (second_seen m s.head x)) e;
-  }
+  second_does : (s : Ring.State) (i : ℕ) (x : Seat) → s.keep + 2 ≡ units → slice_get s.seats i ≡ Some x → x.phase ≡ seating.Missed → OneStep (suc i) s (with_seat s i (second_seen keep s.head x))
+  second_does s i x k there within = let e : s.keep ≡ keep = omega arith in take_step s (with_seat s i (second_seen keep s.head x)) i x (second_load s i x) seating.Missed there within refl refl (ap (λ (m : ℕ). with_seat s i (second_seen m s.head x)) e)
 
   pub second_loads : {L : Limits} (i : ℕ) (x : Seat) (me : Knows) → me.view ≡ inr x → x.phase ≡ seating.Missed → Allows (Holds L) (Operation L) units (suc i) me 0 (λ n. n) (Loads (units - 2) (second_seen keep) x me)
   second_loads = loads_allow seating.Missed (second_seen keep) units (λ at j. refl) (λ h x w at j. refl) second_keeps second_does

@@ -10,6 +10,7 @@ pub mod Sent
 pub mod Rule
 pub mod Reach
 pub mod Ends
+pub mod Going
 pub mod Heads
 pub mod Pinned
 pub mod Begun

@@ -33,8 +33,9 @@ use Rattle.packet_ring.specs.Rule.{Limits, IsSized, View, Knows, Holds, bytes_of
 use Rattle.packet_ring.specs.Operation.{Operation}
 use Rattle.ring_steps.specs.declared.calls.SeatCall.TheVariants.{Take}
 use Rattle.ring_steps.specs.RingSteps.{by_seat}
-use Rattle.ring_steps.specs.Step.{SeatActs, SeatStep, pin, read_byte, unpin, unpin_failed}
-use Rattle.packet_ring.proofs.Heads.{map_set, same_holders, or_given, units_of, seat_there}
+use Rattle.ring_steps.specs.Step.{pin, read_byte, unpin, unpin_failed}
+use Rattle.packet_ring.proofs.Going.{OneStep, take_step, goes_by, seat_allows}
+use Rattle.packet_ring.proofs.Heads.{map_set, same_holders, or_given}
 
 -- with another view of this seat as many more hold as it holds more
 count_moved : (keep : ℕ) (xs : List Seat) (i : ℕ) (x y : Seat) (j : ℕ) → slice_get xs i ≡ Some x
@@ -208,27 +209,18 @@ module _ (i : ℕ) (x : Seat) (seen : List (List ℕ)) where
     was_idle : (k : ℕ) → 0 ≡ hold_of x.phase (cursor x % (s.keep + 1)) k
     was_idle k = subst (λ (φ : SeatPhase). 0 ≡ hold_of φ (cursor x % (s.keep + 1)) k) (sym within) refl
 
-    pin_step : SeatStep s i Take (pin s i x)
-    pin_step = record { view = x; there = there; acts = subst (λ (φ : SeatPhase). SeatActs φ Take s i x (pin s i x)) (sym within) refl }
-
     pin_leads : (c : Bool) → holds (word s j) (cursor x) ≡ c → (pin s i x).state ≡ with_seat (with_slot s j b) i (phased c)
     pin_leads c is = ap (λ (d : Bool). with_seat (with_slot s j b) i (phased d)) is
+
+    pin_step : (c : Bool) → holds (word s j) (cursor x) ≡ c → OneStep (suc i) s (with_seat (with_slot s j b) i (phased c))
+    pin_step c is = take_step s (with_seat (with_slot s j b) i (phased c)) i x (pin s i x) seating.Found there within refl refl (pin_leads c is)
 
     goes : (c : Bool) → holds (word s j) (cursor x) ≡ c → Goes (Holds L) (Operation L) t (suc i) me (suc j) (λ m. (m + 1) % 2 ^ 64) (Pins L.1 (suc j) x me)
     goes false is = let sound = sound_by false is in
         let kept = slot_kept s t fits i j (phased false) b ((get_or t.words (suc j) 0 + 1) % 2 ^ 64) no_right keeps sound (bits_now (phased false) sound)
-        (λ k low. access_kept s i j ((word s j).pins + 1) x (phased false) there k (sym (was_idle k)) (get_or t.accesses (suc k) exclusive) (fits.accesses k low)) in (
-          inr (phased false),
-          keeps,
-          t.log,
-          t.log,
-          tt,
-          prefix_refl t.log,
-          prefix_refl t.log,
-          (with_seat (with_slot s j b) i (phased false), kept),
-          record { old = s; new = with_seat (with_slot s j b) i (phased false); before = fits; after = kept; by = by_seat i Take; own = refl; from = s; copied = inl refl; outcome = pin s i x; step = pin_step; atomic = refl; leads = pin_leads false is },
-          record { word = word s j; bits = found; view = ap (λ (d : Bool). inr (phased d)) (sym is); held = λ e. absurd (cc); failed = λ e. refl; few = few_pins; grows = pre },
-        )
+        (λ k low. access_kept s i j ((word s j).pins + 1) x (phased false) there k (sym (was_idle k)) (get_or t.accesses (suc k) exclusive) (fits.accesses k low)) in
+        goes_by (suc i) (suc j) me (λ m. (m + 1) % 2 ^ 64) (Pins L.1 (suc j) x me) (inr (phased false)) keeps t.log tt (prefix_refl t.log) fits kept (pin_step false is)
+        (record { word = word s j; bits = found; view = ap (λ (d : Bool). inr (phased d)) (sym is); held = λ e. absurd (cc); failed = λ e. refl; few = few_pins; grows = pre })
     goes true is =
         let y : Seat = phased true in let sound = sound_by true is in let m' : ℕ = (word s j).pins + 1 in let s' : Ring.State = pinned_to s i j m' x y there in
         let H = access_at s j (get_or t.accesses (suc j) exclusive) (fits.accesses j near) (not_writing ((word s j).number == cursor x + 1) (word s j).writing is) in let m : ℕ = H.parts in let c : List ℕ = H.cells in
@@ -238,41 +230,30 @@ module _ (i : ℕ) (x : Seat) (seen : List (List ℕ)) where
           | inr e ↦ let other : j ≢ k = λ f. e.0 (ap suc (sym f)) in subst (AccessFits s' k) (sym e.1) (access_kept s i j m' x y there k (sym (was_idle k) ∙ other_hold j k other) (get_or t.accesses (suc k) exclusive) (fits.accesses k low))
         ] in
         let own = own_packet s' i y sound (read_place s.seats i x y there) tt in let has = cells_kept s i j m' x y there j c H.fits.2 in let B : List ℕ = bytes_of (drop 1 c) in
-        let kept = slot_kept s t fits i j y b ((get_or t.words (suc j) 0 + 1) % 2 ^ 64) no_right (pins (suc j) m c) sound (bits_now y sound) accesses' in (
-          inr y,
-          pins (suc j) m c,
-          t.log,
-          t.log,
-          (elem, omega arith),
-          prefix_refl t.log,
-          prefix_refl t.log,
-          (s', kept),
-          record { old = s; new = s'; before = fits; after = kept; by = by_seat i Take; own = refl; from = s; copied = inl refl; outcome = pin s i x; step = pin_step; atomic = refl; leads = pin_leads true is },
-          record {
-            word = word s j;
-            bits = found;
-            view = ap (λ (d : Bool). inr (phased d)) (sym is);
-            held = λ e. (
-              c,
-              own.packet,
-              refl,
-              subst (λ (l : List (List ℕ)). slice_get l (cursor x) ≡ Some own.packet) (sym fits.log) (get_with_end s.head.closed s.log (cursor x) own.packet own.there),
-              record {
-                size = sym has.0 ∙ own.len;
-                bytes = ap (λ (l : ℕ). take l B) (sym own.len) ∙ sym has.1 ∙ ap (λ (l : ℕ). take l (slot s' j).bytes) own.len ∙ own.bytes;
-              },
-              sized L.1 s.log (cursor x) own.packet fits.packets own.there,
-            );
-            failed = λ e. absurd (cc);
-            few = few_pins;
-            grows = pre;
-          },
-        )
+        let kept = slot_kept s t fits i j y b ((get_or t.words (suc j) 0 + 1) % 2 ^ 64) no_right (pins (suc j) m c) sound (bits_now y sound) accesses' in
+        goes_by (suc i) (suc j) me (λ m. (m + 1) % 2 ^ 64) (Pins L.1 (suc j) x me) (inr y) (pins (suc j) m c) t.log (elem, omega arith) (prefix_refl t.log) fits kept (pin_step true is) (record {
+          word = word s j;
+          bits = found;
+          view = ap (λ (d : Bool). inr (phased d)) (sym is);
+          held = λ e. (
+            c,
+            own.packet,
+            refl,
+            subst (λ (l : List (List ℕ)). slice_get l (cursor x) ≡ Some own.packet) (sym fits.log) (get_with_end s.head.closed s.log (cursor x) own.packet own.there),
+            record {
+              size = sym has.0 ∙ own.len;
+              bytes = ap (λ (l : ℕ). take l B) (sym own.len) ∙ sym has.1 ∙ ap (λ (l : ℕ). take l (slot s' j).bytes) own.len ∙ own.bytes;
+            },
+            sized L.1 s.log (cursor x) own.packet fits.packets own.there,
+          );
+          failed = λ e. absurd (cc);
+          few = few_pins;
+          grows = pre;
+        })
 
   pub pin_allows : {L : Limits} (units keep : ℕ) → keep + 2 ≡ units → x.phase ≡ seating.Found → let unit = suc (cursor x % (keep + 1)) in Allows (Holds L) (Operation L) units (suc i) me unit (λ m. (m + 1) % 2 ^ 64) (Pins L.1 unit x me)
-  pin_allows {L = L} units keep size within t held long rooms at pre small = let s : Ring.State = held.0 in let fits : Fits L s t = held.1 in let many = units_of s t fits units long in let same : s.keep ≡ keep = omega arith in
-      let there = seat_there s.seats i x (ap (λ (vs : List View). get_elem? vs (suc i)) (sym fits.views) ∙ at) in
-      subst (λ (k : ℕ). let unit = suc (cursor x % (k + 1)) in Goes (Holds L) (Operation L) t (suc i) me unit (λ m. (m + 1) % 2 ^ 64) (Pins L.1 unit x me)) same (goes s t fits there within pre (holds (word s (place s (cursor x))) (cursor x)) refl)
+  pin_allows {L = L} units keep size within = seat_allows units keep i x (λ k. me) (λ k. suc (cursor x % (k + 1))) (λ m. (m + 1) % 2 ^ 64) (λ k. Pins L.1 (suc (cursor x % (k + 1))) x me) (λ k e. omega arith) (λ k. refl)
+      (λ s t fits many there pre small. goes s t fits there within pre (holds (word s (place s (cursor x))) (cursor x)) refl)
 
 -- ---- UNPIN
 pub set_twice : {X : Type 0} (xs : List X) (i : ℕ) (x y : X) → set (set xs i x) i y ≡ set xs i y
@@ -307,31 +288,9 @@ module _ (i : ℕ) (x : Seat) {L : Limits} (s : Ring.State) (t : State View (Lis
       let bits : word_bits fewer.word + 1 ≡ word_bits (word s spot_of) = ap (λ (w : Word). word_bits w + 1) (sym (new_word (missed x))) ∙ e in
       let idle : (k : ℕ) → hold_of x.phase (cursor x % (s.keep + 1)) k ≡ 0 = λ k. subst (λ (φ : SeatPhase). hold_of φ (cursor x % (s.keep + 1)) k ≡ 0) (sym within) refl in
       let kept = slot_kept s t fits i spot_of (missed x) fewer (minus (get_or t.words (suc spot_of) 0)) no_right keeps sound (less_bits small bits)
-      (λ k low. access_kept s i spot_of ((word s spot_of).pins - 1) x (missed x) there k (idle k) (get_or t.accesses (suc k) exclusive) (fits.accesses k low)) in (
-        inr (missed x),
-        keeps,
-        t.log,
-        t.log,
-        tt,
-        prefix_refl t.log,
-        prefix_refl t.log,
-        (with_seat (with_slot s spot_of fewer) i (missed x), kept),
-        record {
-          old = s;
-          new = with_seat (with_slot s spot_of fewer) i (missed x);
-          before = fits;
-          after = kept;
-          by = by_seat i Take;
-          own = refl;
-          from = s;
-          copied = inl refl;
-          outcome = unpin_failed s i x;
-          step = record { view = x; there = there; acts = subst (λ (φ : SeatPhase). SeatActs φ Take s i x (unpin_failed s i x)) (sym within) refl };
-          atomic = refl;
-          leads = refl;
-        },
-        record { view = refl; right = refl; grows = pre },
-      )
+      (λ k low. access_kept s i spot_of ((word s spot_of).pins - 1) x (missed x) there k (idle k) (get_or t.accesses (suc k) exclusive) (fits.accesses k low)) in
+      goes_by (suc i) (suc spot_of) (record { view = inr x; right = no_right; seen = seen }) minus (λ _. Unpins (missed x) (record { view = inr x; right = no_right; seen = seen })) (inr (missed x)) keeps t.log tt (prefix_refl t.log) fits kept
+      (take_step s (with_seat (with_slot s spot_of fewer) i (missed x)) i x (unpin_failed s i x) seating.Failed there within refl refl refl) (record { view = refl; right = refl; grows = pre })
 
   -- the unpin after the packet was read
   pub unpin_goes : (seen : List (List ℕ)) (cells p : List ℕ) → x.phase ≡ seating.Holding → slice_get s.log (cursor x) ≡ Some p → IsPrefix seen t.log → get_or t.words (suc spot_of) 0 < 2 ^ 64
@@ -352,31 +311,18 @@ module _ (i : ℕ) (x : Seat) {L : Limits} (s : Ring.State) (t : State View (Lis
         | inr f ↦ let other : j ≢ k = λ g. f.0 (ap suc (sym g)) in let none : hold_of x.phase j k ≡ 0 = subst (λ (φ : SeatPhase). hold_of φ j k ≡ 0) (sym within) (sym (other_hold j k other)) in
             subst (AccessFits s' k) (sym f.1) (access_kept s i j m' x y there k none (get_or t.accesses (suc k) exclusive) (fits.accesses k low))
       ] in
-      let kept = slot_kept s t fits i j y fewer (minus (get_or t.words (suc j) 0)) (may_read (suc j) cells) (unpins m c) sound (less_bits small bits) accesses' in (
-        inr y,
-        unpins m c,
-        t.log,
-        t.log,
-        (elem, omega arith),
-        prefix_refl t.log,
-        prefix_refl t.log,
-        (s', kept),
-        record {
-          old = s;
-          new = s';
-          before = fits;
-          after = kept;
-          by = by_seat i Take;
-          own = refl;
-          from = s₁;
-          copied = inr (x, p, record { sound = fits.sound; there = there; within = within }, next, refl);
-          outcome = unpin s₁ i x₁;
-          step = record { view = x₁; there = there₁; acts = sym (ap (λ (d : Bool). if d then read_byte s₁ i x₁ else unpin s₁ i x₁) (le-ltb (length p) (length p) (omega arith))) };
-          atomic = refl;
-          leads = ap (λ (xs : List Seat). let u : Ring.State = record (with_slot s j fewer) { seats = xs } in u) (set_twice s.seats i x₁ y);
-        },
-        record { view = refl; right = refl; grows = pre },
-      )
+      let kept = slot_kept s t fits i j y fewer (minus (get_or t.words (suc j) 0)) (may_read (suc j) cells) (unpins m c) sound (less_bits small bits) accesses' in
+      let me : Knows = record { view = inr x; right = may_read (suc j) cells; seen = seen } in
+      goes_by (suc i) (suc j) me minus (λ _. Unpins y me) (inr y) (unpins m c) t.log (elem, omega arith) (prefix_refl t.log) fits kept (record {
+        by = by_seat i Take;
+        own = refl;
+        from = s₁;
+        copied = inr (x, p, record { sound = fits.sound; there = there; within = within }, next, refl);
+        outcome = unpin s₁ i x₁;
+        step = record { view = x₁; there = there₁; acts = sym (ap (λ (d : Bool). if d then read_byte s₁ i x₁ else unpin s₁ i x₁) (le-ltb (length p) (length p) (omega arith))) };
+        atomic = refl;
+        leads = ap (λ (xs : List Seat). let u : Ring.State = record (with_slot s j fewer) { seats = xs } in u) (set_twice s.seats i x₁ y);
+      }) (record { view = refl; right = refl; grows = pre })
 
 pub prefix_get : {X : Type 0} (xs ys : List X) (k : ℕ) (x : X) → IsPrefix xs ys → slice_get xs k ≡ Some x → slice_get ys k ≡ Some x
 prefix_get [] ys k x pre at = absurd (cc)
@@ -389,15 +335,13 @@ module _ (units keep i : ℕ) (size : keep + 2 ≡ units) (x : Seat) (seen : Lis
   its_unit = suc (cursor x % (keep + 1))
 
   pub unpin_failed_allows : {L : Limits} → x.phase ≡ seating.Failed → let me : Knows = record { view = inr x; right = no_right; seen = seen } in Allows (Holds L) (Operation L) units (suc i) me its_unit (λ m. (m + (2 ^ 64 - 1)) % 2 ^ 64) (λ _. Unpins (missed x) me)
-  unpin_failed_allows {L = L} within t held long rooms at pre small = let s : Ring.State = held.0 in let fits : Fits L s t = held.1 in let many = units_of s t fits units long in let same : s.keep ≡ keep = omega arith in
-      let there = seat_there s.seats i x (ap (λ (vs : List View). get_elem? vs (suc i)) (sym fits.views) ∙ at) in let me : Knows = record { view = inr x; right = no_right; seen = seen } in
-      subst (λ (k : ℕ). let unit = suc (cursor x % (k + 1)) in get_or t.words unit 0 < 2 ^ 64 → Goes (Holds L) (Operation L) t (suc i) me unit (λ m. (m + (2 ^ 64 - 1)) % 2 ^ 64) (λ _. Unpins (missed x) me)) same (λ low. unpin_failed_goes i x s t fits there seen within pre low) small
+  unpin_failed_allows {L = L} within = let me : Knows = record { view = inr x; right = no_right; seen = seen } in
+      seat_allows units keep i x (λ k. me) (λ k. suc (cursor x % (k + 1))) (λ m. (m + (2 ^ 64 - 1)) % 2 ^ 64) (λ k _. Unpins (missed x) me) (λ k e. omega arith) (λ k. refl) (λ s t fits many there pre low. unpin_failed_goes i x s t fits there seen within pre low)
 
   pub unpin_allows : {L : Limits} (cells p : List ℕ) → x.phase ≡ seating.Holding → slice_get seen (cursor x) ≡ Some p
       → let me : Knows = record { view = inr x; right = may_read its_unit cells; seen = seen } in Allows (Holds L) (Operation L) units (suc i) me its_unit (λ m. (m + (2 ^ 64 - 1)) % 2 ^ 64) (λ _. Unpins (took x p) me)
-  unpin_allows {L = L} cells p within known t held long rooms at pre small = let s : Ring.State = held.0 in let fits : Fits L s t = held.1 in let many = units_of s t fits units long in let same : s.keep ≡ keep = omega arith in
-      let there = seat_there s.seats i x (ap (λ (vs : List View). get_elem? vs (suc i)) (sym fits.views) ∙ at) in
+  unpin_allows {L = L} cells p within known = let me : ℕ → Knows = λ k. record { view = inr x; right = may_read (suc (cursor x % (k + 1))) cells; seen = seen } in
+      seat_allows units keep i x me (λ k. suc (cursor x % (k + 1))) (λ m. (m + (2 ^ 64 - 1)) % 2 ^ 64) (λ k _. Unpins (took x p) (me k)) (λ k e. omega arith) (λ k. refl) (λ s t fits many there pre low.
       let knows = subst (λ (φ : SeatPhase). SeatKnows φ s.keep s.log x) within (fits.sound.phases.knows i x there) in let before = (fits.sound.slots.seen i x there).0 in let here = knows.0 in
       let next = get_without_end s.head.closed s.log (cursor x) p (omega arith) (subst (λ (l : List (List ℕ)). slice_get l (cursor x) ≡ Some p) fits.log (prefix_get seen t.log (cursor x) p pre known)) in
-      subst (λ (k : ℕ). let unit = suc (cursor x % (k + 1)) in let me : Knows = record { view = inr x; right = may_read unit cells; seen = seen } in get_or t.words unit 0 < 2 ^ 64 → Goes (Holds L) (Operation L) t (suc i) me unit (λ m. (m + (2 ^ 64 - 1)) % 2 ^ 64) (λ _. Unpins (took x p) me)) same
-      (λ low. unpin_goes i x s t fits there seen cells p within next pre low) small
+      unpin_goes i x s t fits there seen cells p within next pre low)
