@@ -1,5 +1,6 @@
 -- The answers of a talk stand in a legal history in which its connection is open.
 use Rattle.std.proofs.Common.{◌≡◌, ℕ, true, List, [], ◌∷◌, ◌++◌, inl, inr, refl, sym, ap, subst, ◌∙◌, arith, append_assoc, append-nil}
+use Rattle.interleaved.specs.declared.frame.Frame.{Frame as StreamFrame}
 use Rattle.rtsp_message.specs.declared.request.Request.{Request}
 use Rattle.rtsp_message.specs.declared.unit.Unit.{Unit as StreamUnit}
 use Rattle.rtsp_message.specs.declared.unit.Unit.TheVariants.{Message, Frame}
@@ -10,6 +11,7 @@ use Rattle.session_state.specs.History.{History}
 use Rattle.session_state.specs.Legal.{Comes, IsLegal}
 use Rattle.session_state.specs.Lookups.{is_open}
 use Rattle.relay_main.specs.Exchange.{AreAnswers, AreDrawn, IsAnswer, IsSettled, opening, with_word}
+use Rattle.relay_main.specs.Publishing.{units_of}
 
 -- a legal history in which the connection of the talk is open
 pub record IsOpening (history : History) : Type 0 where
@@ -64,10 +66,13 @@ AreAnswers-append before (Message r ∷ us) vs u v between after a b (word, late
 AreAnswers-append before (Frame frame ∷ us) vs u v between after a b p q = AreAnswers-append before us vs u v between after a b p q
 
 -- the answer to one message
-pub one_answer : {before after : History} {request : Request} {word : ℕ} {text : List ℕ} (unit : StreamUnit) → unit ≡ Message request → IsAnswer before request word after text → AreAnswers before (unit ∷ []) (word ∷ []) after text
-one_answer {before = before} {after = after} {word = word} {text = text} unit is answer =
-    subst (λ (u : StreamUnit). AreAnswers before (u ∷ []) (word ∷ []) after text) (sym is)
-    (word, [], after, text, [], answer, (refl, refl, refl), refl, sym (append-nil text))
+pub one_answer : {before after : History} {request : Request} {word : ℕ} {text : List ℕ} → IsAnswer before request word after text → AreAnswers before (Message request ∷ []) (word ∷ []) after text
+one_answer {after = after} {word = word} {text = text} answer = (word, [], after, text, [], answer, (refl, refl, refl), refl, sym (append-nil text))
+
+-- frames before some units change nothing of their answers
+pub frames_unanswered : (before : History) (frames : List StreamFrame) (us : List StreamUnit) (words : List ℕ) (after : History) (text : List ℕ) → AreAnswers before us words after text → AreAnswers before (units_of frames ++ us) words after text
+frames_unanswered before [] us words after text are = are
+frames_unanswered before (frame ∷ frames) us words after text are = frames_unanswered before frames us words after text are
 
 pub AreDrawn-append : {V : Type 0} (gives : V → ℕ → V → Type 0) (old between new : V) (u v : List ℕ) → AreDrawn gives old u between → AreDrawn gives between v new → AreDrawn gives old (u ++ v) new
 AreDrawn-append {V = V} gives old between new [] v p q = subst (λ (w : V). AreDrawn gives w v new) p q

@@ -60,3 +60,7 @@ AreAnswers before (Frame frame ∷ units) words after text = AreAnswers before u
 abbrev pub AreDrawn : {V : Type 0} → (gives : V → ℕ → V → Type 0) → V → List ℕ → V → Type 0
 AreDrawn gives old [] new = new ≡ old
 AreDrawn {V = V} gives old (word ∷ words) new = (between : V) × gives old word between × AreDrawn gives between words new
+
+-- a request is answered with a word that was drawn for it
+abbrev pub AnswersWith : {V : Type 0} → (gives : V → ℕ → V → Type 0) → (old new : V) → (before : History) → Request → (after : History) → List ℕ → Type 0
+AnswersWith gives old new before request after text = (word : ℕ) × gives old word new × IsAnswer before request word after text

@@ -1,5 +1,6 @@
 pub mod SessionWords
 pub mod Exchange
+pub mod Publishing
 pub mod Talk
 pub mod Lines
 pub mod LineForms

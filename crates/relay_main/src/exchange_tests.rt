@@ -1,11 +1,10 @@
 //! A publisher's connection, byte for byte.
 ghost use Rattle.std.specs.Prelude.{◌≡◌};
 
-use crate::exchange::leave;
 use crate::talk::{TalkEnd, run_talk};
+use crate::talker::Talker;
 use crate::words::{FixedWord, Words};
 use interleaved::{ListSink, ListSource};
-use session_lock::Book;
 use std::collections::hash_map::RandomState;
 use std::test::Fail;
 
@@ -178,9 +177,11 @@ fn many_requests_of_one_talk(rt: HostRuntime) -> Result<(), Fail> {
 
 #[test]
 fn a_connection_leaves_its_book(rt: HostRuntime) -> Result<(), Fail> {
-    let mut book = Book::new(rt.alloc(), 1, RandomState::new(&rt)?);
-    assert!(rt; book.connect() == Ok(1));
-    leave(&mut book);
-    assert!(rt; !book.is_open(1) && book.kept() == 2);
+    let Ok(mut talker) = Talker::connect(rt.alloc(), RandomState::new(&rt)?) else {
+        return Err(Fail::from("it comes"));
+    };
+    assert!(rt; talker.book.is_open(1));
+    talker.leave();
+    assert!(rt; !talker.book.is_open(1) && talker.book.kept() == 2);
     Ok(())
 }

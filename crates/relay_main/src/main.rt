@@ -1,7 +1,6 @@
 //! A live relay for RTSP 1.0 (RFC 2326).
 #![tactic(auto)]
 
-pub mod exchange;
 #[cfg(test)]
 mod exchange_tests;
 #[cfg(test)]
@@ -9,6 +8,7 @@ mod prompt_tests;
 mod serve;
 pub mod steps;
 pub mod talk;
+mod talker;
 pub mod task;
 #[cfg(test)]
 mod tests;

@@ -1,17 +1,17 @@
 //! One connection, from its first byte to its end.
-ghost use Rattle.std.specs.Prelude.{◌≡◌, ◌<◌, ℕ, List, [], ◌∷◌, true, length, take, IfOk, IfErr, OnOk, string_bytes};
+ghost use Rattle.std.specs.Prelude.{◌≡◌, ◌<◌, ℕ, List, true, length, take, IfOk, IfErr, OnOk, string_bytes};
 ghost use Rattle.std.specs.Io.KnownBytes.{Appends};
 ghost use Rattle.rtsp_message.specs.Intakes.{fresh};
 ghost use Rattle.rtsp_message.specs.Reply.{plain_text};
 ghost use Rattle.session_state.specs.Lookups.{is_open};
-ghost use Rattle.relay_main.specs.Exchange.{AreAnswers, AreDrawn, IsAnswer, opening};
+ghost use Rattle.relay_main.specs.Exchange.{AnswersWith, IsAnswer, opening};
 ghost use Rattle.relay_main.specs.Talk.{Talks, exit_status, exit_line, status_of as fixed_status};
 
-use crate::exchange::{SEATS, leave, reply_bytes};
+use crate::talker::Talker;
 use crate::words::Words;
 use interleaved::{Sink, Source, WriteCut, write_all};
-use rtsp_message::{Fault, Intake, Next, Request, Status, Unit, put_plain};
-use session_lock::Book;
+use publisher::InStop;
+use rtsp_message::{Fault, Intake, Request, Status, put_plain};
 use std::alloc::{AllocError, Global};
 use std::collections::hash_map::RandomState;
 
@@ -29,9 +29,10 @@ pub enum TalkEnd {
 
 /// Answers the requests of one connection, in order, to its end.
 ///
-/// Its history stands in a book of its own, whose mounts have one seat. A word is asked for once a message, and frames are
-/// dropped. A fault of the stream, a failed device and want of memory in the reader or for the connection's coming end it.
-/// Where memory is refused for a reply, 503 stands in its place. The reader is given back, as far as it was read.
+/// Its history stands in a book of its own, whose mounts have one seat and a ring each. A word is asked for once a message.
+/// What comes in while the session records is published; other frames are dropped. A fault of the stream, a failed device
+/// and want of memory in the reader or for the connection's coming end it. Where memory is refused for a ring or a reply,
+/// 503 stands in the reply's place. The reader is given back, as far as it was read.
 pub fn run_talk<R: Source + Drop, W: Sink, V: Words>(
     alloc: Global,
     hasher: RandomState,
@@ -41,48 +42,47 @@ pub fn run_talk<R: Source + Drop, W: Sink, V: Words>(
 ) -> (TalkEnd, R)
     ensures { Talks R.incoming R.failed W.written W.failed V.gives reader result.1 words.old words.new writer.old writer.new result.0 }
 {
-    let mut book = Book::new(alloc, SEATS, hasher);
-    if let Err(_) = book.connect() {
+    let Ok(mut talker) = Talker::connect(alloc, hasher) else {
         if let Err(_) = write_plain(writer, Status::ServiceUnavailable, None) {
             return (TalkEnd::WriteFailed, reader);
         }
         return (TalkEnd::OutOfMemory, reader);
-    }
+    };
     let mut intake = Intake::new(alloc, reader);
-    let end = answer_all(alloc, &mut book, &mut intake, writer, words);
-    leave(&mut book);
+    let end = answer_all(&mut talker, &mut intake, writer, words);
+    talker.leave();
     (end, intake.into_source())
 }
 
-/// Answers what an intake gives, one unit after another. Each answer is written before more is read.
+/// Answers the messages of an intake, one after another. Each answer is written before more is read.
 fn answer_all<R: Source + Drop, W: Sink, V: Words>(
-    alloc: Global,
-    book: &mut Book<u16>,
+    talker: &mut Talker,
     intake: &mut Intake<R>,
     writer: &mut W,
     words: &mut V,
 ) -> TalkEnd
-    requires begins { book.old ≡ record { seats = 1; history = opening; spares = [] } }
+    requires begins { talker.old.book.history ≡ opening }
+    requires seats { talker.old.book.seats ≡ 1 }
     ensures talks { (reader : _) → intake.old ≡ fresh reader → Talks R.incoming R.failed W.written W.failed V.gives reader intake.new.source words.old words.new writer.old writer.new result }
-    ensures seats { book.new.seats ≡ 1 }
-    ensures open { is_open 1 book.new.history ≡ true }
+    ensures seats { talker.new.book.seats ≡ 1 }
+    ensures open { is_open 1 talker.new.book.history ≡ true }
 {
     loop {
-        match intake.next() {
-            Next::Unit(unit) => {
-                if let Err(_) = answer_unit(alloc, book, words, writer, unit) {
+        match talker.next_message(intake) {
+            InStop::Message(request) => {
+                if let Err(_) = answer_message(talker, words, writer, &request) {
                     return TalkEnd::WriteFailed;
                 }
             }
-            Next::End => return TalkEnd::Done,
-            Next::Fault(fault) => {
+            InStop::End => return TalkEnd::Done,
+            InStop::Fault(fault) => {
                 if let Err(_) = write_plain(writer, status_of(fault), None) {
                     return TalkEnd::WriteFailed;
                 }
                 return TalkEnd::StreamFault(fault);
             }
-            Next::ReadFailed => return TalkEnd::ReadFailed,
-            Next::OutOfMemory => {
+            InStop::ReadFailed => return TalkEnd::ReadFailed,
+            InStop::OutOfMemory => {
                 if let Err(_) = write_plain(writer, Status::ServiceUnavailable, None) {
                     return TalkEnd::WriteFailed;
                 }
@@ -92,46 +92,39 @@ fn answer_all<R: Source + Drop, W: Sink, V: Words>(
     }
 }
 
-/// Answers a message, with a word of its own. A frame is dropped, since nothing is published yet.
-fn answer_unit<W: Sink, V: Words>(
-    alloc: Global,
-    book: &mut Book<u16>,
+/// Answers a message, with a word of its own.
+fn answer_message<W: Sink, V: Words>(
+    talker: &mut Talker,
     words: &mut V,
     writer: &mut W,
-    unit: Unit,
+    request: &Request,
 ) -> Result<(), WriteCut>
-    requires seats { book.old.seats ≡ 1 }
-    requires open { is_open 1 book.old.history ≡ true }
-    ensures ok { OnOk result ((text : List ℕ) × (drawn : List ℕ) × AreDrawn V.gives words.old drawn words.new × AreAnswers book.old.history (unit ∷ []) drawn book.new.history text × Appends (W.written writer.old) (W.written writer.new) text) }
-    ensures cut { IfErr result (λ cut. (text : List ℕ) × (drawn : List ℕ) × AreDrawn V.gives words.old drawn words.new × AreAnswers book.old.history (unit ∷ []) drawn book.new.history text × (cut.written < length text) × Appends (W.written writer.old) (W.written writer.new) (take cut.written text)) }
+    requires seats { talker.old.book.seats ≡ 1 }
+    requires open { is_open 1 talker.old.book.history ≡ true }
+    ensures ok { OnOk result ((text : List ℕ) × AnswersWith V.gives words.old words.new talker.old.book.history request.now talker.new.book.history text × Appends (W.written writer.old) (W.written writer.new) text) }
+    ensures cut { IfErr result (λ cut. (text : List ℕ) × AnswersWith V.gives words.old words.new talker.old.book.history request.now talker.new.book.history text × (cut.written < length text) × Appends (W.written writer.old) (W.written writer.new) (take cut.written text)) }
     ensures failed { IfErr result (λ _. W.failed writer.new ≡ true) }
-    ensures kept { book.new.seats ≡ 1 }
+    ensures kept { talker.new.book.seats ≡ 1 }
 {
-    match unit {
-        Unit::Message(request) => {
-            let word = words.word();
-            answer(alloc, book, word, writer, &request)
-        }
-        Unit::Frame(_) => Ok(()),
-    }
+    let word = words.word();
+    answer(talker, word, writer, request)
 }
 
 /// Writes the reply to a request, or 503 where memory is refused for it.
 fn answer<W: Sink>(
-    alloc: Global,
-    book: &mut Book<u16>,
+    talker: &mut Talker,
     word: u32,
     writer: &mut W,
     request: &Request,
 ) -> Result<(), WriteCut>
-    requires seats { book.old.seats ≡ 1 }
-    requires open { is_open 1 book.old.history ≡ true }
-    ensures ok { OnOk result ((text : List ℕ) × IsAnswer book.old.history request.now word book.new.history text × Appends (W.written writer.old) (W.written writer.new) text) }
-    ensures cut { IfErr result (λ cut. (text : List ℕ) × IsAnswer book.old.history request.now word book.new.history text × (cut.written < length text) × Appends (W.written writer.old) (W.written writer.new) (take cut.written text)) }
+    requires seats { talker.old.book.seats ≡ 1 }
+    requires open { is_open 1 talker.old.book.history ≡ true }
+    ensures ok { OnOk result ((text : List ℕ) × IsAnswer talker.old.book.history request.now word talker.new.book.history text × Appends (W.written writer.old) (W.written writer.new) text) }
+    ensures cut { IfErr result (λ cut. (text : List ℕ) × IsAnswer talker.old.book.history request.now word talker.new.book.history text × (cut.written < length text) × Appends (W.written writer.old) (W.written writer.new) (take cut.written text)) }
     ensures failed { IfErr result (λ _. W.failed writer.new ≡ true) }
-    ensures kept { book.new.seats ≡ 1 }
+    ensures kept { talker.new.book.seats ≡ 1 }
 {
-    match reply_bytes(alloc, book, word, request) {
+    match talker.reply_bytes(word, request) {
         Some(text) => write_all(writer, text.as_slice()),
         None => write_plain(writer, Status::ServiceUnavailable, request.cseq),
     }
