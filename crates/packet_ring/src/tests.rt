@@ -1,6 +1,10 @@
 ghost use Rattle.std.specs.Prelude.{◌≡◌, IfSome};
 
 use super::*;
+use crate::allocated::Block;
+use crate::head::load_first;
+use crate::slots::{pin, unpin};
+use crate::words::WRITING;
 use cursor::{Account, Feed, Left, Refused, Taken, Tap};
 use std::alloc::{AllocError, Global};
 use std::process::Abort;
@@ -303,6 +307,54 @@ fn pass_learns(rt: HostRuntime) -> Result<(), Fail> {
     assert!(rt; pass.known() == 2);
     pass.learn(&old);
     assert!(rt; pass.known() == 2 && pass.attach().cursor() == 2);
+    Ok(())
+}
+
+/// Publishes three packets while a seat holds the packet at its cursor pinned, as in the middle of a take, and one
+/// once it is unpinned. `None` where the pin doesn't hold.
+fn publish_over_a_pin(
+    publisher: &mut Publisher,
+    seat: Subscriber,
+) -> Option<[Result<u64, Refused>; 4]> {
+    let Subscriber {
+        ring,
+        mut token,
+        known: _,
+        account,
+    } = seat;
+    let block: &Block = &ring;
+    let next = account.cursor();
+    let count = load_first(&block.shared, &mut token) / 2;
+    if count == next || next < count.saturating_sub(block.keep as u64) {
+        return None;
+    }
+    let unit = (next % (block.keep as u64 + 1)) as usize + 1;
+    let at = unit * (block.width + 1);
+    if pin(&block.shared, &mut token, unit, at) / WRITING != 2 * (next + 1) {
+        return None;
+    }
+    let first = sent(publisher, b"C");
+    let second = sent(publisher, b"D");
+    let third = sent(publisher, b"D");
+    unpin(&block.shared, &mut token, unit, at);
+    Some([first, second, third, sent(publisher, b"D")])
+}
+
+/// A publish onto a pinned packet is refused and leaves the log as it was: its number goes to the next one.
+#[test]
+fn pinned_place_is_refused(rt: HostRuntime) -> Result<(), Fail> {
+    let (mut publisher, mut passes) = new(rt.alloc(), 2, 2, ROOM)?;
+    let seat = passes.pop().ok_or("no pass")?.attach();
+    let mut other = passes.pop().ok_or("no pass")?.attach();
+    assert!(rt; sent(&mut publisher, b"A") == Ok(0) && sent(&mut publisher, b"B") == Ok(1));
+    let pinned = Err(Refused::Pinned { pins: 1 });
+    let answers = publish_over_a_pin(&mut publisher, seat);
+    assert!(rt; answers == Some([Ok(2), pinned, pinned, Ok(3)]));
+    let mut buf = [0; ROOM];
+    assert!(rt; took(&mut other, &mut buf) == Some(Taken::Lost(2)));
+    assert!(rt; took(&mut other, &mut buf) == packet(2, 1) && buf[0] == b'C');
+    assert!(rt; took(&mut other, &mut buf) == packet(3, 1) && buf[0] == b'D');
+    assert!(rt; took(&mut other, &mut buf) == Some(Taken::Empty));
     Ok(())
 }
 
