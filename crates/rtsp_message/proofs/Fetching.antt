@@ -19,7 +19,7 @@ pub record Fetched {S : Type 0} (incoming : S → Option (List ℕ)) (bound : S 
   pub held : take i.held i.piece ≡ old.held ++ read
   pub reading : i.reader.reading ≡ old.reading
   pub queue : into_iter_items i.units ≡ old.queue
-  pub within : i.held ≤ 4096
+  pub within : i.held ≤ 65536
   pub some : 0 < length (take i.held i.piece)
   pub was_going : old.ended ≡ false
   pub going : i.ended ≡ false

@@ -12,8 +12,8 @@ state_of i = record { source = i.source; queue = into_iter_items i.units; readin
 
 -- what always holds of them
 pub record IsIntake {S : Type 0} (incoming : S → Option (List ℕ)) (i : Inside S) : Type 0 where
-  pub within : i.held ≤ 4096
+  pub within : i.held ≤ 65536
   pub settled : ReadsOn i.reader.reading [] [] i.reader.reading
   pub at_end : i.ended ≡ true → IsAtEnd (incoming i.source) × (i.held ≡ 0)
   pub waits : waiting_len i.reader.reading < waiting_limit
-  pub few : length (into_iter_items i.units) ≤ waiting_limit + 4096
+  pub few : length (into_iter_items i.units) ≤ waiting_limit + 65536

@@ -9,8 +9,9 @@ use std::alloc::Global;
 use std::marker::Model;
 use std::vec::IntoIter;
 
-/// The most bytes that are read from a source at once.
-const PIECE: usize = 4096;
+/// The most bytes that are read from a source at once: so many that one call of the system mostly brings all that a
+/// publisher has sent since the last one.
+const PIECE: usize = 65_536;
 
 /// What an intake answers.
 #[derive(Drop)]
