@@ -141,7 +141,6 @@ where
                     Err(end) => end,
                 },
                 InStop::End => ConnectionEnd::Done,
-                InStop::ReadFailed if self.torn_down => ConnectionEnd::Done,
                 InStop::ReadFailed => ConnectionEnd::ReadFailed,
                 InStop::Fault(fault) => {
                     // No frame comes behind the fixed text.
@@ -154,7 +153,13 @@ where
                     ConnectionEnd::OutOfMemory
                 }
             };
-            return end;
+            return match end {
+                // A peer may close right behind its TEARDOWN.
+                ConnectionEnd::ReadFailed | ConnectionEnd::WriteFailed if self.torn_down => {
+                    ConnectionEnd::Done
+                }
+                end => end,
+            };
         }
         unreachable!()
     }
@@ -173,6 +178,7 @@ where
 
     /// Answers a request, and does what the answer asks for.
     fn answer(&mut self, request: &Request) -> Result<(), ConnectionEnd> {
+        self.torn_down = false;
         match self.ask(request) {
             Ok((answer, feed)) => {
                 self.torn_down = answer.reply.status == Status::Ok
@@ -286,7 +292,10 @@ where
                 self.attach(mount, seat, pass);
             }
             Act::Stop { .. } => {
-                let _ = self.detach();
+                if self.detach() == FrameEnd::OutOfMemory {
+                    // The thread has hung up: no reply can be written any more.
+                    return Err(ConnectionEnd::OutOfMemory);
+                }
             }
             Act::End => self.end_mount(),
         }

@@ -1,18 +1,26 @@
 //! A connection over devices in memory.
 use crate::connection::run_connection;
 use crate::counts::Counts;
-use crate::ending::ConnectionEnd;
+use crate::ending::{ConnectionEnd, Refusal};
 use crate::gate::OpenGate;
 use crate::line::Line;
 use crate::loopback::OneWord;
-use crate::maker::RingMaker;
-use crate::shared::Shared;
+use crate::maker::{Maker, RingMaker, Seat};
+use crate::shared::{Shared, SharedBook};
 use crate::socket::HangUp;
-use interleaved::{ListSink, ListSource};
+use cursor::Left;
+use interleaved::{ListSource, Writing};
+use packet_ring::{Pass, Publisher, Subscriber};
+use rtsp_message::Fault;
 use session_lock::Book;
+use std::alloc::{AllocError, Global};
 use std::collections::hash_map::RandomState;
-use std::sync::{Arc, Mutex};
+use std::io;
+use std::io::Write;
+use std::sync::atomic::{AtomicU64, Ordering};
+use std::sync::{Arc, Mutex, Wait};
 use std::test::Fail;
+use std::thread::Threads;
 
 /// A connection that needs no hanging up.
 #[derive(Clone, Copy, Drop)]
@@ -24,6 +32,119 @@ impl HangUp for Open {
     fn close_writes(&self, _wait: u64) {}
 }
 
+/// Keeps what is written for whoever shares it, and takes so many bytes more.
+#[derive(Drop)]
+struct Written<R> {
+    rt: R,
+    bytes: Arc<Mutex<Vec<u8>>, Global>,
+    room: usize,
+}
+
+impl<R: Wait> Write for Written<R> {
+    fn write(&mut self, buf: &[u8]) -> io::Result<usize> {
+        let count = buf.len().min(self.room);
+        self.room -= count;
+        self.bytes.lock(&self.rt).extend_from_slice(&buf[..count])?;
+        Ok(count)
+    }
+
+    fn flush(&mut self) -> io::Result<()> {
+        Ok(())
+    }
+}
+
+/// Makes rings, of which one is refused memory.
+#[derive(Drop)]
+struct Rings {
+    maker: RingMaker,
+    made: AtomicU64,
+    /// Which one is refused, counted from 0.
+    refused: Option<u64>,
+}
+
+impl Maker for Rings {
+    type In = Publisher;
+
+    type Pass = Pass;
+
+    type Out = Subscriber;
+
+    fn make(&self, alloc: Global) -> Result<(Publisher, Vec<Pass>), AllocError> {
+        let place = self.made.fetch_add(1, Ordering::SeqCst);
+        if self.refused == Some(place) {
+            return Err(AllocError);
+        }
+        self.maker.make(alloc)
+    }
+
+    fn attach(&self, pass: Pass) -> Subscriber {
+        self.maker.attach(pass)
+    }
+
+    fn detach(&self, out: Subscriber) -> (Pass, Left) {
+        self.maker.detach(out)
+    }
+}
+
+/// A connection that is to be served, the first of its book.
+#[derive(Drop)]
+struct Peer {
+    said: Vec<u8>,
+    /// Whether the read behind all that is said fails; else it is the end.
+    read_fails: bool,
+    /// How many bytes may be written.
+    room: usize,
+    /// Which ring is refused memory, counted from 0.
+    refused: Option<u64>,
+}
+
+/// What became of it.
+#[derive(Drop)]
+struct Served {
+    end: ConnectionEnd,
+    counts: Counts,
+    written: Vec<u8>,
+    book: SharedBook<Seat<Pass>>,
+}
+
+/// Serves a connection over a ring of one seat that keeps four packets of at most 16 bytes.
+fn serve<R>(rt: R, alloc: Global, hasher: RandomState, peer: Peer) -> Result<Served, AllocError>
+where
+    R: Threads + Wait + Copy + Drop + Send + 'static,
+{
+    let book = Arc::new(alloc, Mutex::new(Book::new(alloc, 1, hasher)))?;
+    let _first = book.lock(&rt).connect();
+    let theirs = Arc::try_clone(&book)?;
+    let maker = Rings {
+        maker: RingMaker::new(4, 1, 16),
+        made: AtomicU64::new(0),
+        refused: peer.refused,
+    };
+    let shared = Shared::new(alloc, maker, theirs, OneWord, OpenGate, false)?;
+    let shared = Arc::new(alloc, shared)?;
+    let fail_at = if peer.read_fails {
+        Some(peer.said.len())
+    } else {
+        None
+    };
+    let source = ListSource::new(peer.said, 7, fail_at);
+    let bytes = Arc::new(alloc, Mutex::new(Vec::new(alloc)))?;
+    let written = Written {
+        rt,
+        bytes: Arc::try_clone(&bytes)?,
+        room: peer.room,
+    };
+    let line = Line::new(alloc, Writing::new(written));
+    let (end, counts) = run_connection(rt, alloc, shared, 1, source, line, Open);
+    let written = Vec::from_slice(alloc, bytes.lock(&rt).as_slice())?;
+    Ok(Served {
+        end,
+        counts,
+        written,
+        book,
+    })
+}
+
 /// A publisher's connection: a frame before it records is a stranger; then come one that is published, one that is too
 /// short for RTP, one on a channel of no track, and one that is too long for the ring; and a frame once it pauses.
 const INPUT: &[u8] =
@@ -32,21 +153,14 @@ const INPUT: &[u8] =
 #[test]
 fn each_frame_of_a_connection_is_counted(rt: HostRuntime) -> Result<(), Fail> {
     let alloc = rt.alloc();
-    let book = Arc::new(
-        alloc,
-        Mutex::new(Book::new(alloc, 1, RandomState::new(&rt)?)),
-    )?;
-    assert!(rt; book.lock(&rt).connect() == Ok(1));
-    let theirs = Arc::try_clone(&book)?;
-    let maker = RingMaker::new(4, 1, 16);
-    let shared = Arc::new(
-        alloc,
-        Shared::new(alloc, maker, theirs, OneWord, OpenGate, false)?,
-    )?;
-    let source = ListSource::new(Vec::from_slice(alloc, INPUT)?, 7, None);
-    let line = Line::new(alloc, ListSink::new(alloc, 1000)?);
-    let (end, counts) = run_connection(rt, alloc, shared, 1, source, line, Open);
-    assert!(rt; end == ConnectionEnd::Done);
+    let peer = Peer {
+        said: Vec::from_slice(alloc, INPUT)?,
+        read_fails: false,
+        room: 1000,
+        refused: None,
+    };
+    let served = serve(rt, alloc, RandomState::new(&rt)?, peer)?;
+    assert!(rt; served.end == ConnectionEnd::Done);
     let want = Counts {
         published: 1,
         pinned: 0,
@@ -57,13 +171,189 @@ fn each_frame_of_a_connection_is_counted(rt: HostRuntime) -> Result<(), Fail> {
         taken: 0,
         lost: 0,
     };
-    assert!(rt; counts == want && counts.has_losses());
-    let text = format!(in alloc; "{counts}")?;
+    assert!(rt; served.counts == want && served.counts.has_losses());
+    let text = format!(in alloc; "{}", served.counts)?;
     assert!(rt;
         text.as_str()
             == "published 1, pinned 0, oversize 1, bad RTP 1, strangers 3, unkept 0, sent 0, lost 0"
     );
     // Its coming, four requests and its hang-up.
-    assert!(rt; book.lock(&rt).kept() == 6);
+    assert!(rt; served.book.lock(&rt).kept() == 6);
+    Ok(())
+}
+
+const ANNOUNCE: &[u8] =
+    b"ANNOUNCE rtsp://h/a RTSP/1.0\nCSeq: 1\nContent-Length: 26\n\nv=0\nm=audio 0 RTP/AVP 0  \n";
+
+const ANNOUNCED: &[u8] = b"RTSP/1.0 200 OK\r\nCSeq: 1\r\n\r\n";
+
+const NO_RING: &[u8] = b"RTSP/1.0 503 Service Unavailable\r\nCSeq: 1\r\n\r\n";
+
+const SETUP: &[u8] =
+    b"SETUP rtsp://h/a/trackID=0 RTSP/1.0\nCSeq: 2\nTransport: RTP/AVP/TCP;interleaved=0-1;mode=record\n\n";
+
+const SET_UP: &[u8] =
+    b"RTSP/1.0 200 OK\r\nCSeq: 2\r\nSession: 000000010000abcd\r\nTransport: RTP/AVP/TCP;unicast;interleaved=0-1;mode=\"RECORD\"\r\n\r\n";
+
+const RECORD: &[u8] = b"RECORD rtsp://h/a RTSP/1.0\nCSeq: 3\nSession: 000000010000abcd\n\n";
+
+const PAUSE: &[u8] = b"PAUSE rtsp://h/a RTSP/1.0\nCSeq: 4\nSession: 000000010000abcd\n\n";
+
+const TEARDOWN: &[u8] = b"TEARDOWN rtsp://h/a RTSP/1.0\nCSeq: 3\nSession: 000000010000abcd\n\n";
+
+const IN_SESSION: &[u8] = b"RTSP/1.0 200 OK\r\nCSeq: 3\r\nSession: 000000010000abcd\r\n\r\n";
+
+/// A frame without data.
+const FRAME: &[u8] = b"$\x00\x00\x00";
+
+/// What is said, what is answered, and how it ends.
+#[derive(Clone, Copy)]
+struct Row {
+    said: &'static [&'static [u8]],
+    read_fails: bool,
+    answered: &'static [&'static [u8]],
+    write_fails: bool,
+    refused: Option<u64>,
+    end: ConnectionEnd,
+    strangers: u64,
+}
+
+const ROWS: [Row; 9] = [
+    // Frames before any SETUP, and the end in the middle of one.
+    Row {
+        said: &[FRAME, FRAME, FRAME, b"$\x00\x00\x0c\x80\x60"],
+        read_fails: false,
+        answered: &[],
+        write_fails: false,
+        refused: None,
+        end: ConnectionEnd::Done,
+        strangers: 3,
+    },
+    // The end in the middle of a head, and of a body.
+    Row {
+        said: &[b"OPTIONS * RTSP/1.0\nCSeq: 1\n"],
+        read_fails: false,
+        answered: &[],
+        write_fails: false,
+        refused: None,
+        end: ConnectionEnd::Done,
+        strangers: 0,
+    },
+    Row {
+        said: &[b"OPTIONS * RTSP/1.0\nCSeq: 1\nContent-Length: 2\n\na"],
+        read_fails: false,
+        answered: &[],
+        write_fails: false,
+        refused: None,
+        end: ConnectionEnd::Done,
+        strangers: 0,
+    },
+    // A failed read behind a frame and a request.
+    Row {
+        said: &[FRAME, ANNOUNCE],
+        read_fails: true,
+        answered: &[ANNOUNCED],
+        write_fails: false,
+        refused: None,
+        end: ConnectionEnd::ReadFailed,
+        strangers: 1,
+    },
+    // A line that is no request, behind one that is.
+    Row {
+        said: &[ANNOUNCE, b"HELLO\n", FRAME],
+        read_fails: false,
+        answered: &[ANNOUNCED, b"RTSP/1.0 400 Bad Request\r\n\r\n"],
+        write_fails: false,
+        refused: None,
+        end: ConnectionEnd::StreamFault(Fault::BadLine),
+        strangers: 0,
+    },
+    // A ring that is refused memory is 503, and the next one is made.
+    Row {
+        said: &[ANNOUNCE, ANNOUNCE, SETUP],
+        read_fails: false,
+        answered: &[NO_RING, ANNOUNCED, SET_UP],
+        write_fails: false,
+        refused: Some(0),
+        end: ConnectionEnd::Done,
+        strangers: 0,
+    },
+    // A reply that can't be written, to a PAUSE and to a TEARDOWN.
+    Row {
+        said: &[ANNOUNCE, SETUP, RECORD, PAUSE],
+        read_fails: false,
+        answered: &[ANNOUNCED, SET_UP, IN_SESSION],
+        write_fails: true,
+        refused: None,
+        end: ConnectionEnd::WriteFailed,
+        strangers: 0,
+    },
+    Row {
+        said: &[ANNOUNCE, SETUP, TEARDOWN],
+        read_fails: false,
+        answered: &[ANNOUNCED, SET_UP],
+        write_fails: true,
+        refused: None,
+        end: ConnectionEnd::Done,
+        strangers: 0,
+    },
+    // A failed read behind a TEARDOWN is no failure, and behind a request after that it is one, whatever its answer.
+    Row {
+        said: &[ANNOUNCE, SETUP, TEARDOWN, ANNOUNCE],
+        read_fails: true,
+        answered: &[ANNOUNCED, SET_UP, IN_SESSION, NO_RING],
+        write_fails: false,
+        refused: Some(1),
+        end: ConnectionEnd::ReadFailed,
+        strangers: 0,
+    },
+];
+
+fn joined(alloc: Global, parts: &[&[u8]]) -> Result<Vec<u8>, AllocError> {
+    let mut all = Vec::new(alloc);
+    for part in parts {
+        all.extend_from_slice(part)?;
+    }
+    Ok(all)
+}
+
+#[test]
+fn connections_end_as_their_peers_do(rt: HostRuntime) -> Result<(), Fail> {
+    let alloc = rt.alloc();
+    for (place, row) in ROWS.iter().enumerate() {
+        let answered = joined(alloc, row.answered)?;
+        let peer = Peer {
+            said: joined(alloc, row.said)?,
+            read_fails: row.read_fails,
+            room: if row.write_fails {
+                answered.len()
+            } else {
+                1000
+            },
+            refused: row.refused,
+        };
+        let served = serve(rt, alloc, RandomState::new(&rt)?, peer)?;
+        assert!(rt;
+            served.written.as_slice() == answered.as_slice(),
+            "row {place}: {}",
+            served.written.as_slice().escape_ascii()
+        );
+        assert!(rt; served.end == row.end, "row {place}: {}", served.end);
+        assert!(rt; served.counts.strangers == row.strangers, "row {place}");
+        assert!(rt; !served.book.lock(&rt).is_open(1), "row {place}");
+    }
+    Ok(())
+}
+
+#[test]
+fn refusals_say_why(rt: HostRuntime) -> Result<(), Fail> {
+    let alloc = rt.alloc();
+    for (refusal, text) in [
+        (Refusal::Full, "refused: too many connections"),
+        (Refusal::OutOfMemory, "refused: out of memory"),
+        (Refusal::NoThread, "refused: no thread"),
+    ] {
+        assert!(rt; format!(in alloc; "{refusal}")?.as_str() == text);
+    }
     Ok(())
 }

@@ -1,5 +1,7 @@
-//! How connections end.
+//! How connections end, and why one isn't served.
 use rtsp_message::Fault;
+use session_state::ConnectFault;
+use std::alloc::AllocError;
 use std::fmt;
 
 /// How a connection ended.
@@ -29,6 +31,41 @@ impl fmt::Display for ConnectionEnd {
             ConnectionEnd::WriteFailed => write!(f, "write failed"),
             ConnectionEnd::OutOfMemory => write!(f, "out of memory"),
             ConnectionEnd::NoThread => write!(f, "no thread for its frames"),
+        }
+    }
+}
+
+/// Why a connection that came isn't served.
+#[derive(Clone, Copy, Debug, PartialEq, Eq, Drop)]
+pub(crate) enum Refusal {
+    /// As many connections are open as a book may have.
+    Full,
+    OutOfMemory,
+    /// No thread could be started that reads it.
+    NoThread,
+}
+
+impl From<ConnectFault> for Refusal {
+    fn from(fault: ConnectFault) -> Refusal {
+        match fault {
+            ConnectFault::Full => Refusal::Full,
+            ConnectFault::OutOfMemory => Refusal::OutOfMemory,
+        }
+    }
+}
+
+impl From<AllocError> for Refusal {
+    fn from(_refused: AllocError) -> Refusal {
+        Refusal::OutOfMemory
+    }
+}
+
+impl fmt::Display for Refusal {
+    fn fmt<W: fmt::Write>(&self, f: &mut fmt::Formatter<W>) -> fmt::Result {
+        match self {
+            Refusal::Full => write!(f, "refused: too many connections"),
+            Refusal::OutOfMemory => write!(f, "refused: out of memory"),
+            Refusal::NoThread => write!(f, "refused: no thread"),
         }
     }
 }

@@ -8,6 +8,8 @@ mod connection;
 mod connection_tests;
 mod counts;
 mod ending;
+#[cfg(test)]
+mod ending_tests;
 mod frames;
 mod gate;
 mod line;

@@ -11,7 +11,8 @@ use session_lock::Book;
 use std::alloc::{AllocError, Global};
 use std::collections::hash_map::RandomState;
 use std::io::{Read, Write};
-use std::net::{Net, SocketAddr, TcpListener, TcpStream};
+use std::net::{Net, Shutdown, SocketAddr, TcpListener, TcpStream};
+use std::random::RandomSource;
 use std::sync::{Arc, Mutex, Wait};
 use std::thread::{JoinHandle, Threads};
 use std::time::{Clock, Duration};
@@ -34,6 +35,8 @@ impl Words for OneWord {
 /// What is announced: one track of video.
 pub(crate) const ANNOUNCE: &str =
     "ANNOUNCE rtsp://127.0.0.1:8554/cam RTSP/1.0\r\nCSeq: 2\r\nContent-Length: 137\r\n\r\nv=0\r\no=- 0 0 IN IP4 127.0.0.1\r\ns=No Name\r\nc=IN IP4 127.0.0.1\r\nt=0 0\r\nm=video 0 RTP/AVP 96\r\na=rtpmap:96 H264/90000\r\na=control:streamid=0\r\n";
+
+pub(crate) const OPTIONS: &[u8] = b"OPTIONS * RTSP/1.0\r\nCSeq: 9\r\n\r\n";
 
 /// A peer of a server, which gives up when nothing comes for ten seconds.
 #[derive(Drop)]
@@ -107,6 +110,11 @@ impl Client {
         self.take(usize::MAX)
     }
 
+    /// Says nothing more.
+    pub(crate) fn fall_silent(&self) -> io::Result<()> {
+        self.stream.shutdown(Shutdown::Write)
+    }
+
     /// Asks, and answers the head of the reply.
     pub(crate) fn ask(&mut self, request: &[u8]) -> io::Result<Vec<u8>> {
         self.say(request)?;
@@ -156,19 +164,26 @@ pub(crate) struct Set {
     pub(crate) gather: u64,
 }
 
+impl Set {
+    /// Packets gather for a millisecond, and players stay when their mount has ended.
+    pub(crate) fn of(accept: u64, seats: usize) -> Set {
+        Set {
+            accept,
+            seats,
+            hang_up_ended: false,
+            gather: 1,
+        }
+    }
+}
+
 /// Starts a server whose rings keep 512 packets of at most 1,024 bytes.
-pub(crate) fn start<R, G>(
-    rt: R,
-    alloc: Global,
-    set: Set,
-    hasher: RandomState,
-    gate: G,
-) -> io::Result<Running>
+pub(crate) fn start<R, G>(rt: R, alloc: Global, set: Set, gate: G) -> io::Result<Running>
 where
     R: Threads
         + Wait
         + Clock
         + Log
+        + RandomSource
         + Net<Listener = TcpListener, Stream = TcpStream>
         + Copy
         + Send
@@ -179,6 +194,7 @@ where
     let listener = TcpListener::bind(&rt, "127.0.0.1:0")?;
     let addr = listener.local_addr()?;
     let seats = set.seats.min(1024);
+    let hasher = RandomState::new(&rt)?;
     let book = Arc::new(alloc, Mutex::new(Book::new(alloc, seats, hasher)))?;
     let theirs = Arc::try_clone(&book)?;
     let options = Options {

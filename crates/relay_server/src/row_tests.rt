@@ -1,7 +1,6 @@
 //! Rows of requests over loopback.
 use crate::gate::OpenGate;
 use crate::loopback::{Client, Set, start, status};
-use std::collections::hash_map::RandomState;
 use std::test::Fail;
 
 /// A request of one of two clients, and the status that it is answered with.
@@ -82,12 +81,10 @@ fn is_as(clients: &mut [Client; 2], row: &Row) -> Result<bool, Fail> {
 fn a_track_has_its_owners_name_and_its_players(rt: HostRuntime) -> Result<(), Fail> {
     let alloc = rt.alloc();
     let set = Set {
-        accept: 2,
-        seats: 1,
-        hang_up_ended: false,
         gather: 0,
+        ..Set::of(2, 1)
     };
-    let server = start(rt, alloc, set, RandomState::new(&rt)?, OpenGate)?;
+    let server = start(rt, alloc, set, OpenGate)?;
     let mut clients = [
         Client::connect(&rt, alloc, server.addr)?,
         Client::connect(&rt, alloc, server.addr)?,

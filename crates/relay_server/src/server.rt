@@ -2,7 +2,7 @@
 use crate::bell::wake_players;
 use crate::connection::run_connection;
 use crate::counts::Counts;
-use crate::ending::ConnectionEnd;
+use crate::ending::{ConnectionEnd, Refusal};
 use crate::gate::Gate;
 use crate::line::Line;
 use crate::maker::{RingMaker, Seat};
@@ -16,7 +16,6 @@ use log::{Log, info, warn};
 use packet_ring::Pass;
 use rtsp_message::{Status, put_plain};
 use std::alloc::{AllocError, Global};
-use std::io::Write;
 use std::net::{SocketAddr, TcpListener, TcpStream};
 use std::sync::atomic::Ordering;
 use std::sync::{Arc, Wait};
@@ -91,7 +90,8 @@ where
     }
 }
 
-/// Lets a connection come and starts its thread. Where one or the other is refused, it is told 503 and closed.
+/// Lets a connection come and starts its thread. Where one or the other is refused, it is told 503 and closed, and a
+/// warning says why.
 fn welcome<R, V, G>(
     rt: R,
     alloc: Global,
@@ -107,23 +107,24 @@ where
     // Without it frames would only leave later.
     let _ = stream.set_nodelay(true);
     let connected = shared.book.lock(&rt).connect();
-    let Ok(conn) = connected else {
-        refuse(stream);
-        return;
+    let conn = match connected {
+        Ok(conn) => conn,
+        Err(fault) => {
+            refuse(&rt, peer, Refusal::from(fault), &stream);
+            return;
+        }
     };
     let stream = match Arc::new(alloc, stream) {
         Ok(stream) => stream,
         Err(refused) => {
             let _ = shared.book.lock(&rt).hangup(conn);
-            refuse(refused.value);
+            refuse(&rt, peer, Refusal::OutOfMemory, &refused.value);
             return;
         }
     };
-    if start(rt, alloc, shared, conn, &stream, peer).is_err() {
+    if let Err(refusal) = start(rt, alloc, shared, conn, &stream, peer) {
         let _ = shared.book.lock(&rt).hangup(conn);
-        if let Ok(socket) = Socket::of(&stream) {
-            refuse(socket);
-        }
+        refuse(&rt, peer, refusal, &stream);
     }
 }
 
@@ -135,7 +136,7 @@ fn start<R, V, G>(
     conn: u64,
     stream: &Arc<TcpStream, Global>,
     peer: SocketAddr,
-) -> Result<(), AllocError>
+) -> Result<(), Refusal>
 where
     R: Threads + Wait + Clock + Log + Copy + Send + Sync + 'static,
     V: Words + Drop + Send + 'static,
@@ -157,7 +158,7 @@ where
         Ok(_) => Ok(()),
         Err(_) => {
             leave(shared);
-            Err(AllocError)
+            Err(Refusal::NoThread)
         }
     }
 }
@@ -191,9 +192,10 @@ fn wait_for_all<V, G>(rt: &impl Wait, shared: &RingShared<V, G>) {
     }
 }
 
-/// Tells a connection that can't be served so. It is closed with the socket.
-fn refuse<W: Write + Drop>(stream: W) {
+/// Tells a connection that can't be served so, and warns of it. It is closed with the socket.
+fn refuse<R: Log>(rt: &R, peer: SocketAddr, why: Refusal, stream: &TcpStream) {
     let mut text = [0; 128];
     let len = put_plain(&mut text, Status::ServiceUnavailable, None);
     let _ = write_all(&mut Writing::new(stream), &text[..len]);
+    warn!(rt; "{peer}: {why}");
 }

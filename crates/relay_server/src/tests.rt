@@ -1,8 +1,7 @@
 //! Connections over loopback.
 use crate::gate::{Gate, OpenGate};
-use crate::loopback::{ANNOUNCE, Client, Set, start, status};
+use crate::loopback::{ANNOUNCE, Client, OPTIONS, Set, start, status};
 use std::alloc::{AllocError, Global};
-use std::collections::hash_map::RandomState;
 use std::net::{Net, SocketAddr, TcpStream};
 use std::sync::Arc;
 use std::sync::atomic::{AtomicBool, Ordering};
@@ -21,8 +20,6 @@ const SETUP_OUT: &[u8] =
 
 /// An RTP packet with number 7 and timestamp 9,000, as a frame on channel 0.
 const FRAME: &[u8] = b"\x24\x00\x00\x0c\x80\x60\x00\x07\x00\x00\x23\x28\x00\x00\x00\x00";
-
-const OPTIONS: &[u8] = b"OPTIONS * RTSP/1.0\r\nCSeq: 9\r\n\r\n";
 
 /// A client that has announced `cam` and records into it.
 fn publisher<R: Net<Stream = TcpStream>>(
@@ -48,13 +45,7 @@ fn play(number: u8) -> [u8; 79] {
 #[test]
 fn a_frame_comes_out_where_it_was_set_up(rt: HostRuntime) -> Result<(), Fail> {
     let alloc = rt.alloc();
-    let set = Set {
-        accept: 3,
-        seats: 2,
-        hang_up_ended: false,
-        gather: 1,
-    };
-    let server = start(rt, alloc, set, RandomState::new(&rt)?, OpenGate)?;
+    let server = start(rt, alloc, Set::of(3, 2), OpenGate)?;
     let mut camera = publisher(&rt, alloc, server.addr)?;
     let mut player = Client::connect(&rt, alloc, server.addr)?;
     assert!(rt; status(player.ask(SETUP_OUT)?.as_slice()) == 200);
@@ -84,13 +75,7 @@ fn a_frame_comes_out_where_it_was_set_up(rt: HostRuntime) -> Result<(), Fail> {
 #[test]
 fn each_connection_comes_asks_and_hangs_up(rt: HostRuntime) -> Result<(), Fail> {
     let alloc = rt.alloc();
-    let set = Set {
-        accept: 2,
-        seats: 1,
-        hang_up_ended: false,
-        gather: 1,
-    };
-    let server = start(rt, alloc, set, RandomState::new(&rt)?, OpenGate)?;
+    let server = start(rt, alloc, Set::of(2, 1), OpenGate)?;
     for _ in 0..2 {
         let mut client = Client::connect(&rt, alloc, server.addr)?;
         assert!(rt; status(client.ask(OPTIONS)?.as_slice()) == 200);
@@ -133,13 +118,7 @@ fn connections_are_served_side_by_side(rt: HostRuntime) -> Result<(), Fail> {
         opened: Arc::try_clone(&opened)?,
         gave_up: Arc::try_clone(&gave_up)?,
     };
-    let set = Set {
-        accept: 2,
-        seats: 1,
-        hang_up_ended: false,
-        gather: 1,
-    };
-    let server = start(rt, alloc, set, RandomState::new(&rt)?, gate)?;
+    let server = start(rt, alloc, Set::of(2, 1), gate)?;
     let mut held = Client::connect(&rt, alloc, server.addr)?;
     held.say(OPTIONS)?;
     let mut other = Client::connect(&rt, alloc, server.addr)?;
@@ -224,12 +203,10 @@ fn read_to_the_end(player: &mut Client) -> io::Result<Option<u16>> {
 fn a_player_that_reads_nothing_hurts_no_other(rt: HostRuntime) -> Result<(), Fail> {
     let alloc = rt.alloc();
     let set = Set {
-        accept: 4,
-        seats: 3,
         hang_up_ended: true,
-        gather: 1,
+        ..Set::of(4, 3)
     };
-    let server = start(rt, alloc, set, RandomState::new(&rt)?, OpenGate)?;
+    let server = start(rt, alloc, set, OpenGate)?;
     let mut camera = publisher(&rt, alloc, server.addr)?;
     let mut first = player(&rt, alloc, server.addr, 2)?;
     let mut second = player(&rt, alloc, server.addr, 3)?;
@@ -255,12 +232,10 @@ fn a_player_that_reads_nothing_hurts_no_other(rt: HostRuntime) -> Result<(), Fai
 fn a_server_ends_while_packets_gather(rt: HostRuntime) -> Result<(), Fail> {
     let alloc = rt.alloc();
     let set = Set {
-        accept: 1,
-        seats: 1,
-        hang_up_ended: false,
         gather: 100,
+        ..Set::of(1, 1)
     };
-    let server = start(rt, alloc, set, RandomState::new(&rt)?, OpenGate)?;
+    let server = start(rt, alloc, set, OpenGate)?;
     let mut camera = publisher(&rt, alloc, server.addr)?;
     camera.say(FRAME)?;
     camera.ask(OPTIONS)?;
@@ -272,13 +247,7 @@ fn a_server_ends_while_packets_gather(rt: HostRuntime) -> Result<(), Fail> {
 #[test]
 fn a_seat_is_free_again_behind_a_pause(rt: HostRuntime) -> Result<(), Fail> {
     let alloc = rt.alloc();
-    let set = Set {
-        accept: 3,
-        seats: 1,
-        hang_up_ended: false,
-        gather: 1,
-    };
-    let server = start(rt, alloc, set, RandomState::new(&rt)?, OpenGate)?;
+    let server = start(rt, alloc, Set::of(3, 1), OpenGate)?;
     let mut camera = publisher(&rt, alloc, server.addr)?;
     let mut first = player(&rt, alloc, server.addr, 2)?;
     let mut second = Client::connect(&rt, alloc, server.addr)?;
@@ -305,20 +274,14 @@ fn a_seat_is_free_again_behind_a_pause(rt: HostRuntime) -> Result<(), Fail> {
 #[test]
 fn connections_that_cannot_be_served_are_told_so(rt: HostRuntime) -> Result<(), Fail> {
     let alloc = rt.alloc();
-    let set = Set {
-        accept: 3,
-        seats: 1,
-        hang_up_ended: false,
-        gather: 1,
-    };
-    let server = start(rt, alloc, set, RandomState::new(&rt)?, OpenGate)?;
+    let server = start(rt, alloc, Set::of(3, 1), OpenGate)?;
     let mut odd = Client::connect(&rt, alloc, server.addr)?;
     assert!(rt;
         odd.ask(b"HELLO\r\n")?.as_slice() == b"RTSP/1.0 400 Bad Request\r\n\r\n".as_slice()
     );
     assert!(rt; odd.bytes(1)?.is_empty());
     let mut long = Client::connect(&rt, alloc, server.addr)?;
-    long.say(Vec::from_elem(alloc, b'A', 20_000)?.as_slice())?;
+    long.say(Vec::from_elem(alloc, b'A', 8192)?.as_slice())?;
     assert!(rt;
         long.head()?.as_slice() == b"RTSP/1.0 413 Request Entity Too Large\r\n\r\n".as_slice()
     );
