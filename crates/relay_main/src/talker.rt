@@ -1,4 +1,4 @@
-//! The side of a connection that its peer talks to: what it is answered, and what is published for it.
+//! One connection with its book: what it is answered, and what it publishes.
 ghost use Rattle.std.specs.Prelude.{◌≡◌, ◌≤◌, ◌+◌, true, None, Some, length, IfOk, IfSome, IfNone, IsSomeAnd};
 ghost use Rattle.std.specs.Option.{option_flatten, option_map};
 ghost use Rattle.rtsp_message.specs.Intakes.{handed, weight};
@@ -46,9 +46,9 @@ pub(crate) struct Talker {
     alloc: Global,
     pub(crate) book: Book<Option<Pass>>,
     /// What takes in the packets of its mount, from the mount's beginning to its end.
-    pub(crate) publishing: Option<Publisher>,
+    publishing: Option<Publisher>,
     /// The pass of the seat that it plays from.
-    pub(crate) seat: Option<Pass>,
+    seat: Option<Pass>,
 }
 
 impl Talker {
