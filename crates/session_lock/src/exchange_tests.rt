@@ -1,8 +1,7 @@
 //! A publisher and two players over one book of one seat.
+use super::testing::{asked, connects, count_of, given_word, refuses};
 use super::*;
-use base_syntax::Items;
-use rtsp_message::{Reader, Unit};
-use session_state::{Act, Given};
+use session_state::Act;
 use std::alloc::Global;
 use std::collections::hash_map::RandomState;
 use std::test::Fail;
@@ -119,61 +118,32 @@ const LATER: &[Row] = &[Row {
     back: 0,
 }];
 
-/// What the book answers to a request.
-fn answer(book: &mut Book<u16>, alloc: Global, row: &Row) -> Option<Answer<u16>> {
-    let mut reader = Reader::new(alloc);
-    let mut fed = reader.feed(row.text).ok()?;
-    let Some(Unit::Message(request)) = fed.units.pop() else {
-        return None;
-    };
-    let given = Given {
-        word: 0xabcd,
-        points: Items::empty(alloc),
-    };
+/// Whether a request is answered so, and the book has one entry more.
+fn is_as(book: &mut Book<u16>, alloc: Global, row: &Row) -> Result<bool, Fail> {
     let offer = match row.offers {
         None => None,
-        Some(count) => Some(vec![in alloc; 7u16; count].ok()?),
+        Some(count) => Some(vec![in alloc; 7u16; count]?),
     };
-    book.ask(row.conn, &request, &given, offer).ok()
-}
-
-/// How many passes there are.
-fn count(passes: &Option<Vec<u16>>) -> usize {
-    match passes {
-        Some(passes) => passes.len(),
-        None => 0,
-    }
-}
-
-/// Whether a request is answered so, and the book has one entry more.
-fn is_as(book: &mut Book<u16>, alloc: Global, row: &Row) -> bool {
-    let kept = book.kept();
-    let Some(answer) = answer(book, alloc, row) else {
-        return false;
+    let given = given_word(alloc, 0xabcd);
+    let Some(answer) = asked(book, alloc, row.conn, row.text, &given, offer) else {
+        return Ok(false);
     };
-    let back = count(&answer.back);
-    answer.reply.status.code() == row.status
-        && answer.act == row.act
-        && answer.pass == row.pass
-        && back == row.back
-        && book.kept() == kept.wrapping_add(1)
-}
-
-/// Whether a pass is handed back, and nothing is added.
-fn refuses(book: &mut Book<u16>, mount: u64, seat: usize) -> bool {
-    let kept = book.kept();
-    book.give_back(mount, seat, 9) == Some(9) && book.kept() == kept
+    let back = count_of(&answer.back);
+    Ok(
+        answer.reply.status.code() == row.status
+            && answer.act == row.act
+            && answer.pass == row.pass
+            && back == row.back,
+    )
 }
 
 #[test]
 fn one_seat_is_played_from_in_turn(rt: HostRuntime) -> Result<(), Fail> {
     let alloc = rt.alloc();
     let mut book: Book<u16> = Book::new(alloc, 1, RandomState::new(&rt)?);
-    for number in 1..4 {
-        assert!(rt; book.connect() == Ok(number));
-    }
+    assert!(rt; connects(&mut book, 3));
     for row in ROWS {
-        assert!(rt; is_as(&mut book, alloc, row));
+        assert!(rt; is_as(&mut book, alloc, row)?);
     }
     assert!(rt; book.mount_of(2) == Some(1));
     assert!(rt; refuses(&mut book, 1, 1));
@@ -181,7 +151,7 @@ fn one_seat_is_played_from_in_turn(rt: HostRuntime) -> Result<(), Fail> {
     assert!(rt; book.give_back(1, 0, 9).is_none());
     assert!(rt; refuses(&mut book, 1, 0));
     for row in LATER {
-        assert!(rt; is_as(&mut book, alloc, row));
+        assert!(rt; is_as(&mut book, alloc, row)?);
     }
     assert!(rt; book.hangup(1) == Act::End);
     assert!(rt; refuses(&mut book, 1, 0));

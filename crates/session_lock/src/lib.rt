@@ -20,4 +20,6 @@ mod mounts_tests;
 #[cfg(test)]
 mod row_tests;
 #[cfg(test)]
+mod testing;
+#[cfg(test)]
 mod tests;

@@ -1,7 +1,8 @@
 //! A publisher and two players over one book of one seat, byte for byte.
+use super::testing::{asked, connects};
 use super::*;
 use base_syntax::Items;
-use rtsp_message::{Reader, Request, Unit, put_reply};
+use rtsp_message::put_reply;
 use session_state::{Act, Given};
 use std::alloc::Global;
 use std::collections::hash_map::RandomState;
@@ -49,6 +50,14 @@ const DESCRIBED: &[u8] =
 const ANNOUNCE: &[u8] =
     b"ANNOUNCE rtsp://h/cam RTSP/1.0\r\nCSeq: 1\r\nContent-Length: 69\r\n\r\nv=0\r\nm=video 0 RTP/AVP 96\r\na=control:trackID=1\r\nm=audio 0 RTP/AVP 0\r\n";
 
+const TOLD: Row = Row {
+    conn: 2,
+    request: DESCRIBE,
+    has_point: false,
+    reply: DESCRIBED,
+    act: Act::None,
+};
+
 /// The mount belongs to connection 1. Its first track was announced as `trackID=1`.
 const OWNER_AND_TRANSPORT: &[Row] = &[
     Row {
@@ -58,13 +67,7 @@ const OWNER_AND_TRANSPORT: &[Row] = &[
         reply: b"RTSP/1.0 200 OK\r\nCSeq: 1\r\n\r\n",
         act: Act::Open,
     },
-    Row {
-        conn: 2,
-        request: DESCRIBE,
-        has_point: false,
-        reply: DESCRIBED,
-        act: Act::None,
-    },
+    TOLD,
     Row {
         conn: 2,
         request: ANNOUNCE,
@@ -72,13 +75,7 @@ const OWNER_AND_TRANSPORT: &[Row] = &[
         reply: b"RTSP/1.0 403 Forbidden\r\nCSeq: 1\r\n\r\n",
         act: Act::None,
     },
-    Row {
-        conn: 2,
-        request: DESCRIBE,
-        has_point: false,
-        reply: DESCRIBED,
-        act: Act::None,
-    },
+    TOLD,
     Row {
         conn: 2,
         request: b"SETUP rtsp://h/cam/trackID=0 RTSP/1.0\r\nCSeq: 2\r\nTransport: RTP/AVP;unicast;client_port=5000-5001\r\n\r\n",
@@ -188,14 +185,6 @@ const ENDED: Row = Row {
     act: Act::None,
 };
 
-fn read_request(alloc: Global, text: &[u8]) -> Result<Option<Request>, Fail> {
-    let mut units = Reader::new(alloc).feed(text)?.units;
-    match units.pop() {
-        Some(Unit::Message(request)) => Ok(Some(request)),
-        _ => Ok(None),
-    }
-}
-
 /// The first track may have the point 65535 at 9000.
 fn given(alloc: Global, has_point: bool) -> Result<Given, Fail> {
     let mut points = Vec::new(alloc);
@@ -213,36 +202,25 @@ fn given(alloc: Global, has_point: bool) -> Result<Given, Fail> {
 
 /// Whether a request is answered so, a pass goes with PLAY alone, and the book has one entry more.
 fn is_as(book: &mut Book<u16>, alloc: Global, row: &Row) -> Result<bool, Fail> {
-    let kept = book.kept();
-    let Some(request) = read_request(alloc, row.request)? else {
-        return Ok(false);
-    };
-    let offer = match request.method.as_slice() == b"ANNOUNCE".as_slice() {
+    let offer = match row.request.starts_with(b"ANNOUNCE") {
         true => Some(vec![in alloc; 5u16; 1]?),
         false => None,
     };
     let given = given(alloc, row.has_point)?;
-    let Ok(answer) = book.ask(row.conn, &request, &given, offer) else {
+    let Some(answer) = asked(book, alloc, row.conn, row.request, &given, offer) else {
         return Ok(false);
     };
     let mut text = Vec::new(alloc);
     put_reply(&mut text, &answer.reply)?;
     let plays = row.act == Act::Play { mount: 1, seat: 0 };
-    Ok(
-        text.as_slice() == row.reply
-            && answer.act == row.act
-            && answer.pass.is_some() == plays
-            && book.kept() == kept.wrapping_add(1),
-    )
+    Ok(text.as_slice() == row.reply && answer.act == row.act && answer.pass.is_some() == plays)
 }
 
 #[test]
 fn requests_over_one_book(rt: HostRuntime) -> Result<(), Fail> {
     let alloc = rt.alloc();
     let mut book: Book<u16> = Book::new(alloc, 1, RandomState::new(&rt)?);
-    for number in 1..4 {
-        assert!(rt; book.connect() == Ok(number));
-    }
+    assert!(rt; connects(&mut book, 3));
     for rows in [BAD_REQUESTS, OWNER_AND_TRANSPORT, STATE_AND_SEAT] {
         for row in rows {
             assert!(rt;

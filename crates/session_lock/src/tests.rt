@@ -1,7 +1,8 @@
+use super::testing::{connects, count_of, given_word};
 use super::*;
-use base_syntax::{Bytes, Items};
+use base_syntax::Bytes;
 use rtsp_message::{Headers, Request};
-use session_state::{ConnectFault, Given};
+use session_state::{Act, ConnectFault};
 use std::alloc::Global;
 use std::collections::hash_map::RandomState;
 use std::test::Fail;
@@ -98,13 +99,6 @@ fn request(alloc: Global, method: &[u8]) -> Option<Request> {
     })
 }
 
-fn passes_in(back: Option<Vec<u16>>) -> usize {
-    match back {
-        Some(passes) => passes.len(),
-        None => 0,
-    }
-}
-
 /// The fault of a request with so many passes offered, by its number, and how many come back.
 fn refused(
     book: &mut Book<u16>,
@@ -114,10 +108,7 @@ fn refused(
 ) -> Option<(u8, usize)> {
     let request = request(alloc, method)?;
     let offer = Some(vec![in alloc; 5u16; count].ok()?);
-    let given = Given {
-        word: 0,
-        points: Items::empty(alloc),
-    };
+    let given = given_word(alloc, 0);
     let fault = book.ask(1, &request, &given, offer).err()?;
     let number = fault.number();
     let back = match fault {
@@ -125,7 +116,7 @@ fn refused(
         AskFault::BadOffer { back } => back,
         AskFault::NoMemory { back } => back,
     };
-    Some((number, passes_in(back)))
+    Some((number, count_of(&back)))
 }
 
 #[test]
@@ -146,11 +137,21 @@ fn an_offer_comes_back(rt: HostRuntime) -> Result<(), Fail> {
 #[test]
 fn no_more_come_than_may_be_open(rt: HostRuntime) -> Result<(), Fail> {
     let mut book: Book<u16> = Book::new(rt.alloc(), 1, RandomState::new(&rt)?);
-    for _ in 0..1024 {
-        book.connect().unwrap_or(0);
-    }
+    assert!(rt; connects(&mut book, 1024));
     assert!(rt; book.connect() == Err(ConnectFault::Full));
     book.hangup(7);
     assert!(rt; book.connect() == Ok(1025));
+    Ok(())
+}
+
+/// The room for each hang-up was made when its connection came.
+#[test]
+fn all_that_are_open_hang_up(rt: HostRuntime) -> Result<(), Fail> {
+    let mut book: Book<u16> = Book::new(rt.alloc(), 1, RandomState::new(&rt)?);
+    assert!(rt; connects(&mut book, 1024));
+    for conn in 1..1025 {
+        assert!(rt; book.hangup(conn) == Act::None);
+    }
+    assert!(rt; book.kept() == 2048);
     Ok(())
 }
