@@ -9,6 +9,8 @@ mod serve;
 pub mod steps;
 pub mod talk;
 mod talker;
+#[cfg(test)]
+mod talker_tests;
 pub mod task;
 #[cfg(test)]
 mod tests;
