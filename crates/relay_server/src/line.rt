@@ -13,7 +13,7 @@ use transport_header::TrackChannels;
 const GATHERED: usize = 32 * 1024;
 
 /// How many takes are made before a reply may be written between frames.
-const TAKES: u64 = 16;
+pub(crate) const TAKES: u64 = 16;
 
 /// The sink of a connection. A reply, or the frames of up to sixteen takes, are written while its lock is held, so that
 /// each stays whole. Its lock may be held as long as the peer reads nothing; no other lock is taken meanwhile.

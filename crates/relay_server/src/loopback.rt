@@ -202,7 +202,7 @@ where
         gather: set.gather,
         hang_up_ended: set.hang_up_ended,
     };
-    let maker = RingMaker::new(512, seats, 1024);
+    let maker = RingMaker::new(512, seats, 16_384);
     let thread = thread::spawn(&rt, move || {
         run_server(rt, alloc, &listener, options, maker, theirs, OneWord, gate)
     })

@@ -1,9 +1,10 @@
 //! What tells the players of a mount that there are packets.
 ghost use Rattle.std.specs.Prelude.{◌≡◌, ◌%◌, ◌^◌};
 
+use crate::line::TAKES;
 use base_syntax::Items;
 use std::alloc::{AllocError, Global};
-use std::sync::atomic::{AtomicBool, AtomicU64, Ordering};
+use std::sync::atomic::{AtomicU64, Ordering};
 use std::sync::{Mutex, Wait};
 use transport_header::{MOST_TRACKS, Point};
 
@@ -14,8 +15,8 @@ use transport_header::{MOST_TRACKS, Point};
 #[derive(Drop)]
 pub struct Notice {
     points: Mutex<[Option<Point>; MOST_TRACKS]>,
-    /// Whether packets came since the players were last woken.
-    news: AtomicBool,
+    /// How many packets came since the players were last woken.
+    news: AtomicU64,
     /// How often the players were woken.
     wakes: AtomicU64,
 }
@@ -24,7 +25,7 @@ impl Notice {
     pub(crate) fn new() -> Notice {
         Notice {
             points: Mutex::new([None; MOST_TRACKS]),
-            news: AtomicBool::new(false),
+            news: AtomicU64::new(0),
             wakes: AtomicU64::new(0),
         }
     }
@@ -47,14 +48,14 @@ impl Notice {
         Ok(Items::new(Vec::from_slice(alloc, points.as_slice())?))
     }
 
-    /// A packet came. The players aren't woken yet.
-    pub(crate) fn mark(&self) {
-        self.news.store(true, Ordering::SeqCst);
+    /// A packet came. The players aren't woken yet. Tells when as many have come as leave at once.
+    pub(crate) fn mark(&self) -> bool {
+        self.news.fetch_add(1, Ordering::SeqCst) == TAKES - 1
     }
 
     /// Wakes the players if packets came since they were last woken.
     pub(crate) fn wake_if_marked(&self) {
-        if self.news.swap(false, Ordering::SeqCst) {
+        if self.news.swap(0, Ordering::SeqCst) > 0 {
             self.wake();
         }
     }

@@ -75,8 +75,11 @@ impl<R: Wait + Drop, F: Feed> Feed for Posting<R, F> {
             self.notice.post(&self.rt, track, point);
         }
         if self.posted {
-            self.notice.mark();
-            self.bell.ring();
+            if self.notice.mark() {
+                self.bell.hurry();
+            } else {
+                self.bell.ring();
+            }
         } else {
             self.notice.wake();
         }

@@ -151,10 +151,10 @@ fn player<R: Net<Stream = TcpStream>>(
     Ok(client)
 }
 
-/// An RTP packet of 1,000 bytes with this number, as a frame on channel 0.
+/// An RTP packet of 6,000 bytes with this number, as a frame on channel 0.
 fn numbered(alloc: Global, number: u16) -> Result<Vec<u8>, AllocError> {
-    let mut frame = Vec::from_elem(alloc, 0, 1004)?;
-    frame[..6].copy_from_slice(b"\x24\x00\x03\xe8\x80\x60");
+    let mut frame = Vec::from_elem(alloc, 0, 6004)?;
+    frame[..6].copy_from_slice(b"\x24\x00\x17\x70\x80\x60");
     frame[6..8].copy_from_slice(&number.to_be_bytes());
     Ok(frame)
 }
@@ -168,15 +168,15 @@ fn number_in(frame: &[u8]) -> u16 {
 }
 
 /// How many packets are published while one player reads nothing: more than a system's buffers mostly hold.
-const PUBLISHED: u16 = 12_000;
+const PUBLISHED: u16 = 2_000;
 
 /// So many packets are published before the players that read have read them.
-const BATCH: u16 = 100;
+const BATCH: u16 = 20;
 
 /// Whether a player reads just these packets next.
 fn reads(player: &mut Client, from: u16) -> io::Result<bool> {
     for place in 0..BATCH {
-        if number_in(player.bytes(1004)?.as_slice()) != from.wrapping_add(place) {
+        if number_in(player.bytes(6004)?.as_slice()) != from.wrapping_add(place) {
             return Ok(false);
         }
     }
@@ -187,7 +187,7 @@ fn reads(player: &mut Client, from: u16) -> io::Result<bool> {
 fn read_to_the_end(player: &mut Client) -> io::Result<Option<u16>> {
     let mut next = 0u16;
     for _ in 0..PUBLISHED {
-        let frame = player.bytes(1004)?;
+        let frame = player.bytes(6004)?;
         if frame.is_empty() {
             break;
         }
