@@ -176,7 +176,7 @@ impl Set {
     }
 }
 
-/// Starts a server whose rings keep 512 packets of at most 1,024 bytes.
+/// Starts a server whose rings keep 512 packets of at most 16,384 bytes.
 pub(crate) fn start<R, G>(rt: R, alloc: Global, set: Set, gate: G) -> io::Result<Running>
 where
     R: Threads
