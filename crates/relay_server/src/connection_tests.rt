@@ -297,7 +297,7 @@ const ROWS: [Row; 9] = [
         end: ConnectionEnd::Done,
         strangers: 0,
     },
-    // A failed read behind a TEARDOWN is no failure, and behind a request after that it is one, whatever its answer.
+    // A failed read behind a request after a TEARDOWN is a failure, whatever that request is answered.
     Row {
         said: &[ANNOUNCE, SETUP, TEARDOWN, ANNOUNCE],
         read_fails: true,
