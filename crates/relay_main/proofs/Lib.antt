@@ -2,13 +2,3 @@ pub mod Exchanges
 pub mod Announcing
 pub mod Fetching
 pub mod Talks
-pub mod Numbers
-pub mod LineEnds
-pub mod Drafting
-pub mod Items
-pub mod Printed
-pub mod Sorting
-pub mod Reading
-pub mod OnePlan
-pub mod Grammar
-pub mod Forms

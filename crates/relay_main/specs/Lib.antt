@@ -2,12 +2,5 @@ pub mod SessionWords
 pub mod Exchange
 pub mod Publishing
 pub mod Talk
-pub mod Lines
-pub mod LineForms
-pub mod Grammar
-pub mod Plans
-pub mod Drafts
-pub mod Scripts
-pub mod TraceText
-pub mod Steps
 pub mod Tasks
+pub mod Serving

@@ -4,9 +4,9 @@ use Rattle.std.specs.Str.{bytes_eq}
 use Rattle.relay_main.specs.declared.task.Task.{Task}
 use Rattle.relay_main.specs.declared.task.Task.TheVariants as tasks
 use Rattle.relay_main.specs.declared.talk.TalkEnd.{TalkEnd}
-use Rattle.relay_main.specs.declared.steps.ends.StepsEnd.{StepsEnd}
+use Rattle.ring_script.specs.declared.ends.StepsEnd.{StepsEnd}
 use Rattle.relay_main.specs.Talk.{Talks, exit_status, exit_line}
-use Rattle.relay_main.specs.Steps.{StepsSo, steps_status, steps_end_line}
+use Rattle.ring_script.specs.Steps.{StepsSo, steps_status, steps_end_line}
 
 -- the task that a command's name means
 abbrev pub task_of : List ℕ → Option Task

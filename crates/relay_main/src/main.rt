@@ -2,11 +2,13 @@
 #![tactic(auto)]
 
 #[cfg(test)]
+mod command_line_tests;
+#[cfg(test)]
 mod exchange_tests;
 #[cfg(test)]
 mod prompt_tests;
 mod serve;
-pub mod steps;
+mod settings;
 pub mod talk;
 mod talker;
 #[cfg(test)]
@@ -26,7 +28,7 @@ use std::collections::hash_map::RandomState;
 use std::io;
 use std::process::ExitCode;
 use task::{Ended, Task, do_steps, do_talk, exit_code, task_named};
-use words::{DrawnWords, FixedWord, Words, read_word};
+use words::{DrawnWords, FixedWord, WordSource, Words, word_source};
 
 fn main(rt: HostRuntime) -> anyhow::Result<ExitCode> {
     let alloc = rt.alloc();
@@ -97,15 +99,15 @@ fn command<'a>(alloc: Global) -> Result<Command<'a>, AllocError> {
 /// Answers one connection over the standard streams, with the word of this text in each session identifier, or with words
 /// that are drawn.
 fn talk_on_standard_streams(rt: &HostRuntime, text: Option<&str>) -> anyhow::Result<ExitCode> {
-    let Some(text) = text else {
-        let drawn: io::Result<StdRng> = make_rng(rt);
-        let Ok(rng) = drawn else {
-            return Ok(fails(rt, FAILED, NO_RANDOM_SOURCE));
-        };
-        return talk_with(rt, &mut DrawnWords(rng));
-    };
-    match read_word(text) {
-        Some(word) => talk_with(rt, &mut FixedWord(word)),
+    match word_source(text) {
+        Some(WordSource::Drawn) => {
+            let drawn: io::Result<StdRng> = make_rng(rt);
+            match drawn {
+                Ok(rng) => talk_with(rt, &mut DrawnWords(rng)),
+                Err(_) => Ok(fails(rt, FAILED, NO_RANDOM_SOURCE)),
+            }
+        }
+        Some(WordSource::Fixed(word)) => talk_with(rt, &mut FixedWord(word)),
         None => Ok(fails(rt, COMMAND_LINE_FAULT, "relay: bad word")),
     }
 }

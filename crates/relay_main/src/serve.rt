@@ -1,5 +1,6 @@
 //! The command `relay serve`.
 use crate::NO_RANDOM_SOURCE;
+use crate::settings::Settings;
 use crate::words::DrawnWords;
 use clap::{Arg, ArgAction, ArgMatches, Command};
 use log::Log;
@@ -38,20 +39,21 @@ pub fn serve_command<'a>(alloc: Global) -> Result<Command<'a>, AllocError> {
     let keep = Arg::new(alloc, "keep")
         .long("keep")
         .value_name("N")
+        .default_value("512")
         .value_parser(clap::value_parser!(u16).range(1..4096))
-        .help(
-            "How many packets a mount keeps for players that are behind, 1 to 4095 [default: 512]",
-        );
+        .help("How many packets a mount keeps for players that are behind, 1 to 4095");
     let seats = Arg::new(alloc, "seats")
         .long("seats")
         .value_name("N")
+        .default_value("64")
         .value_parser(clap::value_parser!(u16).range(1..1025))
-        .help("How many players a mount has, 1 to 1024 [default: 64]");
+        .help("How many players a mount has, 1 to 1024");
     let packet_bytes = Arg::new(alloc, "packet-bytes")
         .long("packet-bytes")
         .value_name("N")
+        .default_value("16384")
         .value_parser(clap::value_parser!(u16).range(12..))
-        .help("The longest packet, in bytes, 12 to 65535 [default: 16384]");
+        .help("The longest packet, in bytes, 12 to 65535");
     let accept = Arg::new(alloc, "accept")
         .long("accept")
         .value_name("N")
@@ -60,10 +62,9 @@ pub fn serve_command<'a>(alloc: Global) -> Result<Command<'a>, AllocError> {
     let gather = Arg::new(alloc, "gather")
         .long("gather")
         .value_name("MS")
+        .default_value("5")
         .value_parser(clap::value_parser!(u16).range(0..101))
-        .help(
-            "For how long packets gather before players are woken, 0 to 100 milliseconds [default: 5]",
-        );
+        .help("For how long packets gather before players are woken, 0 to 100 milliseconds");
     let hang_up_ended = Arg::new(alloc, "hang-up-ended")
         .long("hang-up-ended")
         .action(ArgAction::SetTrue)
@@ -108,20 +109,15 @@ where
     let Ok(rng) = drawn else {
         return Err(NO_RANDOM_SOURCE);
     };
-    let seats = number(matches, "seats", 64).clamp(1, 1024);
-    let keep = number(matches, "keep", 512).clamp(1, 4095);
-    let maker = RingMaker::new(
-        keep,
-        seats,
-        number(matches, "packet-bytes", 16_384).clamp(12, 65_535),
-    );
-    let Ok(book) = Arc::new(alloc, Mutex::new(Book::new(alloc, seats, hasher))) else {
+    let settings = Settings::of(matches);
+    let maker = RingMaker::new(settings.keep, settings.seats, settings.packet_bytes);
+    let Ok(book) = Arc::new(alloc, Mutex::new(Book::new(alloc, settings.seats, hasher))) else {
         return Err(OUT_OF_MEMORY);
     };
     let options = Options {
-        accept: matches.get_one::<u64>("accept"),
-        gather: number(matches, "gather", 5) as u64,
-        hang_up_ended: matches.get_flag("hang-up-ended"),
+        accept: settings.accept,
+        gather: settings.gather,
+        hang_up_ended: settings.hang_up_ended,
     };
     if let Ok(bound) = listener.local_addr() {
         let _ = eprintln!(rt; "relay: listening on {bound}");
@@ -139,9 +135,4 @@ where
         Ok(()) => Ok(()),
         Err(_) => Err(OUT_OF_MEMORY),
     }
-}
-
-/// A number of the command line, in the range that it accepts, or its default.
-fn number(matches: &ArgMatches, name: &str, default: u16) -> usize {
-    usize::from(matches.get_one::<u16>(name).unwrap_or(default))
 }

@@ -3,10 +3,10 @@ ghost use Rattle.std.specs.Prelude.{◌≡◌, IfOk, OnErr, string_bytes};
 ghost use Rattle.std.specs.Process.{exit_status};
 ghost use Rattle.relay_main.specs.Tasks.{DoesSteps, DoesTalk, IsSteps, IsTalked, task_of};
 
-use crate::steps::{run_steps, steps_end};
 use crate::talk::{run_talk, talk_end};
 use crate::words::Words;
 use interleaved::{Sink, Source};
+use ring_script::{run_steps, steps_end};
 use std::alloc::{AllocError, Global};
 use std::collections::hash_map::RandomState;
 use std::process::ExitCode;

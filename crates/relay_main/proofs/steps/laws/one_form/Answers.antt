@@ -1,8 +1,0 @@
-use Rattle.relay_main.proofs.Grammar.{line_tells, line_is_read}
-use Rattle.relay_main.proofs.steps.laws.one_form.Goals as goal
-
-pub returns-clause-says : goal.returns-clause-says
-returns-clause-says c = line_tells
-
-pub returns-clause-said : goal.returns-clause-said
-returns-clause-said c = line_is_read

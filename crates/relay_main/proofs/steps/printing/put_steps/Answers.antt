@@ -1,7 +1,0 @@
-use Rattle.std.proofs.Common.{arith}
-use Rattle.relay_main.proofs.Printed.{step_put}
-use Rattle.relay_main.proofs.steps.printing.put_steps.Goals as goal
-
-pub loop-index-preserved : goal.loop-index-preserved
-loop-index-preserved c =
-    step_put c.args.out.now.items c.loop-index.out.items c.put_step.new.out.items c.args.steps.now c.loop-index.index _ (omega arith) c.loop-index.invariant c.in_ok-put_step.ensures

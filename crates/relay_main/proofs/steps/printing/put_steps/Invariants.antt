@@ -1,6 +1,0 @@
-use Rattle.std.proofs.Common.{◌≡◌, ◌++◌, take}
-use Rattle.relay_main.specs.TraceText.{step_lines}
-use Rattle.relay_main.proofs.steps.printing.put_steps.Given as goal
-
-abbrev pub invariant-loop-index : goal.invariant-loop-index
-invariant-loop-index l = l.out.items ≡ l.fn.out.items ++ step_lines 0 (take l.index l.steps)

@@ -1,9 +1,0 @@
-use Rattle.std.proofs.Common.{length}
-use Rattle.relay_main.proofs.Reading.{SoFar}
-use Rattle.relay_main.proofs.steps.read_plan.read_plan.Given as goal
-
-abbrev pub invariant-loop-rest : goal.invariant-loop-rest
-invariant-loop-rest l = SoFar l.text l.rest l.count l.draft
-
-abbrev pub decreases-loop-rest : goal.decreases-loop-rest
-decreases-loop-rest l = length l.rest

@@ -1,5 +1,0 @@
-use Rattle.std.proofs.Common.{◌≡◌, [], replicate}
-use Rattle.relay_main.proofs.steps.seat_table.table_of.Given as goal
-
-abbrev pub invariant-loop : goal.invariant-loop
-invariant-loop l = l.table.items ≡ replicate l.counter []

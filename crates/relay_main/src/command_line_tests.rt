@@ -1,0 +1,220 @@
+//! Command lines, accepted and refused, and what they ask for.
+use crate::command;
+use crate::serve::{serve, serve_command};
+use crate::settings::Settings;
+use crate::words::{WordSource, word_source};
+use std::alloc::Global;
+use std::test::Fail;
+
+/// What `serve` is to do without options.
+const DEFAULTS: Settings = Settings {
+    keep: 512,
+    seats: 64,
+    packet_bytes: 16_384,
+    accept: None,
+    gather: 5,
+    hang_up_ended: false,
+};
+
+/// What a line of `relay serve` asks for. `None` where it is refused.
+fn settings(alloc: Global, line: &str) -> Result<Option<Settings>, Fail> {
+    let words: Vec<&str> = line.split(' ').collect(alloc)?;
+    let Ok(matches) = command(alloc)?.try_get_matches_from(words.as_slice()) else {
+        return Ok(None);
+    };
+    Ok(matches.subcommand().map(|found| Settings::of(found.1)))
+}
+
+/// Lines of `serve`, and what they ask for.
+const ACCEPTED: [(&str, Settings); 8] = [
+    ("relay serve 127.0.0.1:8554", DEFAULTS),
+    (
+        "relay serve a --keep 1 --seats 1 --packet-bytes 12 --accept 1 --gather 0",
+        Settings {
+            keep: 1,
+            seats: 1,
+            packet_bytes: 12,
+            accept: Some(1),
+            gather: 0,
+            hang_up_ended: false,
+        },
+    ),
+    (
+        "relay serve --keep 4095 --seats 1024 --packet-bytes 65535 --accept 18446744073709551615 --gather 100 --hang-up-ended a",
+        Settings {
+            keep: 4095,
+            seats: 1024,
+            packet_bytes: 65_535,
+            accept: Some(18_446_744_073_709_551_615),
+            gather: 100,
+            hang_up_ended: true,
+        },
+    ),
+    (
+        "relay serve a --keep=7",
+        Settings {
+            keep: 7,
+            ..DEFAULTS
+        },
+    ),
+    (
+        "relay serve a --seats 7",
+        Settings {
+            seats: 7,
+            ..DEFAULTS
+        },
+    ),
+    (
+        "relay serve a --packet-bytes 70",
+        Settings {
+            packet_bytes: 70,
+            ..DEFAULTS
+        },
+    ),
+    (
+        "relay serve a --gather 7",
+        Settings {
+            gather: 7,
+            ..DEFAULTS
+        },
+    ),
+    (
+        "relay serve a --hang-up-ended",
+        Settings {
+            hang_up_ended: true,
+            ..DEFAULTS
+        },
+    ),
+];
+
+#[test]
+fn a_server_does_what_its_line_says(rt: HostRuntime) -> Result<(), Fail> {
+    for (line, want) in ACCEPTED {
+        assert_eq!(rt; settings(rt.alloc(), line)?, Some(want), "{line}");
+    }
+    Ok(())
+}
+
+/// Lines of `serve` that are refused: no address, two of them, a number that is out of its range or none.
+const REFUSED: [&str; 16] = [
+    "relay serve",
+    "relay serve a b",
+    "relay serve a --keep 0",
+    "relay serve a --keep 4096",
+    "relay serve a --keep x",
+    "relay serve a --seats 0",
+    "relay serve a --seats 1025",
+    "relay serve a --packet-bytes 11",
+    "relay serve a --packet-bytes 65536",
+    "relay serve a --accept 0",
+    "relay serve a --accept 18446744073709551616",
+    "relay serve a --gather 101",
+    "relay serve a --gather -1",
+    "relay serve a --hang-up-ended yes",
+    "relay serve a --keep 1 --keep 2",
+    "relay serve a --unknown",
+];
+
+#[test]
+fn a_line_out_of_range_is_refused(rt: HostRuntime) -> Result<(), Fail> {
+    for line in REFUSED {
+        assert_eq!(rt; settings(rt.alloc(), line)?, None, "{line}");
+    }
+    Ok(())
+}
+
+/// Lines that aren't understood, and the status that tells it: asking for help is 0.
+const OTHER_LINES: [(&str, i32); 7] = [
+    ("relay", 2),
+    ("relay play", 2),
+    ("relay talk x", 2),
+    ("relay talk --word", 2),
+    ("relay steps x", 2),
+    ("relay --help", 0),
+    ("relay serve --help", 0),
+];
+
+#[test]
+fn another_line_has_its_status(rt: HostRuntime) -> Result<(), Fail> {
+    let alloc = rt.alloc();
+    for (line, want) in OTHER_LINES {
+        let words: Vec<&str> = line.split(' ').collect(alloc)?;
+        match command(alloc)?.try_get_matches_from(words.as_slice()) {
+            Ok(_) => assert!(rt; false, "{line} is accepted"),
+            Err(error) => assert_eq!(rt; error.exit_code(), want, "{line}"),
+        }
+    }
+    Ok(())
+}
+
+/// Lines of `talk`, and where its words come from; `None` where the text is no word.
+const TALKS: [(&str, Option<WordSource>); 5] = [
+    ("relay talk", Some(WordSource::Drawn)),
+    (
+        "relay talk --word 0000abcd",
+        Some(WordSource::Fixed(0xabcd)),
+    ),
+    (
+        "relay talk --word=FFFFFFFF",
+        Some(WordSource::Fixed(0xffff_ffff)),
+    ),
+    ("relay talk --word abcd", None),
+    ("relay talk --word=", None),
+];
+
+#[test]
+fn a_talk_has_the_words_of_its_line(rt: HostRuntime) -> Result<(), Fail> {
+    let alloc = rt.alloc();
+    for (line, want) in TALKS {
+        let words: Vec<&str> = line.split(' ').collect(alloc)?;
+        let matches = command(alloc)?.try_get_matches_from(words.as_slice())?;
+        let Some((_, of_talk)) = matches.subcommand() else {
+            return Err(Fail::from("no command"));
+        };
+        assert_eq!(rt; word_source(of_talk.get_str("word")), want, "{line}");
+    }
+    Ok(())
+}
+
+/// Where nobody can listen: no address, no port, and an address that is no machine's own.
+const NOWHERE: [&str; 3] = ["nowhere", "127.0.0.1", "192.0.2.1:8554"];
+
+#[test]
+fn an_address_that_cannot_be_bound_is_told(rt: HostRuntime) -> Result<(), Fail> {
+    let alloc = rt.alloc();
+    for addr in NOWHERE {
+        let words = ["serve", addr];
+        let matches = serve_command(alloc)?.try_get_matches_from(words.as_slice())?;
+        assert_eq!(rt; serve(rt, alloc, &matches), Err("relay: cannot listen"));
+    }
+    Ok(())
+}
+
+const SERVE_HELP: &str = "Serves publishers and players over TCP
+
+Usage: serve [OPTIONS] <ADDR>
+
+Arguments:
+  <ADDR>  Where to listen, as 127.0.0.1:8554; port 0 takes a free one
+
+Options:
+      --keep <N>          How many packets a mount keeps for players that are behind, 1 to 4095 [default: 512]
+      --seats <N>         How many players a mount has, 1 to 1024 [default: 64]
+      --packet-bytes <N>  The longest packet, in bytes, 12 to 65535 [default: 16384]
+      --accept <N>        End when N connections were accepted and have ended
+      --gather <MS>       For how long packets gather before players are woken, 0 to 100 milliseconds [default: 5]
+      --hang-up-ended     Hang a player up once the last packet of its mount was written
+  -h, --help              Print help
+
+Examples:
+
+./relay serve 127.0.0.1:8554
+./relay serve 0.0.0.0:554 --keep 2048 --seats 500 --hang-up-ended
+";
+
+#[test]
+fn the_help_of_serve_tells_ranges_and_defaults(rt: HostRuntime) -> Result<(), Fail> {
+    let help = serve_command(rt.alloc())?.render_help()?;
+    assert!(rt; help.as_str() == SERVE_HELP, "{help}");
+    Ok(())
+}

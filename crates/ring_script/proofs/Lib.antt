@@ -1,0 +1,10 @@
+pub mod Numbers
+pub mod LineEnds
+pub mod Drafting
+pub mod Items
+pub mod Printed
+pub mod Sorting
+pub mod Reading
+pub mod OnePlan
+pub mod Grammar
+pub mod Forms

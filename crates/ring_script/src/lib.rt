@@ -1,0 +1,29 @@
+//! The command `steps`: a ring's script and schedule are read, run step by step, and told.
+#![tactic(auto)]
+
+mod call_line;
+mod draft;
+mod ends;
+mod first_line;
+mod item;
+pub mod laws;
+mod line;
+mod parts;
+mod plan;
+mod printing;
+mod read_all;
+mod read_line;
+mod read_plan;
+mod running;
+mod script;
+mod seat_table;
+#[cfg(test)]
+mod tests;
+
+pub use call_line::CallLine;
+pub use ends::{StepsEnd, steps_end};
+pub use plan::{Plan, PlanFault};
+pub use printing::put_trace;
+pub use read_plan::read_plan;
+pub use running::run_steps;
+pub use script::script_of;
