@@ -7,9 +7,9 @@ ghost use Rattle.ring_script.specs.Steps.{IsTraceOf, IsTextOf, EndsEarly, StepsS
 
 use crate::ends::StepsEnd;
 use crate::plan::{Plan, PlanFault};
+use crate::plan_reading::read_plan;
 use crate::printing::put_trace;
 use crate::read_all::{ReadFault, read_all};
-use crate::read_plan::read_plan;
 use crate::script::script_of;
 use interleaved::{Sink, Source, write_all};
 use ring_steps::{StepFault, Trace, run};

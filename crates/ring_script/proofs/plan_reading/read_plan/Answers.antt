@@ -1,6 +1,6 @@
 use Rattle.std.proofs.Common.{◌≡◌, length, arith}
 use Rattle.ring_script.proofs.Reading.{bad_line, missing_line, whole_read, no_bytes}
-use Rattle.ring_script.proofs.read_plan.read_plan.Goals as goal
+use Rattle.ring_script.proofs.plan_reading.read_plan.Goals as goal
 
 pub returns-in_default : goal.returns-in_default
 returns-in_default c =
