@@ -280,6 +280,20 @@ pub(crate) const ANNOUNCE: &[RefusalRow] = &[
         status: 413,
     },
     RefusalRow {
+        before: &[],
+        conn: 1,
+        request: b"ANNOUNCE rtsp://h/new RTSP/1.0\nCSeq: 1\nContent-Length: 280\n\nv=0\nx=1\nm=a 0 RTP/AVP 0\nm=a 0 RTP/AVP 0\nm=a 0 RTP/AVP 0\nm=a 0 RTP/AVP 0\nm=a 0 RTP/AVP 0\nm=a 0 RTP/AVP 0\nm=a 0 RTP/AVP 0\nm=a 0 RTP/AVP 0\nm=a 0 RTP/AVP 0\nm=a 0 RTP/AVP 0\nm=a 0 RTP/AVP 0\nm=a 0 RTP/AVP 0\nm=a 0 RTP/AVP 0\nm=a 0 RTP/AVP 0\nm=a 0 RTP/AVP 0\nm=a 0 RTP/AVP 0\nm=a 0 RTP/AVP 0\n",
+        check: Check::IsDescription,
+        status: 400,
+    },
+    RefusalRow {
+        before: &[],
+        conn: 1,
+        request: b"ANNOUNCE rtsp://h/new RTSP/1.0\nCSeq: 1\nContent-Length: 280\n\nv=0\nm=a 0 RTP/AVP 0\nm=a 0 RTP/AVP 0\nm=a 0 RTP/AVP 0\nm=a 0 RTP/AVP 0\nm=a 0 RTP/AVP 0\nm=a 0 RTP/AVP 0\nm=a 0 RTP/AVP 0\nm=a 0 RTP/AVP 0\nm=a 0 RTP/AVP 0\nm=a 0 RTP/AVP 0\nm=a 0 RTP/AVP 0\nm=a 0 RTP/AVP 0\nm=a 0 RTP/AVP 0\nm=a 0 RTP/AVP 0\nm=a 0 RTP/AVP 0\nm=a 0 RTP/AVP 0\nm=a 0 RTP/AVP 0\nx=1\n",
+        check: Check::HasFewTracks,
+        status: 413,
+    },
+    RefusalRow {
         before: &[PUBLISHED, PLAYER],
         conn: 2,
         request: b"ANNOUNCE rtsp://h/new RTSP/1.0\nCSeq: 1\nSession: x\nContent-Length: 20\n\nv=0\nm=a 0 RTP/AVP 0\n",

@@ -87,6 +87,13 @@ const PLAY: Row<'static> = Row {
     act: Act::Play { mount: 1, seat: 0 },
 };
 
+const LAST_ALONE: Row<'static> = Row {
+    conn: 2,
+    request: b"TEARDOWN rtsp://h/all/trackID=15 RTSP/1.0\nCSeq: 1\nSession: 0000000200000007\n\n",
+    reply: b"RTSP/1.0 460 Only Aggregate Operation Allowed\r\nCSeq: 1\r\nSession: 0000000200000007\r\n\r\n",
+    act: Act::None,
+};
+
 #[test]
 fn sixteen_tracks_are_set_up(rt: HostRuntime) -> Result<(), Fail> {
     let alloc = rt.alloc();
@@ -99,5 +106,6 @@ fn sixteen_tracks_are_set_up(rt: HostRuntime) -> Result<(), Fail> {
     }
     let points = last_points(alloc)?;
     assert!(rt; is_answered_with(alloc, &mut world, &points, &PLAY)?);
+    assert!(rt; is_answered(alloc, &mut world, &LAST_ALONE)?);
     Ok(())
 }
