@@ -18,6 +18,8 @@ mod exchange_tests;
 #[cfg(test)]
 mod mounts_tests;
 #[cfg(test)]
+mod passes_tests;
+#[cfg(test)]
 mod row_tests;
 #[cfg(test)]
 mod testing;

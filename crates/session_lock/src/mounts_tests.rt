@@ -1,8 +1,7 @@
 //! Two mounts of two seats over one book, by every method.
+use super::testing::{accepted, connects, refuses};
 use super::*;
-use base_syntax::Items;
-use rtsp_message::{Reader, Request, Unit};
-use session_state::{Act, Given, State};
+use session_state::{Act, State};
 use std::alloc::Global;
 use std::collections::hash_map::RandomState;
 use std::test::Fail;
@@ -61,34 +60,14 @@ const PAUSE_4: &[u8] = b"PAUSE rtsp://h/a RTSP/1.0\nCSeq: 3\nSession: 0000000300
 
 const TEARDOWN_1: &[u8] = b"TEARDOWN rtsp://h/a RTSP/1.0\nCSeq: 4\nSession: 0000000100000007\n\n";
 
-fn read_request(alloc: Global, text: &[u8]) -> Option<Request> {
-    let mut units = Reader::new(alloc).feed(text).ok()?.units;
-    match units.pop() {
-        Some(Unit::Message(request)) => Some(request),
-        _ => None,
-    }
-}
-
-/// What is answered with 200 and adds one entry. Connection 1 offers the passes 10 and 11, connection 2 20 and 21.
-fn asked(book: &mut Book<u16>, alloc: Global, conn: u64, text: &[u8]) -> Option<Answer<u16>> {
-    let kept = book.kept();
-    let request = read_request(alloc, text)?;
+/// What is answered with 200. Connection 1 offers the passes 10 and 11, connection 2 20 and 21.
+fn answered(book: &mut Book<u16>, alloc: Global, conn: u64, text: &[u8]) -> Option<Answer<u16>> {
     let first = if conn == 1 { 10u16 } else { 20 };
     let offer = match text.starts_with(b"ANNOUNCE") {
         true => Some(vec![in alloc; first, first + 1].ok()?),
         false => None,
     };
-    let given = Given {
-        word: 7,
-        points: Items::empty(alloc),
-    };
-    let answer = book.ask(conn, &request, &given, offer).ok()?;
-    let is_one_more = book.kept() == kept.wrapping_add(1);
-    if is_one_more && answer.reply.status.code() == 200 {
-        Some(answer)
-    } else {
-        None
-    }
+    accepted(book, alloc, conn, text, offer)
 }
 
 /// The pass that was offered for a seat, behind the first one.
@@ -116,19 +95,18 @@ fn seat_of(answer: Option<Answer<u16>>, wanted: u64, first: u16) -> Option<usize
     }
 }
 
-/// Whether a pass is handed back, and nothing is added.
-fn refuses(book: &mut Book<u16>, mount: u64, seat: usize) -> bool {
-    let kept = book.kept();
-    book.give_back(mount, seat, 99) == Some(99) && book.kept() == kept
+/// The seat of mount 1 that a PLAY takes.
+fn plays(book: &mut Book<u16>, alloc: Global, conn: u64, text: &[u8]) -> Option<usize> {
+    seat_of(answered(book, alloc, conn, text), 1, 10)
 }
 
-/// A book in which the opening was asked and answered.
+/// Whether the opening was asked and answered.
 fn opened(book: &mut Book<u16>, alloc: Global) -> bool {
-    for _ in 0..6 {
-        let _ = book.connect();
+    if !connects(book, 6) {
+        return false;
     }
     for (conn, text, act) in OPENING {
-        match asked(book, alloc, *conn, text) {
+        match answered(book, alloc, *conn, text) {
             Some(answer) if answer.act == *act => {}
             _ => return false,
         }
@@ -137,33 +115,45 @@ fn opened(book: &mut Book<u16>, alloc: Global) -> bool {
 }
 
 #[test]
-fn seats_of_two_mounts(rt: HostRuntime) -> Result<(), Fail> {
+fn a_seat_that_is_given_back_is_taken_again(rt: HostRuntime) -> Result<(), Fail> {
     let alloc = rt.alloc();
     let mut book: Book<u16> = Book::new(alloc, 2, RandomState::new(&rt)?);
     assert!(rt; opened(&mut book, alloc));
-    let third = seat_of(asked(&mut book, alloc, 3, PLAY_3), 1, 10).ok_or("no seat")?;
-    let fourth = seat_of(asked(&mut book, alloc, 4, PLAY_4), 1, 10).ok_or("no seat")?;
-    let fifth = seat_of(asked(&mut book, alloc, 5, PLAY_5), 2, 20).ok_or("no seat")?;
+    let third = plays(&mut book, alloc, 3, PLAY_3).ok_or("no seat")?;
+    let fourth = plays(&mut book, alloc, 4, PLAY_4).ok_or("no seat")?;
     assert!(rt; third != fourth);
-    assert!(rt; asked(&mut book, alloc, 4, PAUSE_4).is_some());
+    assert!(rt; answered(&mut book, alloc, 4, PAUSE_4).is_some());
     assert!(rt; book.give_back(1, fourth, pass_of(10, fourth)).is_none());
     // It is free now, beside one that is out.
     assert!(rt; refuses(&mut book, 1, fourth));
-    assert!(rt; seat_of(asked(&mut book, alloc, 4, PLAY_4), 1, 10) == Some(fourth));
-    assert!(rt; asked(&mut book, alloc, 1, TEARDOWN_1).is_some());
+    assert!(rt; plays(&mut book, alloc, 4, PLAY_4) == Some(fourth));
+    Ok(())
+}
+
+#[test]
+fn no_pass_of_an_ended_mount_is_taken_back(rt: HostRuntime) -> Result<(), Fail> {
+    let alloc = rt.alloc();
+    let mut book: Book<u16> = Book::new(alloc, 2, RandomState::new(&rt)?);
+    assert!(rt; opened(&mut book, alloc));
+    let third = plays(&mut book, alloc, 3, PLAY_3).ok_or("no seat")?;
+    assert!(rt; answered(&mut book, alloc, 1, TEARDOWN_1).is_some());
     assert!(rt; book.mount_of(1).is_none() && book.mount_of(3) == Some(1));
-    assert!(rt; asked(&mut book, alloc, 3, PAUSE_3).is_some());
-    // Its mount has ended.
+    assert!(rt; answered(&mut book, alloc, 3, PAUSE_3).is_some());
     assert!(rt; refuses(&mut book, 1, third));
-    assert!(rt;
-        book.hangup(5)
-            == Act::Stop {
-                mount: 2,
-                seat: fifth
-            }
-    );
+    Ok(())
+}
+
+#[test]
+fn a_player_of_another_mount_hangs_up(rt: HostRuntime) -> Result<(), Fail> {
+    let alloc = rt.alloc();
+    let mut book: Book<u16> = Book::new(alloc, 2, RandomState::new(&rt)?);
+    assert!(rt; opened(&mut book, alloc));
+    assert!(rt; plays(&mut book, alloc, 3, PLAY_3).is_some());
+    let seat = seat_of(answered(&mut book, alloc, 5, PLAY_5), 2, 20).ok_or("no seat")?;
+    assert!(rt; answered(&mut book, alloc, 1, TEARDOWN_1).is_some());
+    assert!(rt; book.hangup(5) == Act::Stop { mount: 2, seat });
     assert!(rt; book.mount_of(5).is_none() && book.session_of(5).is_none());
-    assert!(rt; book.give_back(2, fifth, 20).is_none());
+    assert!(rt; book.give_back(2, seat, 20).is_none());
     Ok(())
 }
 
@@ -188,7 +178,16 @@ fn many_requests_are_answered(rt: HostRuntime) -> Result<(), Fail> {
     let mut book: Book<u16> = Book::new(alloc, 0, RandomState::new(&rt)?);
     assert!(rt; book.connect() == Ok(1));
     for _ in 0..MANY {
-        assert!(rt; asked(&mut book, alloc, 1, b"OPTIONS * RTSP/1.0\nCSeq: 1\n\n").is_some());
+        assert!(rt;
+            accepted(
+                &mut book,
+                alloc,
+                1,
+                b"OPTIONS * RTSP/1.0\nCSeq: 1\n\n",
+                None
+            )
+            .is_some()
+        );
     }
     assert!(rt; book.kept() == MANY + 1);
     Ok(())

@@ -23,7 +23,7 @@ pub(crate) fn given_word(alloc: Global, word: u32) -> Given {
 }
 
 /// Opens so many connections. Whether their numbers are those from 1 on.
-pub(crate) fn connects(book: &mut Book<u16>, count: u64) -> bool {
+pub(crate) fn connects<P: Drop>(book: &mut Book<P>, count: u64) -> bool {
     for number in 1..=count {
         if book.connect() != Ok(number) {
             return false;
@@ -33,14 +33,14 @@ pub(crate) fn connects(book: &mut Book<u16>, count: u64) -> bool {
 }
 
 /// What the book answers to a request, where that adds one entry.
-pub(crate) fn asked(
-    book: &mut Book<u16>,
+pub(crate) fn asked<P: Drop>(
+    book: &mut Book<P>,
     alloc: Global,
     conn: u64,
     text: &[u8],
     given: &Given,
-    offer: Option<Vec<u16>>,
-) -> Option<Answer<u16>> {
+    offer: Option<Vec<P>>,
+) -> Option<Answer<P>> {
     let kept = book.kept();
     let request = request_of(alloc, text)?;
     let answer = book.ask(conn, &request, given, offer).ok()?;
@@ -51,8 +51,25 @@ pub(crate) fn asked(
     }
 }
 
+/// What is answered with 200, with the word 7 and no point, and adds one entry.
+pub(crate) fn accepted<P: Drop>(
+    book: &mut Book<P>,
+    alloc: Global,
+    conn: u64,
+    text: &[u8],
+    offer: Option<Vec<P>>,
+) -> Option<Answer<P>> {
+    let given = given_word(alloc, 7);
+    let answer = asked(book, alloc, conn, text, &given, offer)?;
+    if answer.reply.status.code() == 200 {
+        Some(answer)
+    } else {
+        None
+    }
+}
+
 /// How many passes there are.
-pub(crate) fn count_of(passes: &Option<Vec<u16>>) -> usize {
+pub(crate) fn count_of<P>(passes: &Option<Vec<P>>) -> usize {
     match passes {
         Some(passes) => passes.len(),
         None => 0,

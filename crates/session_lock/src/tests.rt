@@ -144,6 +144,24 @@ fn no_more_come_than_may_be_open(rt: HostRuntime) -> Result<(), Fail> {
     Ok(())
 }
 
+/// More connections than may be open at a time, one after the other.
+const IN_TURN: u64 = 5000;
+
+#[test]
+fn who_hangs_up_gives_room_to_others(rt: HostRuntime) -> Result<(), Fail> {
+    let mut book: Book<u16> = Book::new(rt.alloc(), 1, RandomState::new(&rt)?);
+    for number in 1..=IN_TURN {
+        assert!(rt; book.connect() == Ok(number));
+        assert!(rt; book.hangup(number) == Act::None);
+    }
+    for number in 1..=1024 {
+        assert!(rt; book.connect() == Ok(IN_TURN + number));
+    }
+    assert!(rt; book.connect() == Err(ConnectFault::Full));
+    assert!(rt; book.kept() == 2 * 5000 + 1024);
+    Ok(())
+}
+
 /// The room for each hang-up was made when its connection came.
 #[test]
 fn all_that_are_open_hang_up(rt: HostRuntime) -> Result<(), Fail> {

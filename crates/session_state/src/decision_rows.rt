@@ -1,16 +1,9 @@
 //! Requests and their answers, byte for byte.
 use crate::Act;
-
-/// A request of a connection, the text of its reply, and what the connection has to do.
-pub(crate) struct Row {
-    pub conn: u64,
-    pub request: &'static [u8],
-    pub reply: &'static [u8],
-    pub act: Act,
-}
+use crate::testing::Row;
 
 /// What fails several checks at once is refused by the first.
-pub(crate) const CHECKS: &[Row] = &[
+pub(crate) const CHECKS: &[Row<'static>] = &[
     Row {
         conn: 1,
         request: b"OPTIONS * RTSP/1.0\r\n\r\n",
@@ -140,7 +133,7 @@ pub(crate) const CHECKS: &[Row] = &[
 ];
 
 /// A camera publishes a mount with two tracks.
-pub(crate) const PUBLISHED: &[Row] = &[
+pub(crate) const PUBLISHED: &[Row<'static>] = &[
     Row {
         conn: 1,
         request: b"ANNOUNCE rtsp://h/cam RTSP/1.0\r\nCSeq: 1\r\nContent-Type: application/sdp\r\nContent-Length: 69\r\n\r\nv=0\r\nm=video 0 RTP/AVP 96\r\na=control:trackID=1\r\nm=audio 0 RTP/AVP 0\r\n",
@@ -300,7 +293,7 @@ pub(crate) const PUBLISHED: &[Row] = &[
 ];
 
 /// Two players share its only seat.
-pub(crate) const PLAYED: &[Row] = &[
+pub(crate) const PLAYED: &[Row<'static>] = &[
     Row {
         conn: 2,
         request: b"SETUP rtsp://h/cam/trackID=1 RTSP/1.0\r\nCSeq: 1\r\nTransport: RTP/AVP;unicast;client_port=5000-5001\r\n\r\n",
@@ -406,7 +399,7 @@ pub(crate) const PLAYED: &[Row] = &[
 ];
 
 /// The mount ends under its player, and another takes its name.
-pub(crate) const ENDED: &[Row] = &[
+pub(crate) const ENDED: &[Row<'static>] = &[
     Row {
         conn: 4,
         request: b"PLAY rtsp://h/cam/trackID=1 RTSP/1.0\r\nCSeq: 1\r\nSession: 0000000400000007\r\n\r\n",

@@ -32,13 +32,29 @@ mod naming;
 mod playing;
 mod playing_reply;
 mod refusal;
+#[cfg(test)]
+mod refusal_rows;
+#[cfg(test)]
+mod refusals_tests;
 mod replying;
+#[cfg(test)]
+mod scenes;
 mod session;
+#[cfg(test)]
+mod session_refusal_rows;
 mod sessions;
 mod setting_up;
 mod setting_up_reply;
 #[cfg(test)]
+mod setup_refusal_rows;
+#[cfg(test)]
+mod testing;
+#[cfg(test)]
 mod tests;
+#[cfg(test)]
+mod tracks_rows;
+#[cfg(test)]
+mod tracks_tests;
 mod world;
 
 pub use act::Act;

@@ -1,5 +1,5 @@
 //! What is refused where room or numbers are used up.
-use crate::decisions_tests::is_answered;
+use crate::testing::{Row, connects, is_answered};
 use crate::{Act, ConnectFault, World};
 use itoa::Buffer;
 use std::alloc::Global;
@@ -28,46 +28,70 @@ fn announces(
     world: &mut World,
     owner: u64,
     reply: &[u8],
-    act: &Act,
+    act: Act,
 ) -> Result<bool, Fail> {
     let text = announce(alloc, owner)?;
-    is_answered(alloc, world, owner, text.as_slice(), reply, act)
+    let row = Row {
+        conn: owner,
+        request: text.as_slice(),
+        reply,
+        act,
+    };
+    is_answered(alloc, world, &row)
 }
 
 #[test]
 fn no_more_mounts_live_than_may(rt: HostRuntime) -> Result<(), Fail> {
     let alloc = rt.alloc();
     let mut world = World::new(alloc, 1, RandomState::new(&rt)?);
-    for owner in 1..66 {
-        assert_eq!(rt; world.connect(), Ok(owner));
-    }
+    assert!(rt; connects(&mut world, 65));
     for owner in 1..65 {
         assert!(rt;
-            announces(alloc, &mut world, owner, OK, &Act::Open)?,
+            announces(alloc, &mut world, owner, OK, Act::Open)?,
             "mount {owner}"
         );
     }
-    assert!(rt; announces(alloc, &mut world, 65, UNAVAILABLE, &Act::None)?);
+    assert!(rt; announces(alloc, &mut world, 65, UNAVAILABLE, Act::None)?);
     assert_eq!(rt; world.hangup(7), Act::End);
-    assert!(rt; announces(alloc, &mut world, 65, OK, &Act::Open)?);
+    assert!(rt; announces(alloc, &mut world, 65, OK, Act::Open)?);
     Ok(())
 }
+
+const LAST: &[u8] =
+    b"RTSP/1.0 200 OK\r\nCSeq: 1\r\nSession: ffffffff00000007\r\nTransport: RTP/AVP/TCP;unicast;interleaved=0-1\r\n\r\n";
+
+/// The last number is given to connection 2, which sets up again once it has a session.
+const NUMBERS: &[Row<'static>] = &[
+    Row {
+        conn: 2,
+        request: SETUP,
+        reply: LAST,
+        act: Act::None,
+    },
+    Row {
+        conn: 1,
+        request: SETUP,
+        reply: UNAVAILABLE,
+        act: Act::None,
+    },
+    Row {
+        conn: 2,
+        request: b"SETUP rtsp://h/1 RTSP/1.0\r\nCSeq: 1\r\nSession: ffffffff00000007\r\nTransport: RTP/AVP/TCP\r\n\r\n",
+        reply: LAST,
+        act: Act::None,
+    },
+];
 
 #[test]
 fn no_session_begins_without_a_number(rt: HostRuntime) -> Result<(), Fail> {
     let alloc = rt.alloc();
     let mut world = World::new(alloc, 1, RandomState::new(&rt)?);
-    assert_eq!(rt; world.connect(), Ok(1));
-    assert_eq!(rt; world.connect(), Ok(2));
-    assert!(rt; announces(alloc, &mut world, 1, OK, &Act::Open)?);
+    assert!(rt; connects(&mut world, 2));
+    assert!(rt; announces(alloc, &mut world, 1, OK, Act::Open)?);
     world.begun = u32::MAX - 1;
-    let last: &[u8] =
-        b"RTSP/1.0 200 OK\r\nCSeq: 1\r\nSession: ffffffff00000007\r\nTransport: RTP/AVP/TCP;unicast;interleaved=0-1\r\n\r\n";
-    assert!(rt; is_answered(alloc, &mut world, 2, SETUP, last, &Act::None)?);
-    assert!(rt; is_answered(alloc, &mut world, 1, SETUP, UNAVAILABLE, &Act::None)?);
-    let again: &[u8] =
-        b"SETUP rtsp://h/1 RTSP/1.0\r\nCSeq: 1\r\nSession: ffffffff00000007\r\nTransport: RTP/AVP/TCP\r\n\r\n";
-    assert!(rt; is_answered(alloc, &mut world, 2, again, last, &Act::None)?);
+    for (i, row) in NUMBERS.iter().enumerate() {
+        assert!(rt; is_answered(alloc, &mut world, row)?, "row {i}");
+    }
     Ok(())
 }
 

@@ -88,9 +88,10 @@ impl World {
         Ok(number)
     }
 
-    /// Decides a request of an open connection: what it is answered, and what its connection has to do. Looks at the request,
-    /// at the connection's session and at the table of mounts, which has at most `MAX_MOUNTS`, and never at another connection's
-    /// session or at what has happened. The only error is want of memory, and then nothing has changed.
+    /// Decides a request of an open connection: what it is answered, and what its connection has to do. Looks at the request and
+    /// what is given beside it, at the connection's session, at the table of live mounts, which has at most `MAX_MOUNTS`, and at
+    /// two counts: of the sessions that have begun and of the mounts that were announced. At nothing else that has happened, and
+    /// never at another connection's session. The only error is want of memory, and then nothing has changed.
     pub fn decide(
         &mut self,
         alloc: Global,
