@@ -26,4 +26,6 @@ pub use receipts::Receipt;
 pub use subscribers::Subscriber;
 
 #[cfg(test)]
+mod ending_tests;
+#[cfg(test)]
 mod tests;

@@ -14,11 +14,11 @@ use std::thread;
 use std::thread::join;
 
 /// How many bytes the packets of these tests have at most.
-const ROOM: usize = 64;
+pub(crate) const ROOM: usize = 64;
 
 /// What a take answers, with the packet's bytes.
-fn took(tap: &mut impl Tap, buf: &mut [u8; ROOM]) -> Option<Taken> {
-    if tap.packet_bytes() <= ROOM {
+pub(crate) fn took(tap: &mut impl Tap, buf: &mut [u8]) -> Option<Taken> {
+    if tap.packet_bytes() <= buf.len() {
         Some(tap.take(buf))
     } else {
         None
@@ -26,7 +26,7 @@ fn took(tap: &mut impl Tap, buf: &mut [u8; ROOM]) -> Option<Taken> {
 }
 
 /// A packet of this number and length.
-fn packet(number: u64, len: usize) -> Option<Taken> {
+pub(crate) fn packet(number: u64, len: usize) -> Option<Taken> {
     Some(Taken::Packet {
         number,
         tag: 3,
@@ -35,12 +35,12 @@ fn packet(number: u64, len: usize) -> Option<Taken> {
 }
 
 /// The number that a publish of these bytes is answered.
-fn sent(publisher: &mut Publisher, bytes: &[u8]) -> Result<u64, Refused> {
+pub(crate) fn sent(publisher: &mut Publisher, bytes: &[u8]) -> Result<u64, Refused> {
     Feed::publish(publisher, 3, bytes)
 }
 
 /// A ring that keeps two packets, with one seat, which is attached.
-fn ring_of_one(alloc: Global) -> Option<(Publisher, Subscriber)>
+pub(crate) fn ring_of_one(alloc: Global) -> Option<(Publisher, Subscriber)>
     ensures { IfSome result (λ r. r.1.ring ≡ r.0.ring) }
 {
     let (publisher, mut passes) = new(alloc, 2, 1, ROOM).ok()?;
@@ -162,6 +162,28 @@ fn limits(rt: HostRuntime) -> Result<(), Fail> {
     Ok(())
 }
 
+/// Rings of the shortest and of the longest packets: a packet of just that many bytes comes out as it went in, and
+/// one byte more is refused.
+#[test]
+fn packet_limits(rt: HostRuntime) -> Result<(), Fail> {
+    for most in [1, 65_535] {
+        let (mut publisher, mut passes) = new(rt.alloc(), 2, 1, most)?;
+        let mut seat = passes.pop().ok_or("no pass")?.attach();
+        let mut bytes = Vec::new(rt.alloc());
+        for place in 0..most + 1 {
+            bytes.push((place % 251) as u8 + 1)?;
+        }
+        let full = bytes.get(..most).ok_or("short")?;
+        let mut buf = Vec::from_elem(rt.alloc(), 0u8, most)?;
+        assert!(rt; sent(&mut publisher, bytes.as_slice()) == Err(Refused::TooLong));
+        assert!(rt; sent(&mut publisher, full) == Ok(0));
+        assert!(rt; took(&mut seat, buf.as_mut_slice()) == packet(0, most));
+        assert!(rt; buf.as_slice() == full);
+        assert!(rt; took(&mut seat, buf.as_mut_slice()) == Some(Taken::Empty));
+    }
+    Ok(())
+}
+
 /// What a seat has for the rest, which takes nothing while many packets pass.
 #[test]
 fn idle_seat(rt: HostRuntime) -> Result<(), Fail> {
@@ -184,7 +206,7 @@ fn idle_seat(rt: HostRuntime) -> Result<(), Fail> {
 
 /// A publisher, a pass and a seat of one ring go in this order. Each is an owner of the block until it goes, and
 /// the last one frees it, once: its `Slots` and their `Lease` can be neither let go nor released twice.
-fn drop_in(order: usize, publisher: Publisher, pass: Pass, seat: Subscriber) -> bool {
+pub(crate) fn drop_in(order: usize, publisher: Publisher, pass: Pass, seat: Subscriber) -> bool {
     let all = Arc::strong_count(&publisher.ring) == 3;
     let last = match order {
         0 => {
