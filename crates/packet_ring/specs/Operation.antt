@@ -8,17 +8,16 @@ use Rattle.ring_steps.specs.declared.views.SeatPhase.TheVariants as seating
 use Rattle.ring_steps.specs.Atomic.{is_atomic}
 use Rattle.ring_steps.specs.Moves.{read_all, write_all}
 use Rattle.ring_steps.specs.Ring as Ring
-use Rattle.ring_steps.specs.RingSteps.{By, by_publisher, by_seat, by_look, RingStep}
+use Rattle.ring_steps.specs.RingSteps.{By, by_publisher, by_seat, RingStep}
 use Rattle.ring_steps.specs.Slots.{IsNextFor, PublisherIs, SeatIs}
 use Rattle.ring_steps.specs.Step.{Outcome}
 use Rattle.packet_ring.specs.Table.{State}
 use Rattle.packet_ring.specs.Rule.{Fits, Limits, View}
 
--- token 0 steps as the publisher, and token i + 1 as seat i
+-- token 0 steps as the publisher, and token i + 1 as seat i, each within a call
 abbrev pub IsOwn : (token : ℕ) → By → Type 0
 IsOwn Prim.Native.Nat.zero (by_publisher call) = Unit {0}
 IsOwn (Prim.Native.Nat.suc i) (by_seat j call) = j ≡ i
-IsOwn (Prim.Native.Nat.suc i) (by_look j) = j ≡ i
 IsOwn token by = ⊥
 
 -- The state that an operation steps from is that of the ring before it; but at a finish the publisher has written
