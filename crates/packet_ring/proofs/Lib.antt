@@ -24,3 +24,4 @@ pub mod Looks
 pub mod Seeing
 pub mod FirstPasses
 pub mod Holding
+pub mod Lines

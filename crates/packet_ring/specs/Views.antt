@@ -1,5 +1,5 @@
 -- What contracts see of a ring's publisher, receipts, passes and subscribers, and what holds of each.
-use Rattle.std.specs.Prelude.{◌≡◌, ℕ, ◌+◌, ◌-◌, ◌*◌, ◌^◌, ◌≤◌, Bool, false, List, [], ◌∷◌, map, length, take, if◌then◌else◌}
+use Rattle.std.specs.Prelude.{◌≡◌, ℕ, ◌+◌, ◌-◌, ◌*◌, ◌/◌, ◌^◌, ◌<◌, ◌≤◌, Bool, false, List, [], ◌∷◌, map, length, take, if◌then◌else◌}
 use Rattle.cursor.specs.declared.packets.Packet.{Packet}
 use Rattle.cursor.specs.declared.takes.Account.{Account}
 use Rattle.cursor.specs.Log.{packet_of}
@@ -9,7 +9,7 @@ use Rattle.ring_steps.specs.declared.views.PublisherPhase.TheVariants as publish
 use Rattle.ring_steps.specs.declared.views.SeatPhase.{SeatPhase}
 use Rattle.ring_steps.specs.declared.views.SeatPhase.TheVariants as seating
 use Rattle.packet_ring.specs.Table.{no_right}
-use Rattle.packet_ring.specs.Lent.{BlockId}
+use Rattle.packet_ring.specs.Lent.{BlockId, unit_at}
 use Rattle.packet_ring.specs.Steps.{HasSeen, IsPublisher, IsSeat, ends_at, log_of, publisher_of, seat_of}
 use Rattle.packet_ring.specs.declared.block.Token.{Token}
 
@@ -26,6 +26,11 @@ seats_of z = z.limits.0
 
 abbrev pub packet_bytes_of : RingId → ℕ
 packet_bytes_of z = z.limits.1 - 1
+
+-- no two of a ring's words, the head's and the slots', share a cache line of 64 bytes, at whatever address its memory
+-- begins
+abbrev pub HasOwnLines : RingId → Type 0
+HasOwnLines z = (address i j : ℕ) → i < j → (address + unit_at z i) / 64 < (address + unit_at z j) / 64
 
 -- a packet as the ring has it: its tag, and then its bytes
 abbrev pub packet_from : List ℕ → Packet
