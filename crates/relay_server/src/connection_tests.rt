@@ -21,6 +21,7 @@ use std::sync::atomic::{AtomicU64, Ordering};
 use std::sync::{Arc, Mutex, Wait};
 use std::test::Fail;
 use std::thread::Threads;
+use std::time::Clock;
 
 /// A connection that needs no hanging up.
 #[derive(Clone, Copy, Drop)]
@@ -29,7 +30,9 @@ struct Open;
 impl HangUp for Open {
     fn hang_up(&self) {}
 
-    fn close_writes(&self, _wait: u64) {}
+    fn close_writes(&self) {}
+
+    fn limit_waits(&self, _wait: u64) {}
 }
 
 /// Keeps what is written for whoever shares it, and takes so many bytes more.
@@ -84,6 +87,10 @@ impl Maker for Rings {
     fn detach(&self, out: Subscriber) -> (Pass, Left) {
         self.maker.detach(out)
     }
+
+    fn keep(&self) -> u64 {
+        self.maker.keep()
+    }
 }
 
 /// A connection that is to be served, the first of its book.
@@ -110,7 +117,7 @@ struct Served {
 /// Serves a connection over a ring of one seat that keeps four packets of at most 16 bytes.
 fn serve<R>(rt: R, alloc: Global, hasher: RandomState, peer: Peer) -> Result<Served, AllocError>
 where
-    R: Threads + Wait + Copy + Drop + Send + 'static,
+    R: Threads + Wait + Clock + Copy + Drop + Send + 'static,
 {
     let book = Arc::new(alloc, Mutex::new(Book::new(alloc, 1, hasher)))?;
     let _first = book.lock(&rt).connect();
@@ -120,7 +127,7 @@ where
         made: AtomicU64::new(0),
         refused: peer.refused,
     };
-    let shared = Shared::new(alloc, maker, theirs, OneWord, OpenGate, false)?;
+    let shared = Shared::new(alloc, maker, theirs, OneWord, OpenGate, None)?;
     let shared = Arc::new(alloc, shared)?;
     let fail_at = if peer.read_fails {
         Some(peer.said.len())
@@ -175,7 +182,7 @@ fn each_frame_of_a_connection_is_counted(rt: HostRuntime) -> Result<(), Fail> {
     let text = format!(in alloc; "{}", served.counts)?;
     assert!(rt;
         text.as_str()
-            == "published 1, pinned 0, oversize 1, bad RTP 1, strangers 3, unkept 0, sent 0, lost 0"
+            == "published 1, pinned 0, oversize 1, bad RTP 1, strangers 3, unkept 0, taken 0, lost 0"
     );
     // Its coming, four requests and its hang-up.
     assert!(rt; served.book.lock(&rt).kept() == 6);

@@ -18,9 +18,11 @@ pub struct Counts {
     pub strangers: u64,
     /// Those that the mount had no number or no memory for.
     pub unkept: u64,
-    /// The packets that were taken to be sent.
+    /// The packets that were taken from the ring to be sent; a connection that fails may leave some of them unwritten.
     pub taken: u64,
-    /// The packets that this player lost, since it was too far behind.
+    /// The packets that this player lost, since it was too far behind: those that a take told lost, and those that were
+    /// behind its cursor when it left its seat and that the ring kept no longer. What the ring still kept then is in no
+    /// count.
     pub lost: u64,
 }
 
@@ -56,10 +58,13 @@ impl Counts {
         self.strangers = self.strangers.saturating_add(1);
     }
 
-    /// Adds the account of a seat that was left.
-    pub(crate) fn add_out(&mut self, left: &Left) {
+    /// Adds the account of a seat that was left, of a ring that keeps so many packets.
+    pub(crate) fn add_out(&mut self, left: &Left, keep: u64) {
         self.taken = self.taken.saturating_add(left.taken);
-        self.lost = self.lost.saturating_add(left.lost);
+        self.lost = self
+            .lost
+            .saturating_add(left.lost)
+            .saturating_add(left.left.saturating_sub(keep));
     }
 
     /// Whether a packet of a mount was lost or refused. What players send on channels is nobody's loss.
@@ -72,7 +77,7 @@ impl fmt::Display for Counts {
     fn fmt<W: fmt::Write>(&self, f: &mut fmt::Formatter<W>) -> fmt::Result {
         write!(
             f,
-            "published {}, pinned {}, oversize {}, bad RTP {}, strangers {}, unkept {}, sent {}, lost {}",
+            "published {}, pinned {}, oversize {}, bad RTP {}, strangers {}, unkept {}, taken {}, lost {}",
             self.published,
             self.pinned,
             self.oversize,

@@ -1,4 +1,5 @@
 //! How connections end, and why one isn't served.
+use crate::frames::FrameEnd;
 use rtsp_message::Fault;
 use session_state::ConnectFault;
 use std::alloc::AllocError;
@@ -32,6 +33,21 @@ impl fmt::Display for ConnectionEnd {
             ConnectionEnd::OutOfMemory => write!(f, "out of memory"),
             ConnectionEnd::NoThread => write!(f, "no thread for its frames"),
         }
+    }
+}
+
+/// How a connection ended, from the ends of the thread that read it and of the one that sent its frames. `is_over` where
+/// the last packet of its mount was written and it was told the end for that: it has ended well then, however the peer
+/// left it.
+pub(crate) fn end_of(read: ConnectionEnd, sent: FrameEnd, is_over: bool) -> ConnectionEnd {
+    match (read, sent) {
+        (ConnectionEnd::StreamFault(_), _)
+        | (ConnectionEnd::OutOfMemory, _)
+        | (ConnectionEnd::NoThread, _) => read,
+        (_, FrameEnd::OutOfMemory) => ConnectionEnd::OutOfMemory,
+        _ if is_over => ConnectionEnd::Done,
+        (_, FrameEnd::WriteFailed) => ConnectionEnd::WriteFailed,
+        (_, FrameEnd::Stopped | FrameEnd::Ended) => read,
     }
 }
 

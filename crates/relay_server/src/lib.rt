@@ -3,6 +3,7 @@
 
 mod bell;
 mod board;
+mod closing;
 mod connection;
 #[cfg(test)]
 mod connection_tests;
@@ -18,6 +19,7 @@ mod loopback;
 mod maker;
 mod notice;
 mod options;
+mod phase;
 mod posting;
 #[cfg(test)]
 mod row_tests;
