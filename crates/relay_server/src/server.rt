@@ -25,7 +25,7 @@ use std::thread::Threads;
 use std::time::{Clock, Duration};
 
 /// What the threads of a server share whose mounts are rings.
-type RingShared<V, G> = Shared<RingMaker, V, G>;
+pub(crate) type RingShared<V, G> = Shared<RingMaker, V, G>;
 
 /// How long the server waits after it couldn't accept, in milliseconds, so that a lack of descriptors doesn't keep it
 /// busy.
@@ -64,6 +64,22 @@ where
         None
     };
     let shared = Shared::new(alloc, maker, book, words, gate, after_end)?;
+    serve_all(rt, alloc, listener, options, shared)
+}
+
+/// Serves connections over what they share, as `run_server` does.
+pub(crate) fn serve_all<R, V, G>(
+    rt: R,
+    alloc: Global,
+    listener: &TcpListener,
+    options: Options,
+    shared: RingShared<V, G>,
+) -> Result<(), AllocError>
+where
+    R: Threads + Wait + Clock + Log + Copy + Send + Sync + 'static,
+    V: Words + Drop + Send + 'static,
+    G: Gate + Drop + Send + Sync + 'static,
+{
     let shared = Arc::new(alloc, shared)?;
     let theirs = Arc::try_clone(&shared)?;
     let gather = Duration::from_millis(options.gather);
@@ -180,7 +196,7 @@ where
 
 /// A warning where a connection ended by a fault, a failed read or write, or for want of memory or a thread, and a line
 /// where packets were lost or refused.
-fn tell_end<R: Log>(rt: &R, peer: SocketAddr, end: ConnectionEnd, counts: &Counts) {
+pub(crate) fn tell_end<R: Log>(rt: &R, peer: SocketAddr, end: ConnectionEnd, counts: &Counts) {
     if end != ConnectionEnd::Done {
         warn!(rt; "{peer}: {end}");
     }
