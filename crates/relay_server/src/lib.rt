@@ -2,12 +2,16 @@
 #![tactic(auto)]
 
 mod bell;
+#[cfg(test)]
+mod beside_tests;
 mod board;
 mod closing;
 mod connection;
 #[cfg(test)]
 mod connection_tests;
 mod counts;
+#[cfg(test)]
+mod devices;
 mod ending;
 #[cfg(test)]
 mod ending_tests;
