@@ -6,7 +6,7 @@ mod told;
 
 use crate::closing::close_behind_text;
 use crate::counts::Counts;
-use crate::ending::{ConnectionEnd, end_of};
+use crate::ending::{ConnectionEnd, end_of, status_of};
 use crate::frames::{Frames, Hand};
 use crate::gate::Gate;
 use crate::line::Line;
@@ -17,7 +17,7 @@ use crate::socket::HangUp;
 use crate::words::Words;
 use interleaved::{Sink, Source};
 use publisher::InStop;
-use rtsp_message::{Fault, Intake, Request, Status};
+use rtsp_message::{Intake, Request, Status};
 use session_state::{Act, Method, read_method};
 use std::alloc::Global;
 use std::sync::{Arc, Wait};
@@ -194,11 +194,3 @@ const AFTER_TEXT: u64 = 200;
 
 /// How many reads may follow the last text.
 const LAST_READS: u32 = 8;
-
-/// What the fixed text behind a fault says.
-fn status_of(fault: Fault) -> Status {
-    match fault {
-        Fault::BadLine | Fault::BadHeader | Fault::BadLength => Status::BadRequest,
-        Fault::HeadTooLong | Fault::BodyTooLong => Status::RequestEntityTooLarge,
-    }
-}

@@ -1,4 +1,7 @@
 //! What became of the packets of a connection.
+ghost use Rattle.std.specs.Prelude.{◌≡◌, ◌<◌, ◌↔◌, IsTrue};
+ghost use Rattle.relay_server.specs.Counting.{losses, with_left, with_report, with_strangers};
+
 use cursor::Left;
 use publisher::InReport;
 use std::fmt;
@@ -41,7 +44,9 @@ impl Counts {
     }
 
     /// Adds what is told of frames that came in.
-    pub(crate) fn add_in(&mut self, report: &InReport) {
+    pub(crate) fn add_in(&mut self, report: &InReport)
+        ensures { self.new ≡ with_report self.old report.now }
+    {
         self.published = self.published.saturating_add(report.published);
         self.pinned = self.pinned.saturating_add(report.pinned);
         self.oversize = self.oversize.saturating_add(report.oversize);
@@ -54,12 +59,16 @@ impl Counts {
     }
 
     /// Adds a frame that came while nothing was recorded.
-    pub(crate) fn add_stranger(&mut self) {
+    pub(crate) fn add_stranger(&mut self)
+        ensures { self.new ≡ with_strangers self.old 1 }
+    {
         self.strangers = self.strangers.saturating_add(1);
     }
 
     /// Adds the account of a seat that was left, of a ring that keeps so many packets.
-    pub(crate) fn add_out(&mut self, left: &Left, keep: u64) {
+    pub(crate) fn add_out(&mut self, left: &Left, keep: u64)
+        ensures { self.new ≡ with_left self.old left.now keep }
+    {
         self.taken = self.taken.saturating_add(left.taken);
         self.lost = self
             .lost
@@ -68,7 +77,9 @@ impl Counts {
     }
 
     /// Whether a packet of a mount was lost or refused. What players send on channels is nobody's loss.
-    pub fn has_losses(&self) -> bool {
+    pub fn has_losses(&self) -> bool
+        ensures { IsTrue result ↔ (0 < losses self.now) }
+    {
         self.pinned > 0 || self.oversize > 0 || self.bad_rtp > 0 || self.unkept > 0 || self.lost > 0
     }
 }

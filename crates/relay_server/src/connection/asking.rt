@@ -91,15 +91,16 @@ where
         offer: Option<Vec<Seat<M::Pass>>>,
     ) -> Result<Answer<Seat<M::Pass>>, AllocError> {
         let given = Given { word, points };
-        let mut book = self.shared.book.lock(&self.rt);
-        let asked = book.ask(self.conn, request, &given, offer);
-        if asked.is_ok() {
-            self.session = book.session_of(self.conn).map(Told::of);
-        }
-        // What was offered may come back with a fault: not dropped under the lock.
-        drop(book);
+        let (asked, session) = {
+            let mut book = self.shared.book.lock(&self.rt);
+            let asked = book.ask(self.conn, request, &given, offer);
+            let session = book.session_of(self.conn).map(Told::of);
+            (asked, session)
+        };
+        self.session = session;
         match asked {
             Ok(answer) => Ok(answer),
+            // What was offered comes back with a fault, and isn't dropped under the book's lock.
             Err(_) => Err(AllocError),
         }
     }

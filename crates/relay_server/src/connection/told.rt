@@ -1,4 +1,7 @@
 //! What a connection knows of its session.
+ghost use Rattle.std.specs.Prelude.{◌≡◌, ◌↔◌, IsTrue};
+ghost use Rattle.session_state.specs.declared.session.State.TheVariants.{Recording};
+
 use session_state::{Session, State};
 use transport_header::TrackChannels;
 
@@ -11,7 +14,11 @@ pub(super) struct Told {
 }
 
 impl Told {
-    pub(super) fn of(session: &Session) -> Told {
+    pub(super) fn of(session: &Session) -> Told
+        ensures mount { result.mount ≡ session.now.mount }
+        ensures recording { IsTrue result.recording ↔ (session.now.state ≡ Recording) }
+        ensures channels { result.channels ≡ session.now.channels }
+    {
         Told {
             mount: session.mount,
             recording: session.state == State::Recording,
