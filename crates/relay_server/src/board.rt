@@ -5,6 +5,9 @@ use std::alloc::{AllocError, Global};
 use std::sync::{Arc, Mutex, Wait};
 use transport_header::Point;
 
+/// As many mounts may live at a time.
+const MOST_MOUNTS: usize = 64;
+
 /// A mount that is being recorded.
 #[derive(Drop)]
 struct Posted {
@@ -12,19 +15,21 @@ struct Posted {
     notice: Arc<Notice, Global>,
 }
 
-/// The mounts that are being recorded, at most 64, each with what tells of its packets.
+/// The mounts that are being recorded, each with what tells of its packets.
 ///
-/// Its lock is held for a walk over the mounts, and no other lock is taken meanwhile.
+/// Its lock is held for a walk over the mounts, and no other lock is taken meanwhile. The room for as many as may live is
+/// made beforehand.
 #[derive(Drop)]
 pub(crate) struct Board {
     mounts: Mutex<Vec<Posted>>,
 }
 
 impl Board {
-    pub(crate) fn new(alloc: Global) -> Board {
-        Board {
-            mounts: Mutex::new(Vec::new(alloc)),
-        }
+    pub(crate) fn new(alloc: Global) -> Result<Board, AllocError> {
+        let mounts = Vec::with_capacity(alloc, MOST_MOUNTS)?;
+        Ok(Board {
+            mounts: Mutex::new(mounts),
+        })
     }
 
     /// A mount is being recorded. Where memory is refused, its points aren't told and its players aren't woken by

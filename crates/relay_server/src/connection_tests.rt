@@ -1,90 +1,23 @@
 //! A connection over devices in memory.
 use crate::connection::run_connection;
 use crate::counts::Counts;
-use crate::ending::{ConnectionEnd, Refusal};
+use crate::devices::{Open, Rings, Written, joined};
+use crate::ending::ConnectionEnd;
 use crate::gate::OpenGate;
 use crate::line::Line;
 use crate::loopback::OneWord;
-use crate::maker::{Maker, RingMaker, Seat};
+use crate::maker::Seat;
 use crate::shared::{Shared, SharedBook};
-use crate::socket::HangUp;
-use cursor::Left;
 use interleaved::{ListSource, Writing};
-use packet_ring::{Pass, Publisher, Subscriber};
+use packet_ring::Pass;
 use rtsp_message::Fault;
 use session_lock::Book;
 use std::alloc::{AllocError, Global};
 use std::collections::hash_map::RandomState;
-use std::io;
-use std::io::Write;
-use std::sync::atomic::{AtomicU64, Ordering};
 use std::sync::{Arc, Mutex, Wait};
 use std::test::Fail;
 use std::thread::Threads;
-
-/// A connection that needs no hanging up.
-#[derive(Clone, Copy, Drop)]
-struct Open;
-
-impl HangUp for Open {
-    fn hang_up(&self) {}
-
-    fn close_writes(&self, _wait: u64) {}
-}
-
-/// Keeps what is written for whoever shares it, and takes so many bytes more.
-#[derive(Drop)]
-struct Written<R> {
-    rt: R,
-    bytes: Arc<Mutex<Vec<u8>>, Global>,
-    room: usize,
-}
-
-impl<R: Wait> Write for Written<R> {
-    fn write(&mut self, buf: &[u8]) -> io::Result<usize> {
-        let count = buf.len().min(self.room);
-        self.room -= count;
-        self.bytes.lock(&self.rt).extend_from_slice(&buf[..count])?;
-        Ok(count)
-    }
-
-    fn flush(&mut self) -> io::Result<()> {
-        Ok(())
-    }
-}
-
-/// Makes rings, of which one is refused memory.
-#[derive(Drop)]
-struct Rings {
-    maker: RingMaker,
-    made: AtomicU64,
-    /// Which one is refused, counted from 0.
-    refused: Option<u64>,
-}
-
-impl Maker for Rings {
-    type In = Publisher;
-
-    type Pass = Pass;
-
-    type Out = Subscriber;
-
-    fn make(&self, alloc: Global) -> Result<(Publisher, Vec<Pass>), AllocError> {
-        let place = self.made.fetch_add(1, Ordering::SeqCst);
-        if self.refused == Some(place) {
-            return Err(AllocError);
-        }
-        self.maker.make(alloc)
-    }
-
-    fn attach(&self, pass: Pass) -> Subscriber {
-        self.maker.attach(pass)
-    }
-
-    fn detach(&self, out: Subscriber) -> (Pass, Left) {
-        self.maker.detach(out)
-    }
-}
+use std::time::Clock;
 
 /// A connection that is to be served, the first of its book.
 #[derive(Drop)]
@@ -110,17 +43,13 @@ struct Served {
 /// Serves a connection over a ring of one seat that keeps four packets of at most 16 bytes.
 fn serve<R>(rt: R, alloc: Global, hasher: RandomState, peer: Peer) -> Result<Served, AllocError>
 where
-    R: Threads + Wait + Copy + Drop + Send + 'static,
+    R: Threads + Wait + Clock + Copy + Drop + Send + 'static,
 {
     let book = Arc::new(alloc, Mutex::new(Book::new(alloc, 1, hasher)))?;
     let _first = book.lock(&rt).connect();
     let theirs = Arc::try_clone(&book)?;
-    let maker = Rings {
-        maker: RingMaker::new(4, 1, 16),
-        made: AtomicU64::new(0),
-        refused: peer.refused,
-    };
-    let shared = Shared::new(alloc, maker, theirs, OneWord, OpenGate, false)?;
+    let maker = Rings::refusing(peer.refused);
+    let shared = Shared::new(alloc, maker, theirs, OneWord, OpenGate, None)?;
     let shared = Arc::new(alloc, shared)?;
     let fail_at = if peer.read_fails {
         Some(peer.said.len())
@@ -129,11 +58,7 @@ where
     };
     let source = ListSource::new(peer.said, 7, fail_at);
     let bytes = Arc::new(alloc, Mutex::new(Vec::new(alloc)))?;
-    let written = Written {
-        rt,
-        bytes: Arc::try_clone(&bytes)?,
-        room: peer.room,
-    };
+    let written = Written::new(rt, Arc::try_clone(&bytes)?, peer.room);
     let line = Line::new(alloc, Writing::new(written));
     let (end, counts) = run_connection(rt, alloc, shared, 1, source, line, Open);
     let written = Vec::from_slice(alloc, bytes.lock(&rt).as_slice())?;
@@ -172,36 +97,34 @@ fn each_frame_of_a_connection_is_counted(rt: HostRuntime) -> Result<(), Fail> {
         lost: 0,
     };
     assert!(rt; served.counts == want && served.counts.has_losses());
-    let text = format!(in alloc; "{}", served.counts)?;
-    assert!(rt;
-        text.as_str()
-            == "published 1, pinned 0, oversize 1, bad RTP 1, strangers 3, unkept 0, sent 0, lost 0"
-    );
     // Its coming, four requests and its hang-up.
     assert!(rt; served.book.lock(&rt).kept() == 6);
     Ok(())
 }
 
-const ANNOUNCE: &[u8] =
+pub(crate) const ANNOUNCE: &[u8] =
     b"ANNOUNCE rtsp://h/a RTSP/1.0\nCSeq: 1\nContent-Length: 26\n\nv=0\nm=audio 0 RTP/AVP 0  \n";
 
-const ANNOUNCED: &[u8] = b"RTSP/1.0 200 OK\r\nCSeq: 1\r\n\r\n";
+pub(crate) const ANNOUNCED: &[u8] = b"RTSP/1.0 200 OK\r\nCSeq: 1\r\n\r\n";
 
-const NO_RING: &[u8] = b"RTSP/1.0 503 Service Unavailable\r\nCSeq: 1\r\n\r\n";
+pub(crate) const NO_RING: &[u8] = b"RTSP/1.0 503 Service Unavailable\r\nCSeq: 1\r\n\r\n";
 
-const SETUP: &[u8] =
+pub(crate) const SETUP: &[u8] =
     b"SETUP rtsp://h/a/trackID=0 RTSP/1.0\nCSeq: 2\nTransport: RTP/AVP/TCP;interleaved=0-1;mode=record\n\n";
 
-const SET_UP: &[u8] =
+pub(crate) const SET_UP: &[u8] =
     b"RTSP/1.0 200 OK\r\nCSeq: 2\r\nSession: 000000010000abcd\r\nTransport: RTP/AVP/TCP;unicast;interleaved=0-1;mode=\"RECORD\"\r\n\r\n";
 
-const RECORD: &[u8] = b"RECORD rtsp://h/a RTSP/1.0\nCSeq: 3\nSession: 000000010000abcd\n\n";
+pub(crate) const RECORD: &[u8] =
+    b"RECORD rtsp://h/a RTSP/1.0\nCSeq: 3\nSession: 000000010000abcd\n\n";
 
-const PAUSE: &[u8] = b"PAUSE rtsp://h/a RTSP/1.0\nCSeq: 4\nSession: 000000010000abcd\n\n";
+pub(crate) const PAUSE: &[u8] =
+    b"PAUSE rtsp://h/a RTSP/1.0\nCSeq: 4\nSession: 000000010000abcd\n\n";
 
 const TEARDOWN: &[u8] = b"TEARDOWN rtsp://h/a RTSP/1.0\nCSeq: 3\nSession: 000000010000abcd\n\n";
 
-const IN_SESSION: &[u8] = b"RTSP/1.0 200 OK\r\nCSeq: 3\r\nSession: 000000010000abcd\r\n\r\n";
+pub(crate) const IN_SESSION: &[u8] =
+    b"RTSP/1.0 200 OK\r\nCSeq: 3\r\nSession: 000000010000abcd\r\n\r\n";
 
 /// A frame without data.
 const FRAME: &[u8] = b"$\x00\x00\x00";
@@ -309,14 +232,6 @@ const ROWS: [Row; 9] = [
     },
 ];
 
-fn joined(alloc: Global, parts: &[&[u8]]) -> Result<Vec<u8>, AllocError> {
-    let mut all = Vec::new(alloc);
-    for part in parts {
-        all.extend_from_slice(part)?;
-    }
-    Ok(all)
-}
-
 #[test]
 fn connections_end_as_their_peers_do(rt: HostRuntime) -> Result<(), Fail> {
     let alloc = rt.alloc();
@@ -341,19 +256,6 @@ fn connections_end_as_their_peers_do(rt: HostRuntime) -> Result<(), Fail> {
         assert!(rt; served.end == row.end, "row {place}: {}", served.end);
         assert!(rt; served.counts.strangers == row.strangers, "row {place}");
         assert!(rt; !served.book.lock(&rt).is_open(1), "row {place}");
-    }
-    Ok(())
-}
-
-#[test]
-fn refusals_say_why(rt: HostRuntime) -> Result<(), Fail> {
-    let alloc = rt.alloc();
-    for (refusal, text) in [
-        (Refusal::Full, "refused: too many connections"),
-        (Refusal::OutOfMemory, "refused: out of memory"),
-        (Refusal::NoThread, "refused: no thread"),
-    ] {
-        assert!(rt; format!(in alloc; "{refusal}")?.as_str() == text);
     }
     Ok(())
 }

@@ -1,4 +1,7 @@
 //! What became of the packets of a connection.
+ghost use Rattle.std.specs.Prelude.{◌≡◌, ◌<◌, ◌↔◌, IsTrue};
+ghost use Rattle.relay_server.specs.Counting.{losses, with_left, with_report, with_strangers};
+
 use cursor::Left;
 use publisher::InReport;
 use std::fmt;
@@ -18,9 +21,11 @@ pub struct Counts {
     pub strangers: u64,
     /// Those that the mount had no number or no memory for.
     pub unkept: u64,
-    /// The packets that were taken to be sent.
+    /// The packets that were taken from the ring to be sent; a connection that fails may leave some of them unwritten.
     pub taken: u64,
-    /// The packets that this player lost, since it was too far behind.
+    /// The packets that this player lost, since it was too far behind: those that a take told lost, and those that were
+    /// behind its cursor when it left its seat and that the ring kept no longer. What the ring still kept then is in no
+    /// count.
     pub lost: u64,
 }
 
@@ -39,7 +44,9 @@ impl Counts {
     }
 
     /// Adds what is told of frames that came in.
-    pub(crate) fn add_in(&mut self, report: &InReport) {
+    pub(crate) fn add_in(&mut self, report: &InReport)
+        ensures { self.new ≡ with_report self.old report.now }
+    {
         self.published = self.published.saturating_add(report.published);
         self.pinned = self.pinned.saturating_add(report.pinned);
         self.oversize = self.oversize.saturating_add(report.oversize);
@@ -52,18 +59,27 @@ impl Counts {
     }
 
     /// Adds a frame that came while nothing was recorded.
-    pub(crate) fn add_stranger(&mut self) {
+    pub(crate) fn add_stranger(&mut self)
+        ensures { self.new ≡ with_strangers self.old 1 }
+    {
         self.strangers = self.strangers.saturating_add(1);
     }
 
-    /// Adds the account of a seat that was left.
-    pub(crate) fn add_out(&mut self, left: &Left) {
+    /// Adds the account of a seat that was left, of a ring that keeps so many packets.
+    pub(crate) fn add_out(&mut self, left: &Left, keep: u64)
+        ensures { self.new ≡ with_left self.old left.now keep }
+    {
         self.taken = self.taken.saturating_add(left.taken);
-        self.lost = self.lost.saturating_add(left.lost);
+        self.lost = self
+            .lost
+            .saturating_add(left.lost)
+            .saturating_add(left.left.saturating_sub(keep));
     }
 
     /// Whether a packet of a mount was lost or refused. What players send on channels is nobody's loss.
-    pub fn has_losses(&self) -> bool {
+    pub fn has_losses(&self) -> bool
+        ensures { IsTrue result ↔ (0 < losses self.now) }
+    {
         self.pinned > 0 || self.oversize > 0 || self.bad_rtp > 0 || self.unkept > 0 || self.lost > 0
     }
 }
@@ -72,7 +88,7 @@ impl fmt::Display for Counts {
     fn fmt<W: fmt::Write>(&self, f: &mut fmt::Formatter<W>) -> fmt::Result {
         write!(
             f,
-            "published {}, pinned {}, oversize {}, bad RTP {}, strangers {}, unkept {}, sent {}, lost {}",
+            "published {}, pinned {}, oversize {}, bad RTP {}, strangers {}, unkept {}, taken {}, lost {}",
             self.published,
             self.pinned,
             self.oversize,

@@ -1,5 +1,9 @@
 //! How connections end, and why one isn't served.
-use rtsp_message::Fault;
+ghost use Rattle.std.specs.Prelude.{◌≡◌};
+ghost use Rattle.relay_server.specs.Endings.{end_of as connection_end, status_of as fault_status};
+
+use crate::frames::FrameEnd;
+use rtsp_message::{Fault, Status};
 use session_state::ConnectFault;
 use std::alloc::AllocError;
 use std::fmt;
@@ -32,6 +36,33 @@ impl fmt::Display for ConnectionEnd {
             ConnectionEnd::OutOfMemory => write!(f, "out of memory"),
             ConnectionEnd::NoThread => write!(f, "no thread for its frames"),
         }
+    }
+}
+
+/// How a connection ended, from the ends of the thread that read it and of the one that sent its frames. `is_over` where
+/// the last packet of its mount was written and it was told the end for that: it has ended well then, however the peer
+/// left it.
+pub(crate) fn end_of(read: ConnectionEnd, sent: FrameEnd, is_over: bool) -> ConnectionEnd
+    ensures { result ≡ connection_end read sent is_over }
+{
+    match (read, sent) {
+        (ConnectionEnd::StreamFault(_), _)
+        | (ConnectionEnd::OutOfMemory, _)
+        | (ConnectionEnd::NoThread, _) => read,
+        (_, FrameEnd::OutOfMemory) => ConnectionEnd::OutOfMemory,
+        _ if is_over => ConnectionEnd::Done,
+        (_, FrameEnd::WriteFailed) => ConnectionEnd::WriteFailed,
+        (_, FrameEnd::Stopped | FrameEnd::Ended) => read,
+    }
+}
+
+/// What the fixed text behind a fault says.
+pub(crate) fn status_of(fault: Fault) -> Status
+    ensures { result ≡ fault_status fault }
+{
+    match fault {
+        Fault::BadLine | Fault::BadHeader | Fault::BadLength => Status::BadRequest,
+        Fault::HeadTooLong | Fault::BodyTooLong => Status::RequestEntityTooLarge,
     }
 }
 

@@ -3,19 +3,17 @@ ghost use Rattle.std.specs.Prelude.{◌≤◌, length};
 
 use crate::line::Line;
 use crate::notice::Notice;
+use crate::phase::FramePhase;
 use crate::socket::HangUp;
 use cursor::Tap;
 use interleaved::Sink;
 use player::OutStop;
 use std::alloc::{AllocError, Global};
-use std::sync::atomic::{AtomicBool, Ordering};
 use std::sync::{Arc, Mutex, Wait};
 use std::thread;
 use std::thread::{JoinHandle, Threads};
+use std::time::{Clock, Duration};
 use transport_header::TrackChannels;
-
-/// How long a peer that was sent its last packet may say nothing before it is hung up, in milliseconds.
-const AFTER_END: u64 = 10_000;
 
 /// Why a frame thread ended.
 #[derive(Clone, Copy, Debug, PartialEq, Eq, Drop)]
@@ -34,8 +32,8 @@ pub(crate) enum FrameEnd {
 pub(crate) struct Hand<T, W: Sink, H> {
     pub(crate) line: Line<W>,
     pub(crate) wire: H,
+    pub(crate) phase: FramePhase,
     tap: Mutex<Option<T>>,
-    stop: AtomicBool,
 }
 
 impl<T: Tap + Drop, W: Sink + Drop, H: HangUp + Drop> Hand<T, W, H> {
@@ -43,14 +41,14 @@ impl<T: Tap + Drop, W: Sink + Drop, H: HangUp + Drop> Hand<T, W, H> {
         Hand {
             line,
             wire,
+            phase: FramePhase::new(),
             tap: Mutex::new(None),
-            stop: AtomicBool::new(false),
         }
     }
 
     /// Puts a tap in that a frame thread will take from.
     pub(crate) fn put(&self, rt: &impl Wait, tap: T) {
-        self.stop.store(false, Ordering::SeqCst);
+        self.phase.begin(rt);
         *self.tap.lock(rt) = Some(tap);
     }
 
@@ -59,34 +57,43 @@ impl<T: Tap + Drop, W: Sink + Drop, H: HangUp + Drop> Hand<T, W, H> {
         self.tap.lock(rt).take()
     }
 
-    /// Tells the frame thread to stop.
-    pub(crate) fn stop(&self) {
-        self.stop.store(true, Ordering::SeqCst);
-    }
-
-    /// Sends what the tap gives until it is told to stop, the mount has ended or the connection fails. Where it ends by
-    /// itself it hangs up, so that the thread that reads sees it; at the end of its mount only if that is asked for.
-    pub(crate) fn send(
+    /// Sends what the tap gives until it is told to stop, the mount has ended or the connection fails, and says how that
+    /// came.
+    pub(crate) fn send<R: Wait + Clock>(
         &self,
-        rt: &impl Wait,
+        rt: &R,
         alloc: Global,
         notice: &Notice,
         channels: &TrackChannels,
-        hang_up_ended: bool,
+        after_end: Option<Duration>,
     ) -> FrameEnd {
         let end = match &mut *self.tap.lock(rt) {
             Some(tap) => self.send_all(rt, alloc, tap, notice, channels),
             None => FrameEnd::Stopped,
         };
-        if self.stop.load(Ordering::SeqCst) {
-            return FrameEnd::Stopped;
-        }
-        match end {
-            FrameEnd::Ended if !hang_up_ended => {}
-            FrameEnd::Ended => self.wire.close_writes(AFTER_END),
-            _ => self.wire.hang_up(),
-        }
+        let end = if self.phase.is_running(rt) {
+            self.end_connection(rt, end, after_end);
+            end
+        } else {
+            FrameEnd::Stopped
+        };
+        self.phase.end(rt);
         end
+    }
+
+    /// Hangs up where the frames ended by themselves, so that the thread that reads sees it. At the end of the mount the
+    /// connection stays, or is told the end and hung up `after_end`; a stop ends that wait.
+    fn end_connection<R: Wait + Clock>(&self, rt: &R, end: FrameEnd, after_end: Option<Duration>) {
+        if end == FrameEnd::Ended {
+            let Some(most) = after_end else {
+                return;
+            };
+            self.wire.close_writes();
+            if self.phase.wait_for_stop(rt, most) {
+                return;
+            }
+        }
+        self.wire.hang_up();
     }
 
     fn send_all(
@@ -116,7 +123,7 @@ impl<T: Tap + Drop, W: Sink + Drop, H: HangUp + Drop> Hand<T, W, H> {
         for _ in rt.forever() {
             // Read before the tap is looked at, so that no wake is missed.
             let wakes = notice.wakes();
-            if self.stop.load(Ordering::SeqCst) {
+            if !self.phase.is_running(rt) {
                 return FrameEnd::Stopped;
             }
             match self.line.relay(rt, tap, channels, buf) {
@@ -157,10 +164,10 @@ impl Frames {
         alloc: Global,
         hand: &Arc<Hand<T, W, H>, Global>,
         channels: TrackChannels,
-        hang_up_ended: bool,
+        after_end: Option<Duration>,
     ) -> Result<(), AllocError>
     where
-        R: Threads + Wait + Copy + Send + 'static,
+        R: Threads + Wait + Clock + Copy + Send + 'static,
         T: Tap + Drop + Send + 'static,
         W: Sink + Drop + Send + 'static,
         H: HangUp + Drop + Send + Sync + 'static,
@@ -168,10 +175,15 @@ impl Frames {
         let hand = Arc::try_clone(hand)?;
         let notice = Arc::try_clone(&self.notice)?;
         let thread = thread::spawn(&rt, move || {
-            hand.send(&rt, alloc, &notice, &channels, hang_up_ended)
+            hand.send(&rt, alloc, &notice, &channels, after_end)
         })?;
         self.thread = Some(thread);
         Ok(())
+    }
+
+    /// Whether a thread was started that isn't joined.
+    pub(crate) fn has_thread(&self) -> bool {
+        self.thread.is_some()
     }
 
     /// The number of the mount, the seat and what tells of its packets.

@@ -2,30 +2,44 @@
 #![tactic(auto)]
 
 mod bell;
+#[cfg(test)]
+mod beside_tests;
 mod board;
+mod closing;
 mod connection;
 #[cfg(test)]
 mod connection_tests;
 mod counts;
+#[cfg(test)]
+mod devices;
 mod ending;
 #[cfg(test)]
 mod ending_tests;
 mod frames;
 mod gate;
+#[cfg(test)]
+mod leaving_tests;
 mod line;
 #[cfg(test)]
 mod loopback;
 mod maker;
+#[cfg(test)]
+mod mounts_tests;
 mod notice;
 mod options;
+mod phase;
 mod posting;
 #[cfg(test)]
 mod row_tests;
+#[cfg(test)]
+mod scripted;
 mod server;
 mod shared;
 mod socket;
 #[cfg(test)]
 mod tests;
+#[cfg(test)]
+mod text_tests;
 mod words;
 
 pub use connection::run_connection;

@@ -2,8 +2,8 @@
 use crate::gate::Gate;
 use crate::maker::{Maker, RingMaker, Seat};
 use crate::options::Options;
-use crate::server::run_server;
-use crate::shared::SharedBook;
+use crate::server::{run_server, serve_all};
+use crate::shared::{Shared, SharedBook};
 use crate::words::Words;
 use log::Log;
 use packet_ring::Pass;
@@ -160,6 +160,8 @@ pub(crate) struct Set {
     pub(crate) accept: u64,
     pub(crate) seats: usize,
     pub(crate) hang_up_ended: bool,
+    /// In place of what `hang_up_ended` says: for so many milliseconds players may stay behind their mount's end.
+    pub(crate) after_end: Option<u64>,
     /// The milliseconds for which packets gather.
     pub(crate) gather: u64,
 }
@@ -171,6 +173,7 @@ impl Set {
             accept,
             seats,
             hang_up_ended: false,
+            after_end: None,
             gather: 1,
         }
     }
@@ -203,8 +206,14 @@ where
         hang_up_ended: set.hang_up_ended,
     };
     let maker = RingMaker::new(512, seats, 16_384);
-    let thread = thread::spawn(&rt, move || {
-        run_server(rt, alloc, &listener, options, maker, theirs, OneWord, gate)
+    let after_end = set.after_end;
+    let thread = thread::spawn(&rt, move || match after_end {
+        None => run_server(rt, alloc, &listener, options, maker, theirs, OneWord, gate),
+        Some(_) => {
+            let after_end = after_end.map(Duration::from_millis);
+            let shared = Shared::new(alloc, maker, theirs, OneWord, gate, after_end)?;
+            serve_all(rt, alloc, &listener, options, shared)
+        }
     })
     .map_err(|_| AllocError)?;
     Ok(Running { addr, book, thread })

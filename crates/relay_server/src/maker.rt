@@ -23,6 +23,9 @@ pub trait Maker {
 
     /// Detaches it again.
     fn detach(&self, out: Self::Out) -> (Self::Pass, Left);
+
+    /// How many packets are kept for a player that is behind.
+    fn keep(&self) -> u64;
 }
 
 /// Makes rings.
@@ -68,6 +71,10 @@ impl Maker for RingMaker {
 
     fn detach(&self, out: Subscriber) -> (Pass, Left) {
         out.detach()
+    }
+
+    fn keep(&self) -> u64 {
+        self.keep as u64
     }
 }
 

@@ -11,7 +11,7 @@ use transport_header::{MOST_TRACKS, Point};
 /// What the publisher of a mount and its players share beside the ring: where each track stands, and the word that
 /// players sleep on while there is nothing to take.
 ///
-/// Any thread of the server may use it. Its lock is held for a look at the points or a change of one.
+/// Any thread of the server may use it. Its lock is held for a copy of the points or a change of one.
 #[derive(Drop)]
 pub struct Notice {
     points: Mutex<[Option<Point>; MOST_TRACKS]>,
@@ -44,7 +44,7 @@ impl Notice {
         rt: &impl Wait,
         alloc: Global,
     ) -> Result<Items<Option<Point>>, AllocError> {
-        let points = self.points.lock(rt);
+        let points = *self.points.lock(rt);
         Ok(Items::new(Vec::from_slice(alloc, points.as_slice())?))
     }
 

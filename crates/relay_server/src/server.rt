@@ -1,5 +1,6 @@
 //! The listening thread, and the threads of connections.
 use crate::bell::wake_players;
+use crate::closing::close_behind_text;
 use crate::connection::run_connection;
 use crate::counts::Counts;
 use crate::ending::{ConnectionEnd, Refusal};
@@ -24,15 +25,24 @@ use std::thread::Threads;
 use std::time::{Clock, Duration};
 
 /// What the threads of a server share whose mounts are rings.
-type RingShared<V, G> = Shared<RingMaker, V, G>;
+pub(crate) type RingShared<V, G> = Shared<RingMaker, V, G>;
 
 /// How long the server waits after it couldn't accept, in milliseconds, so that a lack of descriptors doesn't keep it
 /// busy.
 const AFTER_NO_ACCEPT: u64 = 100;
 
+/// How long a player may stay whose mount has ended, where it is to be hung up, in milliseconds.
+const AFTER_END: u64 = 10_000;
+
+/// How often a peer is read that is refused, and for how many milliseconds each time, so that it reads why. None is
+/// accepted meanwhile.
+const REFUSED_READS: u32 = 4;
+
+const REFUSED_WAIT: u64 = 25;
+
 /// Serves connections of a listener: each is read by a thread of its own. Returns once as many as `options.accept` says
 /// were accepted and have ended, else never; or with an error where memory or a thread is wanting for what all
-/// connections share.
+/// connections share. The book and the maker are of one number of seats; where they aren't, each ANNOUNCE is answered 503.
 pub fn run_server<R, V, G>(
     rt: R,
     alloc: Global,
@@ -48,7 +58,28 @@ where
     V: Words + Drop + Send + 'static,
     G: Gate + Drop + Send + Sync + 'static,
 {
-    let shared = Shared::new(alloc, maker, book, words, gate, options.hang_up_ended)?;
+    let after_end = if options.hang_up_ended {
+        Some(Duration::from_millis(AFTER_END))
+    } else {
+        None
+    };
+    let shared = Shared::new(alloc, maker, book, words, gate, after_end)?;
+    serve_all(rt, alloc, listener, options, shared)
+}
+
+/// Serves connections over what they share, as `run_server` does.
+pub(crate) fn serve_all<R, V, G>(
+    rt: R,
+    alloc: Global,
+    listener: &TcpListener,
+    options: Options,
+    shared: RingShared<V, G>,
+) -> Result<(), AllocError>
+where
+    R: Threads + Wait + Clock + Log + Copy + Send + Sync + 'static,
+    V: Words + Drop + Send + 'static,
+    G: Gate + Drop + Send + Sync + 'static,
+{
     let shared = Arc::new(alloc, shared)?;
     let theirs = Arc::try_clone(&shared)?;
     let gather = Duration::from_millis(options.gather);
@@ -165,7 +196,7 @@ where
 
 /// A warning where a connection ended by a fault, a failed read or write, or for want of memory or a thread, and a line
 /// where packets were lost or refused.
-fn tell_end<R: Log>(rt: &R, peer: SocketAddr, end: ConnectionEnd, counts: &Counts) {
+pub(crate) fn tell_end<R: Log>(rt: &R, peer: SocketAddr, end: ConnectionEnd, counts: &Counts) {
     if end != ConnectionEnd::Done {
         warn!(rt; "{peer}: {end}");
     }
@@ -192,10 +223,17 @@ fn wait_for_all<V, G>(rt: &impl Wait, shared: &RingShared<V, G>) {
     }
 }
 
-/// Tells a connection that can't be served so, and warns of it. It is closed with the socket.
+/// Tells a connection that can't be served so, and warns of it. It is closed with the socket, once the peer had a moment to
+/// read the text.
 fn refuse<R: Log>(rt: &R, peer: SocketAddr, why: Refusal, stream: &TcpStream) {
     let mut text = [0; 128];
     let len = put_plain(&mut text, Status::ServiceUnavailable, None);
     let _ = write_all(&mut Writing::new(stream), &text[..len]);
+    close_behind_text(
+        stream,
+        &mut Reading::new(stream),
+        REFUSED_READS,
+        REFUSED_WAIT,
+    );
     warn!(rt; "{peer}: {why}");
 }

@@ -6,6 +6,7 @@ use session_lock::Book;
 use std::alloc::{AllocError, Global};
 use std::sync::atomic::AtomicU64;
 use std::sync::{Arc, Mutex};
+use std::time::Duration;
 
 /// A book that threads share. Each call of it is made whole under its lock, and no other lock is taken meanwhile.
 pub type SharedBook<P> = Arc<Mutex<Book<P>>, Global>;
@@ -21,20 +22,25 @@ pub struct Shared<M: Maker, V, G> {
     pub(crate) gate: G,
     pub(crate) board: Board,
     pub(crate) bell: Arc<Bell, Global>,
-    /// Whether a player's connection is shut down once the last packet of its mount was written.
-    pub(crate) hang_up_ended: bool,
+    /// For how long a player's connection may stay once the last packet of its mount was written. `None` for good.
+    pub(crate) after_end: Option<Duration>,
     /// How many connections have a thread.
     pub(crate) live: AtomicU64,
 }
 
 impl<M: Maker + Drop, V: Drop, G: Drop> Shared<M, V, G> {
+    /// The book and the maker are of one number of seats: where they aren't, no offer is what the book asks for, and each
+    /// ANNOUNCE is answered 503.
+    ///
+    /// With `after_end` a player is told the end of its stream once the last packet of its mount was written, and is hung
+    /// up if it is still there so long after that.
     pub fn new(
         alloc: Global,
         maker: M,
         book: SharedBook<Seat<M::Pass>>,
         words: V,
         gate: G,
-        hang_up_ended: bool,
+        after_end: Option<Duration>,
     ) -> Result<Shared<M, V, G>, AllocError> {
         let bell = Arc::new(alloc, Bell::new())?;
         Ok(Shared {
@@ -43,9 +49,9 @@ impl<M: Maker + Drop, V: Drop, G: Drop> Shared<M, V, G> {
             making: Mutex::new(()),
             words: Mutex::new(words),
             gate,
-            board: Board::new(alloc),
+            board: Board::new(alloc)?,
             bell,
-            hang_up_ended,
+            after_end,
             live: AtomicU64::new(0),
         })
     }

@@ -6,13 +6,33 @@ use std::net::{Shutdown, TcpStream};
 use std::sync::Arc;
 use std::time::Duration;
 
-/// What a connection runs over can be ended from any thread: a read or a write that waits returns then.
+/// What a connection runs over can be ended from any thread.
 pub trait HangUp {
+    /// Ends both ways: a read or a write that waits returns.
     fn hang_up(&self);
 
-    /// Nothing more is written, and a read ends when the peer says nothing for so many milliseconds. So the peer can read
-    /// what was written last before the connection is closed.
-    fn close_writes(&self, wait: u64);
+    /// Nothing more is written: the peer reads what was written, and then the end. A write that waits returns.
+    fn close_writes(&self);
+
+    /// A read or a write that begins from now on fails where it has waited for so many milliseconds, at least 1.
+    fn limit_waits(&self, wait: u64);
+}
+
+impl HangUp for TcpStream {
+    fn hang_up(&self) {
+        // A socket that the peer has closed is shut down already.
+        let _ = self.shutdown(Shutdown::Both);
+    }
+
+    fn close_writes(&self) {
+        let _ = self.shutdown(Shutdown::Write);
+    }
+
+    fn limit_waits(&self, wait: u64) {
+        let wait = Some(Duration::from_millis(wait));
+        let _ = self.set_read_timeout(wait);
+        let _ = self.set_write_timeout(wait);
+    }
 }
 
 /// One of several owners of a socket, which is closed with the last of them.
@@ -49,13 +69,14 @@ impl Write for Socket {
 
 impl HangUp for Socket {
     fn hang_up(&self) {
-        // A socket that the peer has closed is shut down already.
-        let _ = self.stream.shutdown(Shutdown::Both);
+        self.stream.hang_up();
     }
 
-    fn close_writes(&self, wait: u64) {
-        let wait = Duration::from_millis(wait);
-        let _ = self.stream.set_read_timeout(Some(wait));
-        let _ = self.stream.shutdown(Shutdown::Write);
+    fn close_writes(&self) {
+        self.stream.close_writes();
+    }
+
+    fn limit_waits(&self, wait: u64) {
+        self.stream.limit_waits(wait);
     }
 }

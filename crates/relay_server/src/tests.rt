@@ -1,46 +1,13 @@
 //! Connections over loopback.
 use crate::gate::{Gate, OpenGate};
-use crate::loopback::{ANNOUNCE, Client, OPTIONS, Set, start, status};
-use std::alloc::{AllocError, Global};
-use std::net::{Net, SocketAddr, TcpStream};
+use crate::loopback::{Client, OPTIONS, Set, start, status};
+use crate::scripted::{FRAME, SETUP_OUT, asking, numbered, play, player, publisher};
+use std::alloc::Global;
 use std::sync::Arc;
 use std::sync::atomic::{AtomicBool, Ordering};
 use std::test::Fail;
 use std::time::{Clock, Duration};
 use std::{io, thread};
-
-const SETUP_IN: &[u8] =
-    b"SETUP rtsp://127.0.0.1:8554/cam/streamid=0 RTSP/1.0\r\nCSeq: 3\r\nTransport: RTP/AVP/TCP;unicast;interleaved=0-1;mode=record\r\n\r\n";
-
-const RECORD: &[u8] =
-    b"RECORD rtsp://127.0.0.1:8554/cam RTSP/1.0\r\nCSeq: 4\r\nSession: 000000010000abcd\r\n\r\n";
-
-const SETUP_OUT: &[u8] =
-    b"SETUP rtsp://127.0.0.1:8554/cam/trackID=0 RTSP/1.0\r\nCSeq: 3\r\nTransport: RTP/AVP/TCP;unicast;interleaved=4-5\r\n\r\n";
-
-/// An RTP packet with number 7 and timestamp 9,000, as a frame on channel 0.
-const FRAME: &[u8] = b"\x24\x00\x00\x0c\x80\x60\x00\x07\x00\x00\x23\x28\x00\x00\x00\x00";
-
-/// A client that has announced `cam` and records into it.
-fn publisher<R: Net<Stream = TcpStream>>(
-    rt: &R,
-    alloc: Global,
-    addr: SocketAddr,
-) -> io::Result<Client> {
-    let mut client = Client::connect(rt, alloc, addr)?;
-    for request in [ANNOUNCE.as_bytes(), SETUP_IN, RECORD] {
-        client.ask(request)?;
-    }
-    Ok(client)
-}
-
-/// A PLAY in the session of this number, below ten.
-fn play(number: u8) -> [u8; 79] {
-    let mut text =
-        *b"PLAY rtsp://127.0.0.1:8554/cam RTSP/1.0\r\nCSeq: 4\r\nSession: 000000010000abcd\r\n\r\n";
-    text[66] = b'0'.wrapping_add(number);
-    text
-}
 
 #[test]
 fn a_frame_comes_out_where_it_was_set_up(rt: HostRuntime) -> Result<(), Fail> {
@@ -129,34 +96,6 @@ fn connections_are_served_side_by_side(rt: HostRuntime) -> Result<(), Fail> {
     let _book = server.end(&rt)?;
     assert!(rt; !gave_up.load(Ordering::SeqCst));
     Ok(())
-}
-
-/// A request in the session of this number, below ten.
-fn asking(alloc: Global, method: &str, number: u8) -> Result<String, AllocError> {
-    format!(in alloc;
-        "{method} rtsp://127.0.0.1:8554/cam RTSP/1.0\r\nCSeq: 7\r\nSession: 0000000{number}0000abcd\r\n\r\n"
-    )
-}
-
-/// A client that plays `cam` in the session of this number, which is the next one.
-fn player<R: Net<Stream = TcpStream>>(
-    rt: &R,
-    alloc: Global,
-    addr: SocketAddr,
-    number: u8,
-) -> io::Result<Client> {
-    let mut client = Client::connect(rt, alloc, addr)?;
-    client.ask(SETUP_OUT)?;
-    client.ask(&play(number))?;
-    Ok(client)
-}
-
-/// An RTP packet of 6,000 bytes with this number, as a frame on channel 0.
-fn numbered(alloc: Global, number: u16) -> Result<Vec<u8>, AllocError> {
-    let mut frame = Vec::from_elem(alloc, 0, 6004)?;
-    frame[..6].copy_from_slice(b"\x24\x00\x17\x70\x80\x60");
-    frame[6..8].copy_from_slice(&number.to_be_bytes());
-    Ok(frame)
 }
 
 /// The number in a packet's frame.

@@ -1,0 +1,33 @@
+-- How a connection ends.
+use Rattle.std.specs.Prelude.{Bool, true, false}
+use Rattle.rtsp_message.specs.declared.fault.Fault.{Fault}
+use Rattle.rtsp_message.specs.declared.fault.Fault.TheVariants as faults
+use Rattle.rtsp_message.specs.declared.status.Status.{Status}
+use Rattle.rtsp_message.specs.declared.status.Status.TheVariants as statuses
+use Rattle.relay_server.specs.declared.ending.ConnectionEnd.{ConnectionEnd}
+use Rattle.relay_server.specs.declared.ending.ConnectionEnd.TheVariants as ends
+use Rattle.relay_server.specs.declared.frames.FrameEnd.{FrameEnd}
+use Rattle.relay_server.specs.declared.frames.FrameEnd.TheVariants as frames
+
+-- What is told where nothing stands above the end of the frames: a failed write of theirs, else the reader's own end. Where
+-- the peer was told the end of its stream, all is well.
+abbrev pub told_end : ConnectionEnd → FrameEnd → (is_over : Bool) → ConnectionEnd
+told_end read frames.OutOfMemory is_over = ends.OutOfMemory
+told_end read sent true = ends.Done
+told_end read frames.WriteFailed false = ends.WriteFailed
+told_end read sent false = read
+
+-- How a connection ended. A fault of its stream, want of memory and want of a thread are told whatever became of its frames.
+abbrev pub end_of : ConnectionEnd → FrameEnd → (is_over : Bool) → ConnectionEnd
+end_of (ends.StreamFault fault) sent is_over = ends.StreamFault fault
+end_of ends.OutOfMemory sent is_over = ends.OutOfMemory
+end_of ends.NoThread sent is_over = ends.NoThread
+end_of read sent is_over = told_end read sent is_over
+
+-- the status of the fixed text behind a fault (RFC 2326, 7.1.1): a head or a body that is too long, else a bad request
+abbrev pub status_of : Fault → Status
+status_of faults.HeadTooLong = statuses.RequestEntityTooLarge
+status_of faults.BodyTooLong = statuses.RequestEntityTooLarge
+status_of faults.BadLine = statuses.BadRequest
+status_of faults.BadHeader = statuses.BadRequest
+status_of faults.BadLength = statuses.BadRequest

@@ -1,0 +1,3 @@
+pub mod Counting
+pub mod Endings
+pub mod Incoming

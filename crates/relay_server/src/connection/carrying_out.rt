@@ -1,0 +1,165 @@
+//! What is done for an answer, and how it is written.
+use super::Connection;
+use crate::ending::ConnectionEnd;
+use crate::frames::{FrameEnd, Frames};
+use crate::gate::Gate;
+use crate::maker::{Maker, Seat};
+use crate::posting::Posting;
+use crate::socket::HangUp;
+use crate::words::Words;
+use interleaved::Sink;
+use rtsp_message::{Reply, Status, put_reply};
+use session_lock::Answer;
+use session_state::Act;
+use std::alloc::AllocError;
+use std::sync::{Arc, Wait};
+use std::thread::Threads;
+use std::time::{Clock, Duration};
+
+impl<R, M, V, G, W, H> Connection<R, M, V, G, W, H>
+where
+    R: Threads + Wait + Clock + Copy + Send + 'static,
+    M: Maker + Drop,
+    M::Out: 'static,
+    V: Words + Drop,
+    G: Gate + Drop,
+    W: Sink + Drop + Send + 'static,
+    H: HangUp + Drop + Send + Sync + 'static,
+{
+    /// Does what an answer asks for, and writes its reply. Frames come behind the reply of their PLAY, and have stopped
+    /// before the reply of a PAUSE or TEARDOWN.
+    pub(super) fn carry_out(
+        &mut self,
+        answer: Answer<Seat<M::Pass>>,
+        feed: Option<Posting<R, M::In>>,
+    ) -> Result<(), ConnectionEnd> {
+        let Answer {
+            reply,
+            act,
+            pass,
+            back: _,
+        } = answer;
+        match act {
+            Act::None => {}
+            Act::Open => self.publishing = feed,
+            Act::Record => self.record(),
+            Act::Play { mount, seat } => {
+                self.attach(mount, seat, pass);
+            }
+            Act::Stop { .. } => {
+                if self.detach() == FrameEnd::OutOfMemory {
+                    // The thread has hung up: no reply can be written any more.
+                    return Err(ConnectionEnd::OutOfMemory);
+                }
+            }
+            Act::End => self.end_mount(),
+        }
+        self.write_reply(&reply)?;
+        match act {
+            Act::Play { .. } => self.start_frames(),
+            _ => Ok(()),
+        }
+    }
+
+    /// The board knows of the mount from its first RECORD on.
+    fn record(&mut self) {
+        let (Some(feed), Some(session)) = (&mut self.publishing, &self.session) else {
+            return;
+        };
+        if !feed.posted {
+            let added = self
+                .shared
+                .board
+                .add(&self.rt, session.mount, feed.notice());
+            feed.posted = added.is_ok();
+            self.mount = Some(session.mount);
+        }
+    }
+
+    fn attach(&mut self, mount: u64, seat: usize, pass: Option<Seat<M::Pass>>) {
+        let Some(Seat { pass, notice }) = pass else {
+            return;
+        };
+        self.is_over = false;
+        self.hand.put(&self.rt, self.shared.maker.attach(pass));
+        self.frames = Some(Frames::new(mount, seat, notice));
+    }
+
+    fn start_frames(&mut self) -> Result<(), ConnectionEnd> {
+        let (Some(frames), Some(session)) = (&mut self.frames, &self.session) else {
+            return Ok(());
+        };
+        let channels = session.channels.copy();
+        let after_end = self.shared.after_end;
+        match frames.start(self.rt, self.alloc, &self.hand, channels, after_end) {
+            Ok(()) => Ok(()),
+            Err(_) => Err(ConnectionEnd::NoThread),
+        }
+    }
+
+    /// Tells the frames to stop, and hangs the connection up where they haven't within so long: then the peer reads nothing.
+    pub(super) fn stop_frames(&self, most: Duration) {
+        let Some(frames) = &self.frames else {
+            return;
+        };
+        self.hand.phase.stop(&self.rt);
+        frames.notice.wake();
+        if frames.has_thread() && !self.hand.phase.wait_for_end(&self.rt, most) {
+            self.hand.wire.hang_up();
+        }
+    }
+
+    /// Stops the frames, detaches and gives the seat back. Says how the frames ended.
+    pub(super) fn detach(&mut self) -> FrameEnd {
+        let Some(mut frames) = self.frames.take() else {
+            return FrameEnd::Stopped;
+        };
+        self.hand.phase.stop(&self.rt);
+        frames.notice.wake();
+        let end = frames.join(&self.rt);
+        self.is_over = end == FrameEnd::Ended && self.shared.after_end.is_some();
+        if let Some(tap) = self.hand.take(&self.rt) {
+            let (pass, left) = self.shared.maker.detach(tap);
+            self.counts.add_out(&left, self.shared.maker.keep());
+            let (mount, seat, notice) = frames.into_seat();
+            let mut book = self.shared.book.lock(&self.rt);
+            let returned = book.give_back(mount, seat, Seat { pass, notice });
+            // The pass comes back where the mount has ended, and its ring may go with it: not under the lock.
+            drop(book);
+            drop(returned);
+        }
+        end
+    }
+
+    /// The mount has ended: no packet comes any more.
+    pub(super) fn end_mount(&mut self) {
+        if let Some(feed) = self.publishing.take() {
+            feed.end();
+        }
+        if let Some(mount) = self.mount.take() {
+            self.shared.board.remove(&self.rt, mount);
+        }
+    }
+
+    fn write_reply(&self, reply: &Reply) -> Result<(), ConnectionEnd> {
+        let mut text = Vec::new(self.alloc);
+        match put_reply(&mut text, reply) {
+            Ok(()) => match self.hand.line.write(&self.rt, text.as_slice()) {
+                Ok(()) => Ok(()),
+                Err(_) => Err(ConnectionEnd::WriteFailed),
+            },
+            Err(_) => self.write_plain(Status::ServiceUnavailable, reply.cseq),
+        }
+    }
+
+    pub(super) fn write_plain(
+        &self,
+        status: Status,
+        cseq: Option<u32>,
+    ) -> Result<(), ConnectionEnd> {
+        match self.hand.line.write_plain(&self.rt, status, cseq) {
+            Ok(()) => Ok(()),
+            Err(_) => Err(ConnectionEnd::WriteFailed),
+        }
+    }
+}
