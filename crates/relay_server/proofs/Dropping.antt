@@ -1,5 +1,5 @@
 -- The frames that come before a message, and are dropped.
-use Rattle.std.proofs.Common.{◌≡◌, ℕ, ◌+◌, ◌-◌, ◌^◌, ◌<◌, ◌∙◌, List, [], ◌∷◌, ◌++◌, Option, refl, sym, ap, subst, arith, length, length-append}
+use Rattle.std.proofs.Common.{◌≡◌, ℕ, ◌+◌, ◌-◌, ◌^◌, ◌∙◌, List, [], ◌∷◌, ◌++◌, Option, refl, sym, ap, subst, arith, length, length-append}
 use Prim.Native.Nat.{min}
 use Rattle.interleaved.specs.declared.frame.Frame.{Frame}
 use Rattle.rtsp_message.specs.declared.unit.Unit.{Unit as StreamUnit}
@@ -22,24 +22,12 @@ capped_twice count frames = omega arith
 strangers_twice : (before : Counts) (frames : ℕ) → with_strangers (with_strangers before frames) 1 ≡ with_strangers before (frames + 1)
 strangers_twice before frames = ap (λ (s : ℕ). record before { strangers = s }) (capped_twice before.strangers frames)
 
-no_strangers : (before : Counts) → before.strangers < 2 ^ 64 → before ≡ with_strangers before 0
-no_strangers before fits =
-    let same : before.strangers ≡ min (before.strangers + 0) (2 ^ 64 - 1) = omega arith in
-    ap (λ (s : ℕ). record before { strangers = s }) same
-
 module _ {S : Type 0} (incoming : S → Option (List ℕ)) where
   -- Frames were handed out and counted as strangers: what comes then comes behind them.
   pub record Drops (old now : IntakeState S) (before after : Counts) : Type 0 where
     pub frames : List Frame
     pub then : (new : IntakeState S) (us : List StreamUnit) → HandsOut incoming now new us → HandsOut incoming old new (units_of frames ++ us)
     pub counted : after ≡ with_strangers before (length frames)
-
-  pub drops_nothing : (old : IntakeState S) (counts : Counts) → counts.strangers < 2 ^ 64 → Drops old old counts counts
-  drops_nothing old counts fits = record {
-    frames = [];
-    then = λ new us out. out;
-    counted = no_strangers counts fits;
-  }
 
   pub drops_more : (old now next : IntakeState S) (before mid after : Counts) (frame : Frame) → Drops old now before mid → HandsOut incoming now next (content.Frame frame ∷ []) → after ≡ with_strangers mid 1 → Drops old next before after
   drops_more old now next before mid after frame p out adds = record {
