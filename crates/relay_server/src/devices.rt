@@ -108,22 +108,34 @@ pub(crate) struct Staged<R> {
     pub(crate) given: usize,
 }
 
+impl<R: Clock> Staged<R> {
+    /// Waits until the second part may be given.
+    fn wait(&self) {
+        for _ in 0..10_000u32 {
+            if self.let_on.load(Ordering::SeqCst) {
+                return;
+            }
+            thread::sleep(&self.rt, Duration::from_millis(1));
+        }
+    }
+
+    /// What isn't given yet of the part that it stands in.
+    fn rest(&self) -> &[u8] {
+        let first = self.first.as_slice();
+        if self.given < first.len() {
+            &first[self.given..]
+        } else {
+            self.then.get(self.given - first.len()..).unwrap_or(b"")
+        }
+    }
+}
+
 impl<R: Clock> Read for Staged<R> {
     fn read(&mut self, buf: &mut [u8]) -> io::Result<usize> {
-        let first = self.first.as_slice();
-        let rest = match first.get(self.given..) {
-            Some(rest) if !rest.is_empty() => rest,
-            _ => {
-                for _ in 0..10_000u32 {
-                    if self.let_on.load(Ordering::SeqCst) {
-                        break;
-                    }
-                    thread::sleep(&self.rt, Duration::from_millis(1));
-                }
-                let given = self.given.saturating_sub(first.len());
-                self.then.get(given..).unwrap_or(b"")
-            }
-        };
+        if self.given >= self.first.len() {
+            self.wait();
+        }
+        let rest = self.rest();
         let count = rest.len().min(buf.len());
         buf[..count].copy_from_slice(&rest[..count]);
         self.given = self.given.saturating_add(count);
