@@ -12,7 +12,7 @@ pub(crate) fn close_behind_text<S: Source, H: HangUp>(
 ) {
     wire.limit_waits(wait);
     wire.close_writes();
-    let mut buf = [0; 4096];
+    let mut buf = [0; 16_384];
     for _ in 0..reads {
         match source.read(&mut buf) {
             Ok(count) if count > 0 => {}

@@ -33,7 +33,7 @@ pub(crate) struct Connection<R, M: Maker, V, G, W: Sink, H> {
     shared: Arc<Shared<M, V, G>, Global>,
     hand: Arc<Hand<M::Out, W, H>, Global>,
     conn: u64,
-    /// How many calls of the book were made.
+    /// How many requests have passed the gate.
     turns: u64,
     /// The session as the last answer left it.
     session: Option<Told>,
@@ -193,4 +193,4 @@ where
 const AFTER_TEXT: u64 = 200;
 
 /// How many reads may follow the last text.
-const LAST_READS: u32 = 8;
+const LAST_READS: u32 = 16;

@@ -21,9 +21,10 @@ pub struct Counts {
     pub strangers: u64,
     /// Those that the mount had no number or no memory for.
     pub unkept: u64,
-    /// The packets that were taken from the ring to be sent; a connection that fails may leave some of them unwritten.
+    /// The packets that were taken from the ring, of tracks that the player set up or not; of a write that fails up to
+    /// sixteen of them go nowhere.
     pub taken: u64,
-    /// The packets that this player lost, since it was too far behind: those that a take told lost, and those that were
+    /// The packets of any track that this player lost, since it was too far behind: those that a take told lost, and those that were
     /// behind its cursor when it left its seat and that the ring kept no longer. What the ring still kept then is in no
     /// count.
     pub lost: u64,

@@ -49,6 +49,40 @@ impl<R: Wait> Write for Written<R> {
     }
 }
 
+/// Keeps what is written for whoever shares it. Behind so many bytes it takes nothing until it is let on, for which it
+/// waits at most 10,000 turns of a millisecond.
+#[derive(Drop)]
+pub(crate) struct Held<R> {
+    pub(crate) rt: R,
+    pub(crate) bytes: Arc<Mutex<Vec<u8>>, Global>,
+    pub(crate) free: usize,
+    pub(crate) let_on: Arc<AtomicBool, Global>,
+}
+
+impl<R: Wait + Clock> Write for Held<R> {
+    fn write(&mut self, buf: &[u8]) -> io::Result<usize> {
+        if self.bytes.lock(&self.rt).len() >= self.free {
+            wait_for(&self.rt, &self.let_on);
+        }
+        self.bytes.lock(&self.rt).extend_from_slice(buf)?;
+        Ok(buf.len())
+    }
+
+    fn flush(&mut self) -> io::Result<()> {
+        Ok(())
+    }
+}
+
+/// Waits until a word is set, for at most 10,000 turns of a millisecond.
+pub(crate) fn wait_for<R: Clock>(rt: &R, word: &AtomicBool) {
+    for _ in 0..10_000u32 {
+        if word.load(Ordering::SeqCst) {
+            return;
+        }
+        thread::sleep(rt, Duration::from_millis(1));
+    }
+}
+
 /// Makes rings, of which one is refused memory.
 #[derive(Drop)]
 pub(crate) struct Rings {
@@ -108,17 +142,7 @@ pub(crate) struct Staged<R> {
     pub(crate) given: usize,
 }
 
-impl<R: Clock> Staged<R> {
-    /// Waits until the second part may be given.
-    fn wait(&self) {
-        for _ in 0..10_000u32 {
-            if self.let_on.load(Ordering::SeqCst) {
-                return;
-            }
-            thread::sleep(&self.rt, Duration::from_millis(1));
-        }
-    }
-
+impl<R> Staged<R> {
     /// What isn't given yet of the part that it stands in.
     fn rest(&self) -> &[u8] {
         let first = self.first.as_slice();
@@ -133,7 +157,7 @@ impl<R: Clock> Staged<R> {
 impl<R: Clock> Read for Staged<R> {
     fn read(&mut self, buf: &mut [u8]) -> io::Result<usize> {
         if self.given >= self.first.len() {
-            self.wait();
+            wait_for(&self.rt, &self.let_on);
         }
         let rest = self.rest();
         let count = rest.len().min(buf.len());

@@ -2,17 +2,18 @@
 ghost use Rattle.std.specs.Prelude.{◌≤◌, length};
 
 use crate::line::Line;
+use crate::maker::Leave;
 use crate::notice::Notice;
 use crate::phase::FramePhase;
 use crate::socket::HangUp;
-use cursor::Tap;
+use cursor::{Left, Tap};
 use interleaved::Sink;
 use player::OutStop;
 use std::alloc::{AllocError, Global};
 use std::sync::{Arc, Mutex, Wait};
-use std::thread;
 use std::thread::{JoinHandle, Threads};
 use std::time::{Clock, Duration};
+use std::{mem, thread};
 use transport_header::TrackChannels;
 
 /// Why a frame thread ended.
@@ -26,35 +27,56 @@ pub(crate) enum FrameEnd {
     OutOfMemory,
 }
 
-/// What a frame thread has of its connection. The thread holds the tap's lock as long as it runs; the thread that
-/// reads takes the tap out when it has joined it.
+/// Where a connection's tap is.
+#[derive(Drop)]
+pub(crate) enum TapPlace<T> {
+    Nowhere,
+    /// A frame thread takes from it.
+    Attached(T),
+    /// Its mount has ended, and it was left with this account, so that nothing is kept of the mount's packets for a
+    /// player that stays.
+    Left(Left),
+}
+
+/// What a frame thread has of its connection. The thread holds the tap's lock as long as it takes from it; the thread
+/// that reads takes the tap out when it has joined it.
 #[derive(Drop)]
 pub(crate) struct Hand<T, W: Sink, H> {
     pub(crate) line: Line<W>,
     pub(crate) wire: H,
     pub(crate) phase: FramePhase,
-    tap: Mutex<Option<T>>,
+    tap: Mutex<TapPlace<T>>,
 }
 
-impl<T: Tap + Drop, W: Sink + Drop, H: HangUp + Drop> Hand<T, W, H> {
+impl<T: Tap + Leave + Drop, W: Sink + Drop, H: HangUp + Drop> Hand<T, W, H> {
     pub(crate) fn new(line: Line<W>, wire: H) -> Hand<T, W, H> {
         Hand {
             line,
             wire,
             phase: FramePhase::new(),
-            tap: Mutex::new(None),
+            tap: Mutex::new(TapPlace::Nowhere),
         }
     }
 
     /// Puts a tap in that a frame thread will take from.
     pub(crate) fn put(&self, rt: &impl Wait, tap: T) {
         self.phase.begin(rt);
-        *self.tap.lock(rt) = Some(tap);
+        *self.tap.lock(rt) = TapPlace::Attached(tap);
     }
 
     /// Takes the tap out. No frame thread runs.
-    pub(crate) fn take(&self, rt: &impl Wait) -> Option<T> {
-        self.tap.lock(rt).take()
+    pub(crate) fn take(&self, rt: &impl Wait) -> TapPlace<T> {
+        mem::replace(&mut *self.tap.lock(rt), TapPlace::Nowhere)
+    }
+
+    /// Leaves the tap where its mount has ended.
+    fn leave(&self, rt: &impl Wait) {
+        let mut place = self.tap.lock(rt);
+        let left = match mem::replace(&mut *place, TapPlace::Nowhere) {
+            TapPlace::Attached(tap) => TapPlace::Left(tap.leave_for_good()),
+            other => other,
+        };
+        *place = left;
     }
 
     /// Sends what the tap gives until it is told to stop, the mount has ended or the connection fails, and says how that
@@ -68,9 +90,12 @@ impl<T: Tap + Drop, W: Sink + Drop, H: HangUp + Drop> Hand<T, W, H> {
         after_end: Option<Duration>,
     ) -> FrameEnd {
         let end = match &mut *self.tap.lock(rt) {
-            Some(tap) => self.send_all(rt, alloc, tap, notice, channels),
-            None => FrameEnd::Stopped,
+            TapPlace::Attached(tap) => self.send_all(rt, alloc, tap, notice, channels),
+            _ => FrameEnd::Stopped,
         };
+        if end == FrameEnd::Ended {
+            self.leave(rt);
+        }
         let end = if self.phase.is_running(rt) {
             self.end_connection(rt, end, after_end);
             end
@@ -168,7 +193,7 @@ impl Frames {
     ) -> Result<(), AllocError>
     where
         R: Threads + Wait + Clock + Copy + Send + 'static,
-        T: Tap + Drop + Send + 'static,
+        T: Tap + Leave + Drop + Send + 'static,
         W: Sink + Drop + Send + 'static,
         H: HangUp + Drop + Send + Sync + 'static,
     {

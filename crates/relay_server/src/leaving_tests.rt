@@ -2,6 +2,8 @@
 use crate::gate::OpenGate;
 use crate::loopback::{Client, OPTIONS, Set, start, status};
 use crate::scripted::{FRAME, SETUP_OUT, asking, numbered, play, player, publisher};
+use std::alloc::Global;
+use std::net::{Net, SocketAddr, TcpStream};
 use std::test::Fail;
 use std::time::{Clock, Duration};
 use std::{io, thread};
@@ -141,25 +143,85 @@ fn a_player_may_stay_behind_the_end(rt: HostRuntime) -> Result<(), Fail> {
 /// How many packets of 6,000 bytes are published to a player that reads nothing: more than a system's buffers mostly hold.
 const STALLING: u16 = 2_000;
 
-/// A player that reads nothing keeps its seat until it sends what is no request.
-#[test]
-fn a_stalled_player_that_sends_a_fault_is_freed(rt: HostRuntime) -> Result<(), Fail> {
-    let alloc = rt.alloc();
-    let server = start(rt, alloc, Set::of(3, 1), OpenGate)?;
-    let mut camera = publisher(&rt, alloc, server.addr)?;
-    let mut stalled = player(&rt, alloc, server.addr, 2)?;
-    let mut second = Client::connect(&rt, alloc, server.addr)?;
+/// A camera, a player that reads nothing and has the only seat, and another player that has set up.
+#[derive(Drop)]
+struct Stalled {
+    camera: Client,
+    first: Client,
+    second: Client,
+}
+
+/// The first player has stopped reading amid what the camera published.
+fn stalled<R: Net<Stream = TcpStream>>(
+    rt: &R,
+    alloc: Global,
+    addr: SocketAddr,
+) -> io::Result<Stalled> {
+    let mut camera = publisher(rt, alloc, addr)?;
+    let first = player(rt, alloc, addr, 2)?;
+    let mut second = Client::connect(rt, alloc, addr)?;
     second.ask(SETUP_OUT)?;
     for number in 0..STALLING {
         camera.say(numbered(alloc, number)?.as_slice())?;
     }
-    assert!(rt; status(camera.ask(OPTIONS)?.as_slice()) == 200);
-    assert!(rt; status(second.ask(&play(3))?.as_slice()) == 453);
-    stalled.say(b"HELLO\r\n")?;
-    assert!(rt; plays_at_last(&rt, &mut second, 3)? == 200);
+    // The server has read them all.
+    camera.ask(OPTIONS)?;
+    Ok(Stalled {
+        camera,
+        first,
+        second,
+    })
+}
+
+/// Whether the second player has the seat, as soon as it is free, and didn't have it before the first one said this.
+fn is_freed<R: Clock>(rt: &R, peers: &mut Stalled, said: Option<&[u8]>) -> io::Result<bool> {
+    if status(peers.second.ask(&play(3))?.as_slice()) != 453 {
+        return Ok(false);
+    }
+    match said {
+        Some(bytes) => peers.first.say(bytes)?,
+        None => peers.first.fall_silent()?,
+    }
+    Ok(plays_at_last(rt, &mut peers.second, 3)? == 200)
+}
+
+#[test]
+fn a_stalled_player_that_sends_a_fault_is_freed(rt: HostRuntime) -> Result<(), Fail> {
+    let alloc = rt.alloc();
+    let server = start(rt, alloc, Set::of(3, 1), OpenGate)?;
+    let mut peers = stalled(&rt, alloc, server.addr)?;
+    assert!(rt; is_freed(&rt, &mut peers, Some(b"HELLO\r\n"))?);
+    let Stalled {
+        camera,
+        first,
+        second,
+    } = peers;
     drop((camera, second));
     let _book = server.end(&rt)?;
-    drop(stalled);
+    drop(first);
+    Ok(())
+}
+
+#[test]
+fn a_stalled_player_that_falls_silent_is_freed(rt: HostRuntime) -> Result<(), Fail> {
+    let alloc = rt.alloc();
+    let server = start(rt, alloc, Set::of(3, 1), OpenGate)?;
+    let mut peers = stalled(&rt, alloc, server.addr)?;
+    assert!(rt; is_freed(&rt, &mut peers, None)?);
+    drop(peers);
+    let _book = server.end(&rt)?;
+    Ok(())
+}
+
+#[test]
+fn a_stalled_player_that_tears_down_is_freed(rt: HostRuntime) -> Result<(), Fail> {
+    let alloc = rt.alloc();
+    let server = start(rt, alloc, Set::of(3, 1), OpenGate)?;
+    let mut peers = stalled(&rt, alloc, server.addr)?;
+    let said = asking(alloc, "TEARDOWN", 2)?;
+    assert!(rt; is_freed(&rt, &mut peers, Some(said.as_bytes()))?);
+    drop(peers);
+    let _book = server.end(&rt)?;
     Ok(())
 }
 

@@ -1,6 +1,8 @@
 //! The server: connections over sockets, the threads that read and play, and what they share.
 #![tactic(auto)]
 
+#[cfg(test)]
+mod account_tests;
 mod bell;
 #[cfg(test)]
 mod beside_tests;

@@ -7,13 +7,26 @@ use packet_ring::{Pass, Publisher, Subscriber};
 use std::alloc::{AllocError, Global};
 use std::sync::Arc;
 
+/// A tap that can be left for good: nobody takes its seat again.
+pub trait Leave {
+    /// Leaves the seat, with its account. What the tap was a part of may go with it.
+    fn leave_for_good(self) -> Left;
+}
+
+impl Leave for Subscriber {
+    fn leave_for_good(self) -> Left {
+        let (_pass, left) = self.detach();
+        left
+    }
+}
+
 /// Makes what the packets of a mount go through, from its publisher to its players.
 pub trait Maker {
     type In: Feed + Drop + Send;
 
     type Pass: Drop + Send;
 
-    type Out: Tap + Drop + Send;
+    type Out: Tap + Leave + Drop + Send;
 
     /// A feed, and a pass for each seat.
     fn make(&self, alloc: Global) -> Result<(Self::In, Vec<Self::Pass>), AllocError>;

@@ -1,7 +1,7 @@
 //! What is done for an answer, and how it is written.
 use super::Connection;
 use crate::ending::ConnectionEnd;
-use crate::frames::{FrameEnd, Frames};
+use crate::frames::{FrameEnd, Frames, TapPlace};
 use crate::gate::Gate;
 use crate::maker::{Maker, Seat};
 use crate::posting::Posting;
@@ -47,6 +47,7 @@ where
                 self.attach(mount, seat, pass);
             }
             Act::Stop { .. } => {
+                self.stop_frames(Duration::from_millis(STALLED));
                 if self.detach() == FrameEnd::OutOfMemory {
                     // The thread has hung up: no reply can be written any more.
                     return Err(ConnectionEnd::OutOfMemory);
@@ -118,15 +119,20 @@ where
         frames.notice.wake();
         let end = frames.join(&self.rt);
         self.is_over = end == FrameEnd::Ended && self.shared.after_end.is_some();
-        if let Some(tap) = self.hand.take(&self.rt) {
-            let (pass, left) = self.shared.maker.detach(tap);
-            self.counts.add_out(&left, self.shared.maker.keep());
-            let (mount, seat, notice) = frames.into_seat();
-            let mut book = self.shared.book.lock(&self.rt);
-            let returned = book.give_back(mount, seat, Seat { pass, notice });
-            // The pass comes back where the mount has ended, and its ring may go with it: not under the lock.
-            drop(book);
-            drop(returned);
+        match self.hand.take(&self.rt) {
+            TapPlace::Attached(tap) => {
+                let (pass, left) = self.shared.maker.detach(tap);
+                self.counts.add_out(&left, self.shared.maker.keep());
+                let (mount, seat, notice) = frames.into_seat();
+                let mut book = self.shared.book.lock(&self.rt);
+                let returned = book.give_back(mount, seat, Seat { pass, notice });
+                // The pass comes back where the mount has ended, and its ring may go with it: not under the lock.
+                drop(book);
+                drop(returned);
+            }
+            // The mount has ended: its seats are nobody's any more.
+            TapPlace::Left(left) => self.counts.add_out(&left, self.shared.maker.keep()),
+            TapPlace::Nowhere => {}
         }
         end
     }
@@ -163,3 +169,7 @@ where
         }
     }
 }
+
+/// How long the frames of a player that pauses or leaves may take to end, in milliseconds. Then it reads nothing, and is
+/// hung up, so that its seat is free.
+const STALLED: u64 = 2_000;
