@@ -134,11 +134,9 @@ fn a_slow_players_account_adds_up(rt: HostRuntime) -> Result<(), Fail> {
     let maker = Rings::refusing(None);
     let shared = Shared::new(alloc, maker, book, CountedWords(0), OpenGate, None)?;
     let shared = Arc::new(alloc, shared)?;
-    let [publish, read, leave] = [
-        Arc::new(alloc, AtomicBool::new(false))?,
-        Arc::new(alloc, AtomicBool::new(false))?,
-        Arc::new(alloc, AtomicBool::new(false))?,
-    ];
+    let publish = Arc::new(alloc, AtomicBool::new(false))?;
+    let read = Arc::new(alloc, AtomicBool::new(false))?;
+    let leave = Arc::new(alloc, AtomicBool::new(false))?;
     let told = Arc::new(alloc, Mutex::new(Vec::new(alloc)))?;
     let sink = Written::new(rt, Arc::try_clone(&told)?, 1000);
     let line = Line::new(alloc, Writing::new(sink));

@@ -152,7 +152,7 @@ struct Stalled {
 }
 
 /// The first player has stopped reading amid what the camera published.
-fn stalled<R: Net<Stream = TcpStream>>(
+fn stalled_peers<R: Net<Stream = TcpStream>>(
     rt: &R,
     alloc: Global,
     addr: SocketAddr,
@@ -189,7 +189,7 @@ fn is_freed<R: Clock>(rt: &R, peers: &mut Stalled, said: Option<&[u8]>) -> io::R
 fn a_stalled_player_that_sends_a_fault_is_freed(rt: HostRuntime) -> Result<(), Fail> {
     let alloc = rt.alloc();
     let server = start(rt, alloc, Set::of(3, 1), OpenGate)?;
-    let mut peers = stalled(&rt, alloc, server.addr)?;
+    let mut peers = stalled_peers(&rt, alloc, server.addr)?;
     assert!(rt; is_freed(&rt, &mut peers, Some(b"HELLO\r\n"))?);
     let Stalled {
         camera,
@@ -206,7 +206,7 @@ fn a_stalled_player_that_sends_a_fault_is_freed(rt: HostRuntime) -> Result<(), F
 fn a_stalled_player_that_falls_silent_is_freed(rt: HostRuntime) -> Result<(), Fail> {
     let alloc = rt.alloc();
     let server = start(rt, alloc, Set::of(3, 1), OpenGate)?;
-    let mut peers = stalled(&rt, alloc, server.addr)?;
+    let mut peers = stalled_peers(&rt, alloc, server.addr)?;
     assert!(rt; is_freed(&rt, &mut peers, None)?);
     drop(peers);
     let _book = server.end(&rt)?;
@@ -217,7 +217,7 @@ fn a_stalled_player_that_falls_silent_is_freed(rt: HostRuntime) -> Result<(), Fa
 fn a_stalled_player_that_tears_down_is_freed(rt: HostRuntime) -> Result<(), Fail> {
     let alloc = rt.alloc();
     let server = start(rt, alloc, Set::of(3, 1), OpenGate)?;
-    let mut peers = stalled(&rt, alloc, server.addr)?;
+    let mut peers = stalled_peers(&rt, alloc, server.addr)?;
     let said = asking(alloc, "TEARDOWN", 2)?;
     assert!(rt; is_freed(&rt, &mut peers, Some(said.as_bytes()))?);
     drop(peers);
