@@ -141,7 +141,7 @@ struct Row {
     strangers: u64,
 }
 
-const ROWS: [Row; 9] = [
+const ROWS: [Row; 10] = [
     // Frames before any SETUP, and the end in the middle of one.
     Row {
         said: &[FRAME, FRAME, FRAME, b"$\x00\x00\x0c\x80\x60"],
@@ -216,6 +216,16 @@ const ROWS: [Row; 9] = [
         read_fails: false,
         answered: &[ANNOUNCED, SET_UP],
         write_fails: true,
+        refused: None,
+        end: ConnectionEnd::Done,
+        strangers: 0,
+    },
+    // A failed read behind a TEARDOWN's reply is an end like any other.
+    Row {
+        said: &[ANNOUNCE, SETUP, TEARDOWN],
+        read_fails: true,
+        answered: &[ANNOUNCED, SET_UP, IN_SESSION],
+        write_fails: false,
         refused: None,
         end: ConnectionEnd::Done,
         strangers: 0,
