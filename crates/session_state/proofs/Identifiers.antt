@@ -82,6 +82,9 @@ begun_at n conn history moment is counted =
     let one : sessions_begun (moment.entry ∷ moment.before) ≡ suc (sessions_begun moment.before) = ap (λ b. cond b (suc (sessions_begun moment.before)) (sessions_begun moment.before)) is.begins_it in
     record { cut = is.cut; rises = omega (arith, one); counted = counted }
 
+same_moment : (one two : Moment) → one.entry ≡ two.entry → one.before ≡ two.before → one ≡ two
+same_moment one two entry before = ap (λ e. record { entry = e; before = one.before }) entry ∙ ap (λ b. record { entry = two.entry; before = b }) before
+
 -- who set up is told by the entry
 same_conn : (entry : Entry) (conn other : ℕ) → accepts_from conn is_setup entry ≡ true → accepts_from other is_setup entry ≡ true → conn ≡ other
 same_conn entry conn other one two = by (accepted entry) one two
@@ -95,9 +98,17 @@ same_conn entry conn other one two = by (accepted entry) one two
     by None one two = absurd (cc)
     by (Some found) one two = sym (eqb-true found.0 conn (left (found.0 == conn) (is_setup found.1) one)) ∙ eqb-true found.0 other (left (found.0 == other) (is_setup found.1) two)
 
-pub one_session : (seats conn other : ℕ) (history : History) (session second : Session) → IsSession seats conn history session → IsSession seats other history second → session.number ≡ second.number → conn ≡ other
-one_session seats conn other history session second a b same =
-    let mine = is_beginning conn history a.begin a.first in
-    let theirs = is_beginning other history b.begin b.first in
-    let moment = one_rise sessions_begun begun_more session.number history mine.later theirs.later a.begin b.begin (begun_at session.number conn history a.begin mine a.number) (begun_at session.number other history b.begin theirs (same ∙ b.number)) in
-    same_conn b.begin.entry conn other (subst (λ e. accepts_from conn is_setup e ≡ true) moment.entry mine.sets_up) theirs.sets_up
+extended_by : (conn : ℕ) (later before : History) (moment : Moment) → IsBeginning conn before moment → IsBeginning conn (later ++ before) moment
+extended_by conn [] before moment is = is
+extended_by conn (entry ∷ later) before moment is = extended conn entry (later ++ before) moment (extended_by conn later before moment is)
+
+pub one_session : (seats conn other : ℕ) (later history : History) (session second : Session) (a : IsSession seats conn history session) (b : IsSession seats other (later ++ history) second)
+    → session.number ≡ second.number → (conn ≡ other) × (a.begin ≡ b.begin)
+one_session seats conn other later history session second a b same =
+    let mine = extended_by conn later history a.begin (is_beginning conn history a.begin a.first) in
+    let theirs = is_beginning other (later ++ history) b.begin b.first in
+    let moment = one_rise sessions_begun begun_more session.number (later ++ history) mine.later theirs.later a.begin b.begin
+    (begun_at session.number conn (later ++ history) a.begin mine a.number) (begun_at session.number other (later ++ history) b.begin theirs (same ∙ b.number)) in
+    let entry = moment.entry in
+    let before = moment.before in
+    (same_conn b.begin.entry conn other (subst (λ e. accepts_from conn is_setup e ≡ true) entry mine.sets_up) theirs.sets_up, same_moment a.begin b.begin entry before)

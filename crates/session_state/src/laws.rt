@@ -1,8 +1,9 @@
 //! What the definitions of this crate mean, as theorems that call nothing.
-ghost use Rattle.std.specs.Prelude.{◌≡◌, ◌≢◌, ◌<◌, ℕ, ◌+◌, List, ◌∷◌, Option, true, false};
+ghost use Rattle.std.specs.Prelude.{◌≡◌, ◌≢◌, ◌<◌, ℕ, ◌+◌, ◌^◌, List, ◌∷◌, ◌++◌, Option, Some, true, false};
 ghost use Rattle.rtsp_message.specs.declared.request.Request as messages;
 ghost use Rattle.rtsp_message.specs.declared.reply.Reply.{Reply};
 ghost use Rattle.rtsp_message.specs.Reply.{code_of};
+ghost use Rattle.transport_header.specs.Session.{identifier_text};
 ghost use Rattle.mounts.specs.declared.mount.Mount.{Mount};
 ghost use Rattle.mounts.specs.Mounts.{named, numbered, owned_by};
 ghost use Rattle.session_state.specs.declared.act.Act.{Act};
@@ -10,17 +11,22 @@ ghost use Rattle.session_state.specs.declared.act.Act.TheVariants as acts;
 ghost use Rattle.session_state.specs.declared.entry.Entry.{Entry};
 ghost use Rattle.session_state.specs.declared.entry.Entry.TheVariants.{Request, Back};
 ghost use Rattle.session_state.specs.declared.given.Given.{Given};
+ghost use Rattle.session_state.specs.declared.method.Method.TheVariants as methods;
 ghost use Rattle.session_state.specs.declared.session.Session.{Session};
+ghost use Rattle.session_state.specs.declared.session.State.TheVariants.{Ready};
 ghost use Rattle.session_state.specs.History.{History, accepts, accepts_from, how_many};
 ghost use Rattle.session_state.specs.Checks.{Asked, LooksUp};
 ghost use Rattle.session_state.specs.Legal.{IsAnswered, IsLegal};
 ghost use Rattle.session_state.specs.Lookups.{IsSession, IsSessionOf, came, has_session, is_open, sessions_begun};
-ghost use Rattle.session_state.specs.Methods.{is_announce, moves};
+ghost use Rattle.session_state.specs.Methods.{is_announce, method_of, moves};
 ghost use Rattle.session_state.specs.Streams.{AreLive, IsLiveMount, ends_of, is_out};
 
-/// In a legal history a PLAY takes a seat below the number of seats, and a free one; a seat is given back only while it is
-/// out. So no seat is out twice.
+/// In a legal history a PLAY takes a seat below the number of seats, and a free one; in Ready each PLAY that is answered 200
+/// takes one of its session's mount. A seat is given back only while it is out. So no seat is out twice.
 pub fn seats_are_taken_free()
+    ensures taken { (seats : ℕ) (before : History) (conn : ℕ) (request : messages.Request) (given : Given) (reply : Reply) (act : Act) (session : Session)
+        → IsLegal seats (Request conn request given reply act ∷ before) → code_of reply.status ≡ 200 → method_of request.method ≡ Some methods.Play
+        → IsSession seats conn before session → session.state ≡ Ready → (seat : ℕ) × (act ≡ acts.Play session.mount seat) × (seat < seats) × (is_out session.mount seat before ≡ false) }
     ensures below { (seats : ℕ) (before : History) (conn : ℕ) (request : messages.Request) (given : Given) (reply : Reply) (mount seat : ℕ)
         → IsLegal seats (Request conn request given reply (acts.Play mount seat) ∷ before) → seat < seats }
     ensures free { (seats : ℕ) (before : History) (conn : ℕ) (request : messages.Request) (given : Given) (reply : Reply) (mount seat : ℕ)
@@ -70,10 +76,14 @@ pub fn mounts_differ()
         → one.name ≡ other.name → one.number ≡ other.number }
 {}
 
-/// No two connections' sessions have one number (RFC 2326, 3.4: the identifier, whose first eight digits it is).
+/// No two sessions of a history have one number, be they another connection's or one that has ended: they began with the same
+/// request. So none have one identifier (RFC 2326, 3.4), of numbers and words below 2^32.
 pub fn sessions_differ()
-    ensures { (seats conn other : ℕ) (history : History) (session second : Session) → IsSession seats conn history session → IsSession seats other history second
-        → session.number ≡ second.number → conn ≡ other }
+    ensures numbers { (seats conn other : ℕ) (later history : History) (session second : Session) (one : IsSession seats conn history session) (two : IsSession seats other (later ++ history) second)
+        → session.number ≡ second.number → (conn ≡ other) × (one.begin ≡ two.begin) }
+    ensures identifiers { (seats conn other : ℕ) (later history : History) (session second : Session) (one : IsSession seats conn history session) (two : IsSession seats other (later ++ history) second)
+        → session.number < 2 ^ 32 → session.word < 2 ^ 32 → second.number < 2 ^ 32 → second.word < 2 ^ 32
+        → identifier_text session.number session.word ≡ identifier_text second.number second.word → (conn ≡ other) × (one.begin ≡ two.begin) }
 {}
 
 /// Which mounts live doesn't go by how they are listed: two lists of them find the same mount by each number, name and owner.

@@ -22,6 +22,8 @@ mod entry;
 mod fault;
 mod fields;
 mod given;
+#[cfg(test)]
+mod headers_tests;
 mod in_session;
 mod judging;
 pub mod laws;
@@ -47,6 +49,8 @@ mod setting_up;
 mod setting_up_reply;
 #[cfg(test)]
 mod setup_refusal_rows;
+#[cfg(test)]
+mod states_tests;
 #[cfg(test)]
 mod testing;
 #[cfg(test)]

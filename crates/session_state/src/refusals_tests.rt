@@ -2,25 +2,15 @@
 use crate::refusal_rows::{
     ANNOUNCE, ANNOUNCE_WHERE_FULL, INQUIRIES, RefusalRow, STAR, UNKNOWN_METHODS,
 };
-use crate::scenes::{Asked, PUBLISHED};
+use crate::scenes::PUBLISHED;
 use crate::session_refusal_rows::{PAUSE, PLAY, RECORD, TEARDOWN};
 use crate::setup_refusal_rows::{SETUP, SETUP_WITHOUT_NUMBERS};
-use crate::testing::{Row, connects, failed, is_answered, status};
+use crate::testing::{Row, are_accepted, connects, failed, is_answered, status};
 use crate::{Act, World};
 use std::alloc::Global;
 use std::collections::hash_map::RandomState;
 use std::process::Abort;
 use std::test::Fail;
-
-/// Whether these requests are answered with 200.
-fn are_accepted(alloc: Global, world: &mut World, scene: &[Asked]) -> Result<bool, Fail> {
-    for (conn, text) in scene {
-        if status(alloc, world, *conn, text)? != Some(200) {
-            return Ok(false);
-        }
-    }
-    Ok(true)
-}
 
 /// Whether a request is refused as its row says, once it has been asked what goes before.
 fn is_refused(alloc: Global, world: &mut World, row: &RefusalRow) -> Result<bool, Fail> {
@@ -31,7 +21,8 @@ fn is_refused(alloc: Global, world: &mut World, row: &RefusalRow) -> Result<bool
     }
     let check = failed(alloc, world, row.conn, row.request)?;
     let status = status(alloc, world, row.conn, row.request)?;
-    Ok(check == Some(row.check) && status == Some(row.status))
+    let told = row.check.status().code();
+    Ok(check == Some(row.check) && status == Some(row.status) && told == row.status)
 }
 
 /// Each request is refused as its row says, in a world of its own with five connections and one seat.

@@ -1,6 +1,7 @@
 //! What the tests of decisions share.
 use crate::check::Check;
 use crate::refusal::Refusal;
+use crate::scenes::Asked;
 use crate::{Act, Given, World};
 use base_syntax::Items;
 use rtsp_message::{Reader, Request, Unit, put_reply};
@@ -98,6 +99,20 @@ pub(crate) fn status(
     }
     let (reply, _) = world.decide(alloc, conn, &request, &given(alloc)?)?;
     Ok(Some(reply.status.code()))
+}
+
+/// Whether these requests are answered with 200.
+pub(crate) fn are_accepted(
+    alloc: Global,
+    world: &mut World,
+    scene: &[Asked],
+) -> Result<bool, Fail> {
+    for (conn, text) in scene {
+        if status(alloc, world, *conn, text)? != Some(200) {
+            return Ok(false);
+        }
+    }
+    Ok(true)
 }
 
 /// The check that a request doesn't pass first.

@@ -91,7 +91,9 @@ impl World {
     /// Decides a request of an open connection: what it is answered, and what its connection has to do. Looks at the request and
     /// what is given beside it, at the connection's session, at the table of live mounts, which has at most `MAX_MOUNTS`, and at
     /// two counts: of the sessions that have begun and of the mounts that were announced. At nothing else that has happened, and
-    /// never at another connection's session. The only error is want of memory, and then nothing has changed.
+    /// never at another connection's session. It takes memory for what the URI names, unless that is `*`, for an identifier where
+    /// there is a Session field, for the specs of a Transport field and for the reply: of a DESCRIBE with one copy of a
+    /// description; and an ANNOUNCE reads its body into one. The only error is want of memory, and then nothing has changed.
     pub fn decide(
         &mut self,
         alloc: Global,
