@@ -1,10 +1,8 @@
 //! Command lines, accepted and refused, and what they ask for.
+use crate::command;
 use crate::serve::{serve, serve_command};
 use crate::settings::Settings;
-use crate::words::{DrawnWords, NoWords, WordSource, Words, word_source};
-use crate::{command, talk_command};
-use rand::rngs::StdRng;
-use rand::{Rng, SeedableRng};
+use crate::words::{WordSource, word_source};
 use std::alloc::Global;
 use std::test::Fail;
 
@@ -149,20 +147,19 @@ fn another_line_has_its_status(rt: HostRuntime) -> Result<(), Fail> {
     Ok(())
 }
 
-/// Lines of `talk`, and where its words come from.
-const TALKS: [(&str, Result<WordSource, NoWords>); 9] = [
-    ("relay talk", Ok(WordSource::Drawn)),
-    ("relay talk --word 0000abcd", Ok(WordSource::Fixed(0xabcd))),
-    ("relay talk --word 0000ABCD", Ok(WordSource::Fixed(0xabcd))),
+/// Lines of `talk`, and where its words come from; `None` where the text is no word.
+const TALKS: [(&str, Option<WordSource>); 5] = [
+    ("relay talk", Some(WordSource::Drawn)),
+    (
+        "relay talk --word 0000abcd",
+        Some(WordSource::Fixed(0xabcd)),
+    ),
     (
         "relay talk --word=FFFFFFFF",
-        Ok(WordSource::Fixed(0xffff_ffff)),
+        Some(WordSource::Fixed(0xffff_ffff)),
     ),
-    ("relay talk --word abcd", Err(NoWords::BadWord)),
-    ("relay talk --word 000abcd", Err(NoWords::BadWord)),
-    ("relay talk --word 00000abcd", Err(NoWords::BadWord)),
-    ("relay talk --word 0000abcg", Err(NoWords::BadWord)),
-    ("relay talk --word=", Err(NoWords::BadWord)),
+    ("relay talk --word abcd", None),
+    ("relay talk --word=", None),
 ];
 
 #[test]
@@ -177,23 +174,6 @@ fn a_talk_has_the_words_of_its_line(rt: HostRuntime) -> Result<(), Fail> {
         assert_eq!(rt; word_source(of_talk.get_str("word")), want, "{line}");
     }
     Ok(())
-}
-
-#[test]
-fn why_a_talk_has_no_words_is_told(rt: HostRuntime) {
-    let bad = NoWords::BadWord;
-    assert!(rt; bad.status() == 2 && bad.line() == "relay: bad word");
-    let none = NoWords::NoRandomSource;
-    assert!(rt; none.status() == 1 && none.line() == "relay: no random source");
-}
-
-#[test]
-fn drawn_words_are_those_of_the_generator(rt: HostRuntime) {
-    let mut words = DrawnWords(StdRng::seed_from_u64(7));
-    let mut same = StdRng::seed_from_u64(7);
-    for _ in 0..3 {
-        assert_eq!(rt; words.word(), same.next_u32());
-    }
 }
 
 /// Where nobody can listen: no address, no port, and an address that is no machine's own.
@@ -236,25 +216,5 @@ Examples:
 fn the_help_of_serve_tells_ranges_and_defaults(rt: HostRuntime) -> Result<(), Fail> {
     let help = serve_command(rt.alloc())?.render_help()?;
     assert!(rt; help.as_str() == SERVE_HELP, "{help}");
-    Ok(())
-}
-
-const TALK_HELP: &str = "Answers one connection on standard input and standard output
-
-Usage: talk [OPTIONS]
-
-Options:
-      --word <HEX8>  The last eight hexadecimal digits of each session identifier [default: drawn at random]
-  -h, --help         Print help
-
-Example: the methods that the relay knows
-
-printf 'OPTIONS * RTSP/1.0\\r\\nCSeq: 1\\r\\n\\r\\n' | ./relay talk --word 0000abcd
-";
-
-#[test]
-fn the_help_of_talk_has_an_example(rt: HostRuntime) -> Result<(), Fail> {
-    let help = talk_command(rt.alloc())?.render_help()?;
-    assert!(rt; help.as_str() == TALK_HELP, "{help}");
     Ok(())
 }

@@ -28,7 +28,7 @@ use std::collections::hash_map::RandomState;
 use std::io;
 use std::process::ExitCode;
 use task::{Ended, Task, do_steps, do_talk, exit_code, task_named};
-use words::{DrawnWords, FixedWord, NoWords, WordSource, Words, word_source};
+use words::{DrawnWords, FixedWord, WordSource, Words, word_source};
 
 fn main(rt: HostRuntime) -> anyhow::Result<ExitCode> {
     let alloc = rt.alloc();
@@ -63,6 +63,8 @@ const FAILED: u8 = 1;
 /// The exit status after a command line that isn't understood.
 const COMMAND_LINE_FAULT: u8 = 2;
 
+const NO_RANDOM_SOURCE: &str = "relay: no random source";
+
 /// A request that `relay talk` answers, as a line for the shell.
 const TALK_EXAMPLE: &str = "Example: the methods that the relay knows
 
@@ -76,6 +78,13 @@ printf 'keep 2\\nseats 1\\np 41\\np 42\\np 43\\n0 attach\\n0 take\\n0 take\\n0 d
 
 /// The command line: `relay serve`, `relay talk` and `relay steps`.
 fn command<'a>(alloc: Global) -> Result<Command<'a>, AllocError> {
+    let word = Arg::new(alloc, "word").long("word").value_name("HEX8").help(
+        "The last eight hexadecimal digits of each session identifier [default: drawn at random]",
+    );
+    let talk = Command::new(alloc, "talk")
+        .about("Answers one connection on standard input and standard output")
+        .arg(word)?
+        .after_help(TALK_EXAMPLE);
     let steps = Command::new(alloc, "steps")
         .about("Runs a ring's schedule from standard input, and writes what each step did")
         .after_help(STEPS_EXAMPLE);
@@ -83,46 +92,30 @@ fn command<'a>(alloc: Global) -> Result<Command<'a>, AllocError> {
         .about("A live relay for RTSP 1.0 (RFC 2326)")
         .subcommand_required(true)
         .subcommand(serve_command(alloc)?)?
-        .subcommand(talk_command(alloc)?)?
+        .subcommand(talk)?
         .subcommand(steps)
-}
-
-/// `relay talk`, with its option.
-fn talk_command<'a>(alloc: Global) -> Result<Command<'a>, AllocError> {
-    let word = Arg::new(alloc, "word").long("word").value_name("HEX8").help(
-        "The last eight hexadecimal digits of each session identifier [default: drawn at random]",
-    );
-    Command::new(alloc, "talk")
-        .about("Answers one connection on standard input and standard output")
-        .after_help(TALK_EXAMPLE)
-        .arg(word)
 }
 
 /// Answers one connection over the standard streams, with the word of this text in each session identifier, or with words
 /// that are drawn.
 fn talk_on_standard_streams(rt: &HostRuntime, text: Option<&str>) -> anyhow::Result<ExitCode> {
     match word_source(text) {
-        Ok(WordSource::Drawn) => {
+        Some(WordSource::Drawn) => {
             let drawn: io::Result<StdRng> = make_rng(rt);
             match drawn {
                 Ok(rng) => talk_with(rt, &mut DrawnWords(rng)),
-                Err(_) => Ok(has_no_words(rt, NoWords::NoRandomSource)),
+                Err(_) => Ok(fails(rt, FAILED, NO_RANDOM_SOURCE)),
             }
         }
-        Ok(WordSource::Fixed(word)) => talk_with(rt, &mut FixedWord(word)),
-        Err(why) => Ok(has_no_words(rt, why)),
+        Some(WordSource::Fixed(word)) => talk_with(rt, &mut FixedWord(word)),
+        None => Ok(fails(rt, COMMAND_LINE_FAULT, "relay: bad word")),
     }
-}
-
-/// Tells why a talk has no words.
-fn has_no_words(rt: &HostRuntime, why: NoWords) -> ExitCode {
-    fails(rt, why.status(), why.line())
 }
 
 /// Answers one connection over the standard streams, with these words.
 fn talk_with<V: Words>(rt: &HostRuntime, words: &mut V) -> anyhow::Result<ExitCode> {
     let Ok(hasher) = RandomState::new(rt) else {
-        return Ok(has_no_words(rt, NoWords::NoRandomSource));
+        return Ok(fails(rt, FAILED, NO_RANDOM_SOURCE));
     };
     let reader = Reading::new(rt.stdin());
     let mut writer = Writing::new(rt.stdout());

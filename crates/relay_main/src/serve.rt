@@ -1,6 +1,7 @@
 //! The command `relay serve`.
+use crate::NO_RANDOM_SOURCE;
 use crate::settings::Settings;
-use crate::words::{DrawnWords, NoWords};
+use crate::words::DrawnWords;
 use clap::{Arg, ArgAction, ArgMatches, Command};
 use log::Log;
 use rand::make_rng;
@@ -102,11 +103,11 @@ where
         return Err(CANNOT_LISTEN);
     };
     let Ok(hasher) = RandomState::new(&rt) else {
-        return Err(NoWords::NoRandomSource.line());
+        return Err(NO_RANDOM_SOURCE);
     };
     let drawn: io::Result<StdRng> = make_rng(&rt);
     let Ok(rng) = drawn else {
-        return Err(NoWords::NoRandomSource.line());
+        return Err(NO_RANDOM_SOURCE);
     };
     let settings = Settings::of(matches);
     let maker = RingMaker::new(settings.keep, settings.seats, settings.packet_bytes);

@@ -1,8 +1,7 @@
 //! The words in session identifiers.
-ghost use Rattle.std.specs.Prelude.{◌≡◌, ℕ, Ok, IfSome, IfNone, IfOk, IfErr, codes};
+ghost use Rattle.std.specs.Prelude.{◌≡◌, ℕ, Some, IfSome, IfNone};
 ghost use Rattle.rand_core.specs.Stream.{next_u32};
 ghost use Rattle.relay_main.specs.SessionWords.{IsNoWord, IsWord};
-ghost use Rattle.relay_main.specs.declared.words.NoWords.TheVariants.{BadWord, NoRandomSource};
 ghost use Rattle.relay_main.specs.declared.words.WordSource.TheVariants.{Drawn, Fixed};
 
 use hex::FromHex;
@@ -42,53 +41,17 @@ pub enum WordSource {
     Fixed(u32),
 }
 
-/// Why a talk has no words.
-#[derive(Clone, Copy, Debug, PartialEq, Eq, Drop)]
-pub enum NoWords {
-    /// What stands behind `--word` is no word.
-    BadWord,
-    /// There are no random numbers to draw.
-    NoRandomSource,
-}
-
-impl NoWords {
-    /// The exit status that tells it: 2 after a bad word, as after any command line that isn't understood, else 1.
-    pub fn status(self) -> u8
-        ensures bad { self ≡ BadWord → result ≡ 2 }
-        ensures random { self ≡ NoRandomSource → result ≡ 1 }
-    {
-        match self {
-            NoWords::BadWord => 2,
-            NoWords::NoRandomSource => 1,
-        }
-    }
-
-    /// The line on standard error that tells it.
-    pub fn line(self) -> &'static str
-        ensures bad { self ≡ BadWord → result.now ≡ codes "relay: bad word" }
-        ensures random { self ≡ NoRandomSource → result.now ≡ codes "relay: no random source" }
-    {
-        match self {
-            NoWords::BadWord => "relay: bad word",
-            NoWords::NoRandomSource => "relay: no random source",
-        }
-    }
-}
-
-/// Where the words come from, by what stands behind `--word`: drawn where nothing does. A text that is no word is
-/// refused.
-pub fn word_source(text: Option<&str>) -> Result<WordSource, NoWords>
-    ensures drawn { IfNone text.entry (result ≡ Ok Drawn) }
-    ensures fixed { IfSome text.entry (λ t. IfOk result (λ source. (word : ℕ) × (source ≡ Fixed word) × IsWord t.now word)) }
-    ensures bad { IfSome text.entry (λ t. IfErr result (λ why. (why ≡ BadWord) × IsNoWord t.now)) }
+/// Where the words come from, by what stands behind `--word`: drawn where nothing does. `None` of a text that is no
+/// word.
+pub fn word_source(text: Option<&str>) -> Option<WordSource>
+    ensures drawn { IfNone text.entry (result ≡ Some Drawn) }
+    ensures fixed { IfSome text.entry (λ t. IfSome result (λ source. (word : ℕ) × (source ≡ Fixed word) × IsWord t.now word)) }
+    ensures bad { IfSome text.entry (λ t. IfNone result (IsNoWord t.now)) }
 {
-    match text {
-        None => Ok(WordSource::Drawn),
-        Some(text) => match read_word(text) {
-            Some(word) => Ok(WordSource::Fixed(word)),
-            None => Err(NoWords::BadWord),
-        },
-    }
+    let Some(text) = text else {
+        return Some(WordSource::Drawn);
+    };
+    Some(WordSource::Fixed(read_word(text)?))
 }
 
 /// The word that eight hexadecimal digits of either case mean. `None` of any other text.
