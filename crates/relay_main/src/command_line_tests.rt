@@ -2,7 +2,7 @@
 use crate::command;
 use crate::serve::{serve, serve_command};
 use crate::settings::Settings;
-use crate::words::{WordSource, word_source};
+use crate::words::{NoWords, WordSource, word_source};
 use std::alloc::Global;
 use std::test::Fail;
 
@@ -147,19 +147,19 @@ fn another_line_has_its_status(rt: HostRuntime) -> Result<(), Fail> {
     Ok(())
 }
 
-/// Lines of `talk`, and where its words come from; `None` where the text is no word.
-const TALKS: [(&str, Option<WordSource>); 5] = [
-    ("relay talk", Some(WordSource::Drawn)),
-    (
-        "relay talk --word 0000abcd",
-        Some(WordSource::Fixed(0xabcd)),
-    ),
+/// Lines of `talk`, and where its words come from, or why it has none.
+const TALKS: [(&str, Result<WordSource, NoWords>); 8] = [
+    ("relay talk", Ok(WordSource::Drawn)),
+    ("relay talk --word 0000abcd", Ok(WordSource::Fixed(0xabcd))),
+    ("relay talk --word 0000ABCD", Ok(WordSource::Fixed(0xabcd))),
     (
         "relay talk --word=FFFFFFFF",
-        Some(WordSource::Fixed(0xffff_ffff)),
+        Ok(WordSource::Fixed(0xffff_ffff)),
     ),
-    ("relay talk --word abcd", None),
-    ("relay talk --word=", None),
+    ("relay talk --word abcd", Err(NoWords::BadWord)),
+    ("relay talk --word 000abcd", Err(NoWords::BadWord)),
+    ("relay talk --word 00000abcd", Err(NoWords::BadWord)),
+    ("relay talk --word=", Err(NoWords::BadWord)),
 ];
 
 #[test]
@@ -172,6 +172,21 @@ fn a_talk_has_the_words_of_its_line(rt: HostRuntime) -> Result<(), Fail> {
             return Err(Fail::from("no command"));
         };
         assert_eq!(rt; word_source(of_talk.get_str("word")), want, "{line}");
+    }
+    Ok(())
+}
+
+/// Why a talk has no words, with the status and the line that tell it.
+const WORDLESS: [(NoWords, u8, &str); 2] = [
+    (NoWords::BadWord, 2, "relay: bad word"),
+    (NoWords::NoRandomSource, 1, "relay: no random source"),
+];
+
+#[test]
+fn a_talk_without_words_is_told(rt: HostRuntime) -> Result<(), Fail> {
+    for (why, status, line) in WORDLESS {
+        assert_eq!(rt; why.status(), status, "{line}");
+        assert_eq!(rt; why.line(), line);
     }
     Ok(())
 }
@@ -216,5 +231,52 @@ Examples:
 fn the_help_of_serve_tells_ranges_and_defaults(rt: HostRuntime) -> Result<(), Fail> {
     let help = serve_command(rt.alloc())?.render_help()?;
     assert!(rt; help.as_str() == SERVE_HELP, "{help}");
+    Ok(())
+}
+
+const TALK_HELP: &str = "Answers one connection on standard input and standard output
+
+Usage: relay talk [OPTIONS]
+
+Options:
+      --word <HEX8>  The last eight hexadecimal digits of each session identifier [default: drawn at random]
+  -h, --help         Print help
+
+Example: the methods that the relay knows
+
+printf 'OPTIONS * RTSP/1.0\\r\\nCSeq: 1\\r\\n\\r\\n' | ./relay talk --word 0000abcd
+";
+
+const STEPS_HELP: &str = "Runs a ring's schedule from standard input, and writes what each step did
+
+Usage: relay steps
+
+Options:
+  -h, --help  Print help
+
+Example: a seat loses the first of three packets, since the ring keeps two
+
+printf 'keep 2\\nseats 1\\np 41\\np 42\\np 43\\n0 attach\\n0 take\\n0 take\\n0 detach\\ngo 0 p*15 0 0*5 0\\n' | ./relay steps
+";
+
+/// Lines that ask for help, and what they are told.
+const HELPS: [(&str, &str); 2] = [
+    ("relay talk --help", TALK_HELP),
+    ("relay steps --help", STEPS_HELP),
+];
+
+#[test]
+fn the_help_of_a_command_tells_its_options_and_an_example(rt: HostRuntime) -> Result<(), Fail> {
+    let alloc = rt.alloc();
+    for (line, want) in HELPS {
+        let words: Vec<&str> = line.split(' ').collect(alloc)?;
+        match command(alloc)?.try_get_matches_from(words.as_slice()) {
+            Ok(_) => assert!(rt; false, "{line} is accepted"),
+            Err(error) => {
+                let help = format!(in alloc; "{error}")?;
+                assert!(rt; help.as_str() == want, "{help}");
+            }
+        }
+    }
     Ok(())
 }

@@ -28,7 +28,7 @@ use std::collections::hash_map::RandomState;
 use std::io;
 use std::process::ExitCode;
 use task::{Ended, Task, do_steps, do_talk, exit_code, task_named};
-use words::{DrawnWords, FixedWord, WordSource, Words, word_source};
+use words::{DrawnWords, FixedWord, NoWords, WordSource, Words, word_source};
 
 fn main(rt: HostRuntime) -> anyhow::Result<ExitCode> {
     let alloc = rt.alloc();
@@ -62,8 +62,6 @@ const FAILED: u8 = 1;
 
 /// The exit status after a command line that isn't understood.
 const COMMAND_LINE_FAULT: u8 = 2;
-
-const NO_RANDOM_SOURCE: &str = "relay: no random source";
 
 /// A request that `relay talk` answers, as a line for the shell.
 const TALK_EXAMPLE: &str = "Example: the methods that the relay knows
@@ -100,27 +98,32 @@ fn command<'a>(alloc: Global) -> Result<Command<'a>, AllocError> {
 /// that are drawn.
 fn talk_on_standard_streams(rt: &HostRuntime, text: Option<&str>) -> anyhow::Result<ExitCode> {
     match word_source(text) {
-        Some(WordSource::Drawn) => {
+        Ok(WordSource::Drawn) => {
             let drawn: io::Result<StdRng> = make_rng(rt);
             match drawn {
                 Ok(rng) => talk_with(rt, &mut DrawnWords(rng)),
-                Err(_) => Ok(fails(rt, FAILED, NO_RANDOM_SOURCE)),
+                Err(_) => Ok(has_no_words(rt, NoWords::NoRandomSource)),
             }
         }
-        Some(WordSource::Fixed(word)) => talk_with(rt, &mut FixedWord(word)),
-        None => Ok(fails(rt, COMMAND_LINE_FAULT, "relay: bad word")),
+        Ok(WordSource::Fixed(word)) => talk_with(rt, &mut FixedWord(word)),
+        Err(why) => Ok(has_no_words(rt, why)),
     }
 }
 
 /// Answers one connection over the standard streams, with these words.
 fn talk_with<V: Words>(rt: &HostRuntime, words: &mut V) -> anyhow::Result<ExitCode> {
     let Ok(hasher) = RandomState::new(rt) else {
-        return Ok(fails(rt, FAILED, NO_RANDOM_SOURCE));
+        return Ok(has_no_words(rt, NoWords::NoRandomSource));
     };
     let reader = Reading::new(rt.stdin());
     let mut writer = Writing::new(rt.stdout());
     let ended = do_talk(rt.alloc(), hasher, reader, &mut writer, words)?;
     Ok(tell(rt, &ended))
+}
+
+/// Tells why a talk has no words.
+fn has_no_words(rt: &HostRuntime, why: NoWords) -> ExitCode {
+    fails(rt, why.status(), why.line())
 }
 
 /// Runs a ring's schedule over the standard streams.

@@ -1,7 +1,6 @@
 //! The command `relay serve`.
-use crate::NO_RANDOM_SOURCE;
 use crate::settings::Settings;
-use crate::words::DrawnWords;
+use crate::words::{DrawnWords, NoWords};
 use clap::{Arg, ArgAction, ArgMatches, Command};
 use log::Log;
 use rand::make_rng;
@@ -103,11 +102,11 @@ where
         return Err(CANNOT_LISTEN);
     };
     let Ok(hasher) = RandomState::new(&rt) else {
-        return Err(NO_RANDOM_SOURCE);
+        return Err(NoWords::NoRandomSource.line());
     };
     let drawn: io::Result<StdRng> = make_rng(&rt);
     let Ok(rng) = drawn else {
-        return Err(NO_RANDOM_SOURCE);
+        return Err(NoWords::NoRandomSource.line());
     };
     let settings = Settings::of(matches);
     let maker = RingMaker::new(settings.keep, settings.seats, settings.packet_bytes);

@@ -23,7 +23,7 @@ pub enum TalkEnd {
     StreamFault(Fault),
     ReadFailed,
     WriteFailed,
-    /// The reader was refused memory.
+    /// The reader was refused memory, or the connection before anything was read.
     OutOfMemory,
 }
 

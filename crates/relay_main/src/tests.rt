@@ -1,8 +1,10 @@
 //! Worked exchanges, byte for byte.
 use crate::talk::{TalkEnd, run_talk, talk_end};
 use crate::task::{Ended, Task, do_steps, do_talk, exit_code, task_named};
-use crate::words::{FixedWord, Words, read_word};
+use crate::words::{DrawnWords, FixedWord, Words, read_word};
 use interleaved::{ListSink, ListSource, Sink, Source};
+use rand::rngs::StdRng;
+use rand_core::{Rng, SeedableRng};
 use rtsp_message::Fault;
 use std::alloc::Global;
 use std::collections::hash_map::RandomState;
@@ -292,6 +294,24 @@ fn ends_are_reported(rt: HostRuntime) -> Result<(), Fail> {
 #[test]
 fn a_fixed_word(rt: HostRuntime) {
     assert_eq!(rt; FixedWord(7).word(), 7);
+}
+
+/// The seed of the generators that words are drawn from.
+const SEED: u64 = 2326;
+
+/// The next three words.
+fn three_words<V: Words>(words: &mut V) -> [u32; 3] {
+    [words.word(), words.word(), words.word()]
+}
+
+#[test]
+fn words_are_drawn_in_the_order_of_the_generator(rt: HostRuntime) {
+    let mut rng = StdRng::seed_from_u64(SEED);
+    let want = [rng.next_u32(), rng.next_u32(), rng.next_u32()];
+    let mut words = DrawnWords(StdRng::seed_from_u64(SEED));
+    let mut others = DrawnWords(StdRng::seed_from_u64(SEED));
+    assert_eq!(rt; three_words(&mut words), want);
+    assert_eq!(rt; three_words(&mut others), want);
 }
 
 /// How a task ends from a source that fails at a place into a sink.

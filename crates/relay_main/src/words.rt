@@ -1,7 +1,8 @@
 //! The words in session identifiers.
-ghost use Rattle.std.specs.Prelude.{◌≡◌, ℕ, Some, IfSome, IfNone};
+ghost use Rattle.std.specs.Prelude.{◌≡◌, ℕ, Ok, IfOk, IfErr, IfSome, IfNone};
 ghost use Rattle.rand_core.specs.Stream.{next_u32};
 ghost use Rattle.relay_main.specs.SessionWords.{IsNoWord, IsWord};
+ghost use Rattle.relay_main.specs.declared.words.NoWords.TheVariants.{BadWord};
 ghost use Rattle.relay_main.specs.declared.words.WordSource.TheVariants.{Drawn, Fixed};
 
 use hex::FromHex;
@@ -41,17 +42,53 @@ pub enum WordSource {
     Fixed(u32),
 }
 
-/// Where the words come from, by what stands behind `--word`: drawn where nothing does. `None` of a text that is no
+/// Why a talk has no words.
+#[derive(Clone, Copy, Debug, PartialEq, Eq, Drop)]
+pub enum NoWords {
+    /// What stands behind `--word` is no word.
+    BadWord,
+    /// The source of random numbers failed.
+    NoRandomSource,
+}
+
+impl NoWords {
+    ghost use Rattle.relay_main.specs.SessionWords.{no_words_line, no_words_status};
+
+    /// The exit status: 2 for a bad word, which is a fault of the command line, and 1 for a source that fails.
+    pub fn status(self) -> u8
+        ensures { result ≡ no_words_status self }
+    {
+        match self {
+            NoWords::BadWord => 2,
+            NoWords::NoRandomSource => 1,
+        }
+    }
+
+    /// The line that stands on standard error.
+    pub fn line(self) -> &'static str
+        ensures { result.now ≡ no_words_line self }
+    {
+        match self {
+            NoWords::BadWord => "relay: bad word",
+            NoWords::NoRandomSource => "relay: no random source",
+        }
+    }
+}
+
+/// Where the words come from, by what stands behind `--word`: drawn where nothing does. `BadWord` of a text that is no
 /// word.
-pub fn word_source(text: Option<&str>) -> Option<WordSource>
-    ensures drawn { IfNone text.entry (result ≡ Some Drawn) }
-    ensures fixed { IfSome text.entry (λ t. IfSome result (λ source. (word : ℕ) × (source ≡ Fixed word) × IsWord t.now word)) }
-    ensures bad { IfSome text.entry (λ t. IfNone result (IsNoWord t.now)) }
+pub fn word_source(text: Option<&str>) -> Result<WordSource, NoWords>
+    ensures drawn { IfNone text.entry (result ≡ Ok Drawn) }
+    ensures fixed { IfSome text.entry (λ t. IfOk result (λ source. (word : ℕ) × (source ≡ Fixed word) × IsWord t.now word)) }
+    ensures bad { IfSome text.entry (λ t. IfErr result (λ why. (why ≡ BadWord) × IsNoWord t.now)) }
 {
     let Some(text) = text else {
-        return Some(WordSource::Drawn);
+        return Ok(WordSource::Drawn);
     };
-    Some(WordSource::Fixed(read_word(text)?))
+    match read_word(text) {
+        Some(word) => Ok(WordSource::Fixed(word)),
+        None => Err(NoWords::BadWord),
+    }
 }
 
 /// The word that eight hexadecimal digits of either case mean. `None` of any other text.
