@@ -18,6 +18,3 @@ pub use lines::first_line;
 pub use names::is_same_name;
 pub use numbers::{is_numeral, read_number};
 pub use quotes::cut_unquoted;
-
-#[cfg(test)]
-mod tests;

@@ -28,6 +28,3 @@ pub use pumping::{Stopped, pump};
 pub use refusals::Refused;
 pub use takes::{Account, Delivery, Left, Taken};
 pub use taps::Tap;
-
-#[cfg(test)]
-mod tests;

@@ -5,14 +5,10 @@
 mod device;
 mod frame;
 mod gathering;
-#[cfg(test)]
-mod gathering_tests;
 mod laws;
 mod list_sink;
 mod list_source;
 mod reading;
-#[cfg(test)]
-mod tests;
 mod whole_write;
 mod writing;
 

@@ -20,6 +20,3 @@ pub use seats::{MAX_SEATS, Seats};
 pub use target::{Target, resource_text};
 pub use tracks::track_number;
 pub use uri::{Uri, read_uri};
-
-#[cfg(test)]
-mod tests;

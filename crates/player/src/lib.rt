@@ -5,8 +5,6 @@
 mod framing;
 mod relaying;
 mod report;
-#[cfg(test)]
-mod tests;
 
 pub use relaying::relay_out;
 pub use report::{OutReport, OutStop};

@@ -7,8 +7,6 @@ mod offering;
 mod relaying;
 mod report;
 mod rtp;
-#[cfg(test)]
-mod tests;
 
 pub use relaying::relay_in;
 pub use report::{InReport, InStop};

@@ -1,6 +1,1 @@
-pub mod SessionWords
-pub mod Exchange
-pub mod Publishing
-pub mod Talk
 pub mod Tasks
-pub mod Serving

@@ -52,6 +52,11 @@ impl Board {
         mounts.retain(|posted| posted.mount != mount);
     }
 
+    /// How many mounts are being recorded.
+    pub(crate) fn len(&self, rt: &impl Wait) -> usize {
+        self.mounts.lock(rt).len()
+    }
+
     /// Where the tracks of a mount stand. Nothing is told of a mount that isn't recorded.
     pub(crate) fn points(
         &self,

@@ -68,7 +68,7 @@ pub(crate) fn status_of(fault: Fault) -> Status
 
 /// Why a connection that came isn't served.
 #[derive(Clone, Copy, Debug, PartialEq, Eq, Drop)]
-pub(crate) enum Refusal {
+pub enum Refusal {
     /// As many connections are open as a book may have.
     Full,
     OutOfMemory,

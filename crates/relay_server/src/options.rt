@@ -7,7 +7,7 @@ pub struct Options {
     pub accept: Option<u64>,
     /// For so many milliseconds packets gather before the players of their mount are woken.
     pub gather: u64,
-    /// Whether a player is told the end of its stream once the last packet of its mount was written, and hung up if it is
-    /// still there 10 seconds later.
-    pub hang_up_ended: bool,
+    /// A player is told the end of its stream once the last packet of its mount was written, and hung up if it is still
+    /// there so many milliseconds later. `None` lets it stay.
+    pub after_end: Option<u64>,
 }

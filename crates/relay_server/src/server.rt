@@ -11,11 +11,11 @@ use crate::notice::low_half;
 use crate::options::Options;
 use crate::shared::{Shared, SharedBook};
 use crate::socket::Socket;
-use crate::words::Words;
 use interleaved::{Reading, Writing, write_all};
 use log::{Log, info, warn};
 use packet_ring::Pass;
 use rtsp_message::{Status, put_plain};
+use session_state::Words;
 use std::alloc::{AllocError, Global};
 use std::net::{SocketAddr, TcpListener, TcpStream};
 use std::sync::atomic::Ordering;
@@ -30,9 +30,6 @@ pub(crate) type RingShared<V, G> = Shared<RingMaker, V, G>;
 /// How long the server waits after it couldn't accept, in milliseconds, so that a lack of descriptors doesn't keep it
 /// busy.
 const AFTER_NO_ACCEPT: u64 = 100;
-
-/// How long a player may stay whose mount has ended, where it is to be hung up, in milliseconds.
-const AFTER_END: u64 = 10_000;
 
 /// How often a peer is read that is refused, and for how many milliseconds each time, so that it reads why. None is
 /// accepted meanwhile.
@@ -58,28 +55,8 @@ where
     V: Words + Drop + Send + 'static,
     G: Gate + Drop + Send + Sync + 'static,
 {
-    let after_end = if options.hang_up_ended {
-        Some(Duration::from_millis(AFTER_END))
-    } else {
-        None
-    };
+    let after_end = options.after_end.map(Duration::from_millis);
     let shared = Shared::new(alloc, maker, book, words, gate, after_end)?;
-    serve_all(rt, alloc, listener, options, shared)
-}
-
-/// Serves connections over what they share, as `run_server` does.
-pub(crate) fn serve_all<R, V, G>(
-    rt: R,
-    alloc: Global,
-    listener: &TcpListener,
-    options: Options,
-    shared: RingShared<V, G>,
-) -> Result<(), AllocError>
-where
-    R: Threads + Wait + Clock + Log + Copy + Send + Sync + 'static,
-    V: Words + Drop + Send + 'static,
-    G: Gate + Drop + Send + Sync + 'static,
-{
     let shared = Arc::new(alloc, shared)?;
     let theirs = Arc::try_clone(&shared)?;
     let gather = Duration::from_millis(options.gather);
@@ -196,7 +173,7 @@ where
 
 /// A warning where a connection ended by a fault, a failed read or write, or for want of memory or a thread, and a line
 /// where packets were lost or refused.
-pub(crate) fn tell_end<R: Log>(rt: &R, peer: SocketAddr, end: ConnectionEnd, counts: &Counts) {
+pub fn tell_end<R: Log>(rt: &R, peer: SocketAddr, end: ConnectionEnd, counts: &Counts) {
     if end != ConnectionEnd::Done {
         warn!(rt; "{peer}: {end}");
     }

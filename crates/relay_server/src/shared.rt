@@ -5,7 +5,7 @@ use crate::maker::{Maker, Seat};
 use session_lock::Book;
 use std::alloc::{AllocError, Global};
 use std::sync::atomic::AtomicU64;
-use std::sync::{Arc, Mutex};
+use std::sync::{Arc, Mutex, Wait};
 use std::time::Duration;
 
 /// A book that threads share. Each call of it is made whole under its lock, and no other lock is taken meanwhile.
@@ -54,5 +54,10 @@ impl<M: Maker + Drop, V: Drop, G: Drop> Shared<M, V, G> {
             after_end,
             live: AtomicU64::new(0),
         })
+    }
+
+    /// How many mounts are being recorded: those with a RECORD that haven't ended.
+    pub fn recorded(&self, rt: &impl Wait) -> usize {
+        self.board.len(rt)
     }
 }

@@ -17,8 +17,6 @@ mod read_line;
 mod running;
 mod script;
 mod seat_table;
-#[cfg(test)]
-mod tests;
 
 pub use call_line::CallLine;
 pub use ends::{StepsEnd, steps_end};

@@ -35,6 +35,3 @@ pub use script::{Script, SeatCalls};
 pub use trace::{Trace, TraceEvent, TraceStep};
 pub use views::{Publisher, PublisherPhase, Seat, SeatPhase};
 pub use words::{Head, Slot, Word};
-
-#[cfg(test)]
-mod tests;

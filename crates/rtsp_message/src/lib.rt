@@ -3,28 +3,18 @@
 #![tactic(auto)]
 
 mod byte_class;
-#[cfg(test)]
-mod copy_tests;
 mod fault;
 mod front;
 mod head;
 mod headers;
 mod intake;
 pub mod laws;
-#[cfg(test)]
-mod left_tests;
 mod lines;
 mod plain;
 mod reader;
-#[cfg(test)]
-mod reading_tests;
 mod reply;
 mod request;
 mod status;
-#[cfg(test)]
-mod stream_tests;
-#[cfg(test)]
-mod tests;
 mod unit;
 
 pub use byte_class::ByteClass;

@@ -23,6 +23,3 @@ pub use writing::write;
 
 /// The most tracks that a description may have.
 pub const MAX_TRACKS: usize = 16;
-
-#[cfg(test)]
-mod tests;

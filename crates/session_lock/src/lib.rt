@@ -12,16 +12,3 @@ pub use answer::{Answer, AskFault, NoMemory};
 pub use book::Book;
 pub use passes::Passes;
 pub use spares::MountPasses;
-
-#[cfg(test)]
-mod exchange_tests;
-#[cfg(test)]
-mod mounts_tests;
-#[cfg(test)]
-mod passes_tests;
-#[cfg(test)]
-mod row_tests;
-#[cfg(test)]
-mod testing;
-#[cfg(test)]
-mod tests;

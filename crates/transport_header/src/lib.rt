@@ -23,8 +23,3 @@ pub use rtp_info::{InfoEntry, put_rtp_info};
 pub use session::{put_session, read_session};
 pub use spec::{ChannelPair, Mode, Protocol, Spec};
 pub use track_channels::{MOST_TRACKS, TrackChannels};
-
-#[cfg(test)]
-mod tests;
-#[cfg(test)]
-mod track_tests;

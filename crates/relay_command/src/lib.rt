@@ -1,0 +1,11 @@
+//! The command line of the relay: its commands with their options, and what they ask for.
+#![tactic(auto)]
+
+mod asked;
+mod commands;
+mod settings;
+mod task;
+
+pub use asked::{Asked, read_words};
+pub use settings::Settings;
+pub use task::{Task, exit_code, task_named};

@@ -1,0 +1,43 @@
+//! What `relay serve` is to do, as its command line says.
+ghost use Rattle.relay_command.specs.Serving.{IsInRange};
+
+use clap::ArgMatches;
+
+/// The numbers and switches of a server.
+#[derive(Clone, Copy, Debug, PartialEq, Eq, Drop)]
+pub struct Settings {
+    /// How many packets a mount keeps for players that are behind, 1 to 4,095.
+    pub keep: usize,
+    /// How many players a mount has, 1 to 1,024.
+    pub seats: usize,
+    /// The bytes of the longest packet, 12 to 65,535.
+    pub packet_bytes: usize,
+    /// After how many connections the server ends; `None` for never.
+    pub accept: Option<u64>,
+    /// For how long packets gather before players are woken, 0 to 100 milliseconds.
+    pub gather: u64,
+    /// Whether a player is hung up behind the last packet of its mount.
+    pub hang_up_ended: bool,
+}
+
+impl Settings {
+    /// What the arguments of `serve` say. The command line has a default for each number but `accept`, and lets no
+    /// number through that is out of its range.
+    pub fn of(matches: &ArgMatches) -> Settings
+        ensures ranges { IsInRange result }
+    {
+        Settings {
+            keep: number(matches, "keep").clamp(1, 4095),
+            seats: number(matches, "seats").clamp(1, 1024),
+            packet_bytes: number(matches, "packet-bytes").clamp(12, 65_535),
+            accept: matches.get_one::<u64>("accept"),
+            gather: number(matches, "gather").min(100) as u64,
+            hang_up_ended: matches.get_flag("hang-up-ended"),
+        }
+    }
+}
+
+/// A number of the command line.
+fn number(matches: &ArgMatches, name: &str) -> usize {
+    usize::from(matches.get_one::<u16>(name).unwrap_or(0))
+}

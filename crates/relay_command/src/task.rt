@@ -1,0 +1,36 @@
+//! What a command line asks for, and the exit code that tells how that went.
+ghost use Rattle.std.specs.Prelude.{◌≡◌};
+ghost use Rattle.std.specs.Process.{exit_status};
+ghost use Rattle.relay_command.specs.Commands.{task_of};
+
+use std::process::ExitCode;
+
+/// What an accepted command line asks for.
+#[derive(Clone, Copy, Debug, PartialEq, Eq)]
+pub enum Task {
+    /// `relay talk`: one connection is answered.
+    Talk,
+    /// `relay steps`: a ring's schedule is run.
+    Steps,
+    /// `relay serve`: connections are served.
+    Serve,
+}
+
+/// The task that a command's name means. `None` where the program has no such command.
+pub fn task_named(name: &str) -> Option<Task>
+    ensures { result ≡ task_of name.now }
+{
+    match name {
+        "talk" => Some(Task::Talk),
+        "steps" => Some(Task::Steps),
+        "serve" => Some(Task::Serve),
+        _ => None,
+    }
+}
+
+/// The exit code that tells a status.
+pub fn exit_code(status: u8) -> ExitCode
+    ensures { exit_status result ≡ status }
+{
+    ExitCode::from(status)
+}

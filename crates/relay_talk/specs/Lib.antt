@@ -1,0 +1,4 @@
+pub mod SessionWords
+pub mod Exchange
+pub mod Publishing
+pub mod Talk

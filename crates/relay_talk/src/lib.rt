@@ -1,0 +1,11 @@
+//! One connection over any source and sink, with a book and rings of its own: its requests are answered, and what it
+//! records is published.
+#![tactic(auto)]
+
+mod talk;
+mod talker;
+mod words;
+
+pub use talk::{Ended, TalkEnd, do_talk, run_talk, talk_end};
+pub use talker::Talker;
+pub use words::{DrawnWords, FixedWord, NoWords, WordSource, read_word, word_source};

@@ -1,0 +1,215 @@
+//! One connection with its book: what it is answered, and what it publishes.
+ghost use Rattle.std.specs.Prelude.{◌≡◌, ◌≤◌, ◌+◌, true, None, Some, length, IfOk, IfSome, IfNone, IsSomeAnd};
+ghost use Rattle.std.specs.Option.{option_flatten, option_map};
+ghost use Rattle.rtsp_message.specs.Intakes.{handed, weight};
+ghost use Rattle.rtsp_message.specs.Reply.{reply_text};
+ghost use Rattle.session_state.specs.Lookups.{is_open};
+ghost use Rattle.session_state.specs.Methods.{method_of};
+ghost use Rattle.session_state.specs.declared.method.Method.TheVariants.{Announce};
+ghost use Rattle.session_lock.specs.Books.{IsOffer};
+ghost use Rattle.publisher.specs.FramesIn.{answer_of};
+ghost use Rattle.relay_talk.specs.Exchange.{IsAnswer, IsAnswered, IsLeft, IsSettled, busy, opening};
+ghost use Rattle.relay_talk.specs.Publishing.{DoesPublishing, Fetches, IsNewRing, IsRecording, PublishesFrames, publishing_after, seat_after};
+
+use base_syntax::Items;
+use interleaved::Source;
+use packet_ring::{Pass, Publisher};
+use publisher::{InStop, relay_in};
+use rtsp_message::{Intake, Next, Reply, Request, Unit, put_reply};
+use session_lock::{Answer, Book};
+use session_state::{Act, ConnectFault, Given, Method, State, read_method};
+use std::alloc::{AllocError, Global};
+use std::collections::hash_map::RandomState;
+use transport_header::MOST_TRACKS;
+
+/// How many packets a mount keeps for a player that is behind.
+const KEEP: usize = 512;
+
+/// Each mount has one seat.
+const SEATS: usize = 1;
+
+/// The longest packet, in bytes.
+const PACKET_BYTES: usize = 16_384;
+
+/// The connection is the first of its book.
+const TALKER: u64 = 1;
+
+/// What goes with a request: the publisher of a ring, and what its book has as the passes of the ring's seats.
+type Offer = (Option<Publisher>, Option<Vec<Option<Pass>>>);
+
+/// A connection with a book and rings of its own. Its parts may be looked at, and a second connection may come into its
+/// book, which then takes what it publishes.
+///
+/// What stands in the book as the pass of a seat may be none, so that a seat is given back with what was handed out for
+/// it, whatever that was.
+#[derive(Drop)]
+pub struct Talker {
+    alloc: Global,
+    pub book: Book<Option<Pass>>,
+    /// What takes in the packets of its mount, from the mount's beginning to its end.
+    pub publishing: Option<Publisher>,
+    /// The pass of the seat that it plays from.
+    pub seat: Option<Pass>,
+}
+
+impl Talker {
+    /// Lets the connection come, as the first of its book.
+    pub fn connect(alloc: Global, hasher: RandomState) -> Result<Talker, ConnectFault>
+        ensures seats { IfOk result (λ talker. talker.book.seats ≡ 1) }
+        ensures opens { IfOk result (λ talker. talker.book.history ≡ opening) }
+        ensures publishing { IfOk result (λ talker. talker.publishing ≡ None) }
+    {
+        let mut book = Book::new(alloc, SEATS, hasher);
+        book.connect()?;
+        Ok(Talker {
+            alloc,
+            book,
+            publishing: None,
+            seat: None,
+        })
+    }
+
+    /// The next message, or why none comes. The frames before it are published while the session records, and else
+    /// dropped.
+    pub fn next_message<S: Source + Drop>(&mut self, intake: &mut Intake<S>) -> InStop
+        requires open { is_open 1 self.old.book.history ≡ true }
+        requires seats { self.old.book.seats ≡ 1 }
+        ensures fetches { Fetches S.incoming S.failed intake.old intake.new result }
+        ensures published { IsRecording 1 self.old.book.history → IfSome self.old.publishing (λ feed. PublishesFrames S.incoming S.failed self.old.book.history intake.old intake.new feed self.new.publishing result) }
+        ensures dropped { ¬ IsRecording 1 self.old.book.history → self.new ≡ self.old }
+        ensures book { self.new.book ≡ self.old.book }
+        ensures seat { self.new.seat ≡ self.old.seat }
+        ensures ends { weight S.bound intake.new + length (handed (answer_of result)) ≤ weight S.bound intake.old }
+    {
+        if let Some(session) = self.book.session_of(TALKER) {
+            if session.state == State::Recording {
+                if let Some(feed) = &mut self.publishing {
+                    let mut points = [None; MOST_TRACKS];
+                    return relay_in(intake, feed, &session.channels, &mut points).stop;
+                }
+            }
+        }
+        skip_frames(intake)
+    }
+
+    /// The text of the reply to a request, with the reply's act carried out. `None` where memory was refused.
+    pub fn reply_bytes(&mut self, word: u32, request: &Request) -> Option<Vec<u8>>
+        requires seats { self.old.book.seats ≡ 1 }
+        requires open { is_open 1 self.old.book.history ≡ true }
+        ensures text { IfSome result (λ text. IsAnswer self.old.book.history request.now word self.new.book.history text.items) }
+        ensures refused { IfNone result (IsAnswer self.old.book.history request.now word self.new.book.history (busy request.now)) }
+        ensures kept { self.new.book.seats ≡ 1 }
+    {
+        let reply = self.reply_to(word, request)?;
+        text_of(self.alloc, &reply).ok()
+    }
+
+    /// The reply to a request, with its act carried out. `None` where memory was refused; then nothing is written down.
+    fn reply_to(&mut self, word: u32, request: &Request) -> Option<Reply>
+        requires seats { self.old.book.seats ≡ 1 }
+        requires open { is_open 1 self.old.book.history ≡ true }
+        ensures reply { IfSome result (IsAnswered self.old.book.history request.now word self.new.book.history) }
+        ensures publishing { IfSome result (λ reply. DoesPublishing self.old.book.history request.now word reply self.old.publishing self.new.publishing) }
+        ensures refused { IfNone result (self.new ≡ self.old) }
+        ensures kept { self.new.book.seats ≡ 1 }
+    {
+        let Ok(offer) = offer_for(self.alloc, request) else {
+            return None;
+        };
+        let (feed, passes) = offer;
+        let given = Given {
+            word,
+            points: Items::empty(self.alloc),
+        };
+        let Ok(answer) = self.book.call(TALKER, request, &given, passes) else {
+            return None;
+        };
+        let Answer {
+            reply,
+            act,
+            pass,
+            back: _,
+        } = answer;
+        self.carry_out(act, feed, pass);
+        Some(reply)
+    }
+
+    /// Does what an act asks for: the feed of a mount that began is kept, and closed at the mount's end; a pass that was
+    /// handed out is kept until its seat is left, and then given back.
+    fn carry_out(&mut self, act: Act, feed: Option<Publisher>, pass: Option<Option<Pass>>)
+        ensures settled { IsSettled act self.old.book.history self.new.book.history }
+        ensures seats { self.new.book.seats ≡ self.old.book.seats }
+        ensures publishing { self.new.publishing ≡ publishing_after act feed self.old.publishing }
+        ensures seat { self.new.seat ≡ seat_after act (option_flatten pass) self.old.seat }
+    {
+        match act {
+            Act::None | Act::Record => {}
+            Act::Open => self.publishing = feed,
+            Act::Play { .. } => self.seat = pass.flatten(),
+            Act::Stop { mount, seat } => {
+                let pass = self.seat.take();
+                let _ = self.book.give_back(mount, seat, pass);
+            }
+            Act::End => self.close(),
+        }
+    }
+
+    /// Ends what is published, if anything is.
+    fn close(&mut self)
+        ensures { self.new ≡ record self.old { publishing = None } }
+    {
+        if let Some(feed) = self.publishing.take() {
+            let _receipt = feed.close();
+        }
+    }
+
+    /// Hangs the connection up, and gives its seat back. Nothing more is published.
+    pub fn leave(&mut self)
+        requires seats { self.old.book.seats ≡ 1 }
+        requires open { is_open 1 self.old.book.history ≡ true }
+        ensures left { IsLeft self.old.book.history self.new.book.history }
+        ensures closed { self.new.publishing ≡ None }
+    {
+        let act = self.book.hangup(TALKER);
+        self.carry_out(act, None, None);
+        self.close();
+    }
+}
+
+/// Drops frames until a message comes, or none can.
+fn skip_frames<S: Source + Drop>(intake: &mut Intake<S>) -> InStop
+    ensures fetches { Fetches S.incoming S.failed intake.old intake.new result }
+    ensures ends { weight S.bound intake.new + length (handed (answer_of result)) ≤ weight S.bound intake.old }
+{
+    loop {
+        match intake.next() {
+            Next::Unit(Unit::Frame(_)) => {}
+            Next::Unit(Unit::Message(request)) => return InStop::Message(request),
+            Next::End => return InStop::End,
+            Next::Fault(fault) => return InStop::Fault(fault),
+            Next::ReadFailed => return InStop::ReadFailed,
+            Next::OutOfMemory => return InStop::OutOfMemory,
+        }
+    }
+}
+
+/// What goes with a request: a ring and the pass of its one seat with ANNOUNCE, and nothing with another method.
+fn offer_for(alloc: Global, request: &Request) -> Result<Offer, AllocError>
+    ensures offer { IfOk result (λ offer. IsOffer 1 request.now.method (option_map (λ passes. passes.items) offer.1)) }
+    ensures ring { IfOk result (λ offer. method_of request.now.method ≡ Some Announce → IsSomeAnd offer.0 IsNewRing) }
+{
+    if read_method(request.method.as_slice()) != Some(Method::Announce) {
+        return Ok((None, None));
+    }
+    let (feed, passes) = packet_ring::new(alloc, KEEP, SEATS, PACKET_BYTES)?;
+    let passes = passes.into_iter().map(|pass| Some(pass)).collect(alloc)?;
+    Ok((Some(feed), Some(passes)))
+}
+
+fn text_of(alloc: Global, reply: &Reply) -> Result<Vec<u8>, AllocError>
+    ensures { IfOk result (λ text. text.items ≡ reply_text reply.now) }
+{
+    let mut text = Vec::new(alloc);
+    put_reply(&mut text, reply)?;
+    Ok(text)
+}

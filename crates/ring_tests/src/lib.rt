@@ -1,0 +1,13 @@
+//! Tests of the broadcast log, of the ring's core with its command, and of the engines, over what these crates offer.
+#![tactic(auto)]
+
+#[cfg(test)]
+mod log_tests;
+#[cfg(test)]
+mod player_tests;
+#[cfg(test)]
+mod publisher_tests;
+#[cfg(test)]
+mod script_tests;
+#[cfg(test)]
+mod steps_tests;

@@ -1,0 +1,225 @@
+//! Packets of a tap that go out as frames.
+ghost use Rattle.std.specs.Prelude.{◌≡◌, Some, IfOk};
+ghost use Rattle.cursor.specs.Log.{packet_of};
+
+use base_syntax::Bytes;
+use cursor::{Account, Delivery, ListTap, Packet, PlainLog, PlainTap, Tap};
+use interleaved::{Failed, Gathering, ListSink, Sink};
+use player::{OutReport, OutStop, relay_out};
+use std::alloc::{AllocError, Global};
+use std::test::Fail;
+use transport_header::{ChannelPair, TrackChannels};
+
+/// The frame of the bytes `aa bb` on channel 4.
+const FRAME: [u8; 6] = [0x24, 4, 0, 2, 0xaa, 0xbb];
+
+/// Track 0 on two channels.
+fn one_track(first: u8, second: u8) -> TrackChannels {
+    let mut channels = TrackChannels::new();
+    let pair = ChannelPair { first, second };
+    if channels.may_have(0, pair) {
+        channels.set(0, pair);
+    }
+    channels
+}
+
+fn got(alloc: Global, number: u64, tag: u8, bytes: &[u8]) -> Result<Delivery, AllocError>
+    ensures { IfOk result (λ d. d ≡ Delivery.Got number (packet_of tag bytes.now)) }
+{
+    let bytes = Bytes::from_slice(alloc, bytes)?;
+    Ok(Delivery::Got {
+        number,
+        packet: Packet { tag, bytes },
+    })
+}
+
+/// Packet 3 with two bytes, four lost, packet 8 of a track that isn't set up, and nothing more yet.
+fn row_frames_out(alloc: Global) -> Result<ListTap, AllocError> {
+    let mut list = Vec::with_capacity(alloc, 4)?;
+    list.push(got(alloc, 3, 0, &[0xaa, 0xbb])?)?;
+    list.push(Delivery::Lost(4))?;
+    list.push(got(alloc, 8, 2, &[1])?)?;
+    list.push(Delivery::Empty)?;
+    Ok(ListTap::new(list, 3, 2))
+}
+
+/// Relays the row into a sink of so much room.
+fn relay_row(alloc: Global, room: usize, n: u64) -> Result<(OutReport, ListSink, Account), Fail> {
+    let mut tap = row_frames_out(alloc)?;
+    let mut sink = ListSink::new(alloc, room)?;
+    let channels = one_track(4, 5);
+    let mut buf = [0; 65_535];
+    let most = tap.packet_bytes();
+    let report = relay_out(&mut tap, &mut sink, &channels, n, &mut buf[..most]);
+    Ok((report, sink, tap.account()))
+}
+
+#[test]
+fn row_frames_out_in_any_number_of_takes(rt: HostRuntime) -> Result<(), Fail> {
+    let cases = [
+        (0, 0, 0, 0, OutStop::Done),
+        (1, 1, 0, 0, OutStop::Done),
+        (2, 1, 0, 4, OutStop::Done),
+        (3, 1, 1, 4, OutStop::Done),
+        (4, 1, 1, 4, OutStop::Empty),
+        (9, 1, 1, 4, OutStop::Empty),
+        (16, 1, 1, 4, OutStop::Empty),
+    ];
+    for (n, sent, skipped, lost, stop) in cases {
+        let (report, sink, account) = relay_row(rt.alloc(), 100, n)?;
+        let want = OutReport {
+            sent,
+            skipped,
+            lost,
+            cut: 0,
+            stop,
+        };
+        assert_eq!(rt; report, want, "{n}");
+        assert_eq!(rt;
+            (account.taken, account.lost),
+            (sent + skipped, lost),
+            "{n}"
+        );
+        let len = if sent == 1 { FRAME.len() } else { 0 };
+        assert_eq!(rt; sink.bytes(), &FRAME[..len], "{n}");
+    }
+    Ok(())
+}
+
+#[test]
+fn row_frames_out_cut_at_each_byte(rt: HostRuntime) -> Result<(), Fail> {
+    for cut in 0..6 {
+        let (report, sink, _) = relay_row(rt.alloc(), cut, 9)?;
+        let want = OutReport {
+            sent: 0,
+            skipped: 0,
+            lost: 0,
+            cut,
+            stop: OutStop::WriteFailed,
+        };
+        assert_eq!(rt; report, want, "{cut}");
+        assert_eq!(rt; sink.bytes(), &FRAME[..cut], "{cut}");
+        assert!(rt; sink.has_failed());
+    }
+    Ok(())
+}
+
+/// A tap of the one seat of a closed log that keeps so many packets, attached before packets of two bytes with these
+/// tags were published.
+fn tap_behind(alloc: Global, keep: u64, tags: &[u8]) -> Result<PlainTap, Fail> {
+    let mut log = PlainLog::new(alloc, keep, 1, 2)?;
+    log.attach(0);
+    for tag in tags {
+        if log.is_closed() {
+            return Err("an open log".into());
+        }
+        let _ = log.publish(*tag, &[7, *tag])?;
+    }
+    if log.is_closed() {
+        return Err("an open log".into());
+    }
+    log.close();
+    if log.is_attached(0) {
+        Ok(PlainTap::new(log, 0))
+    } else {
+        Err("a seat that is attached".into())
+    }
+}
+
+#[test]
+fn a_plain_log_goes_out(rt: HostRuntime) -> Result<(), Fail> {
+    let out = [0x24, 9, 0, 2, 7, 0, 0x24, 200, 0, 2, 7, 1];
+    let cases = [
+        (0, 0, 0, OutStop::Done),
+        (1, 0, 1, OutStop::Done),
+        (2, 1, 1, OutStop::Done),
+        (3, 2, 1, OutStop::Done),
+        (16, 2, 1, OutStop::Ended),
+    ];
+    for (n, sent, lost, stop) in cases {
+        let mut tap = tap_behind(rt.alloc(), 2, &[0, 0, 1])?;
+        let mut sink = ListSink::new(rt.alloc(), 100)?;
+        let mut buf = [0; 65_535];
+        let most = tap.packet_bytes();
+        let channels = one_track(9, 200);
+        let report = relay_out(&mut tap, &mut sink, &channels, n, &mut buf[..most]);
+        let want = OutReport {
+            sent,
+            skipped: 0,
+            lost,
+            cut: 0,
+            stop,
+        };
+        assert_eq!(rt; report, want, "{n}");
+        let len = if sent == 0 {
+            0
+        } else if sent == 1 {
+            6
+        } else {
+            12
+        };
+        assert_eq!(rt; sink.bytes(), out.get(..len).unwrap_or(&[]), "{n}");
+    }
+    Ok(())
+}
+
+#[test]
+fn losses_of_any_size_are_added(rt: HostRuntime) -> Result<(), Fail> {
+    let mut list = Vec::with_capacity(rt.alloc(), 3)?;
+    list.push(Delivery::Lost(u64::MAX - 2))?;
+    list.push(Delivery::Lost(1))?;
+    list.push(got(rt.alloc(), u64::MAX - 1, 1, &[0xaa, 0xbb])?)?;
+    let mut tap = ListTap::new(list, 0, 2);
+    let mut sink = ListSink::new(rt.alloc(), 6)?;
+    let channels = one_track(5, 4);
+    let report = relay_out(&mut tap, &mut sink, &channels, 3, &mut [0; 2]);
+    assert_eq!(rt; (report.sent, report.lost), (1, u64::MAX - 1));
+    assert_eq!(rt; sink.bytes(), FRAME.as_slice());
+    Ok(())
+}
+
+/// A sink in memory that counts the writes that it takes.
+#[derive(Drop)]
+struct Counting {
+    sink: ListSink,
+    writes: u32,
+}
+
+impl Sink for Counting {
+    ghost written = { λ c. Some c.sink.written };
+
+    ghost failed = { λ c. c.sink.failed };
+
+    fn write(&mut self, bytes: &[u8]) -> Result<usize, Failed> {
+        let taken = self.sink.write(bytes)?;
+        self.writes = self.writes.wrapping_add(1);
+        Ok(taken)
+    }
+
+    fn has_failed(&self) -> bool {
+        self.sink.has_failed()
+    }
+}
+
+#[test]
+fn frames_are_gathered(rt: HostRuntime) -> Result<(), Fail> {
+    // The size of the buffer, and the writes of sixteen frames of six bytes: on its own each is its head and its data.
+    for (size, writes) in [(0, 32), (6, 16), (32, 3), (96, 1), (100, 1)] {
+        let mut tap = tap_behind(rt.alloc(), 16, &[0; 16])?;
+        let sink = ListSink::new(rt.alloc(), 96)?;
+        let inner = Counting { sink, writes: 0 };
+        let mut sink = Gathering::new(inner, vec![in rt.alloc(); 0; size]?);
+        let mut buf = [0; 65_535];
+        let most = tap.packet_bytes();
+        let channels = one_track(4, 5);
+        let report = relay_out(&mut tap, &mut sink, &channels, 16, &mut buf[..most]);
+        assert!(rt; sink.flush().is_ok());
+        assert_eq!(rt; (report.sent, sink.inner().writes), (16, writes), "{size}");
+        let bytes = sink.into_inner().sink.into_vec();
+        let mut frames = bytes.chunks(6);
+        assert!(rt;
+            bytes.len() == 96 && frames.all(|frame| frame == [0x24, 4, 0, 2, 7, 0].as_slice())
+        );
+    }
+    Ok(())
+}

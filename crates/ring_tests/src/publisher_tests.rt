@@ -1,0 +1,418 @@
+//! Frames that come in and are published.
+ghost use Rattle.std.specs.Prelude.{None, ⊤};
+
+use cursor::{Feed, Packet, PlainFeed, PlainLog, PlainTap, Refused, pump};
+use interleaved::{Failed, ListSource, Source};
+use publisher::{InReport, InStop, is_rtp, point_of, relay_in};
+use rtsp_message::Intake;
+use std::alloc::Global;
+use std::cell::Cell;
+use std::test::Fail;
+use transport_header::{ChannelPair, Point, TrackChannels};
+
+/// An RTP packet of twelve bytes: number 7, timestamp 9000.
+const RTP: [u8; 12] = [0x80, 0x60, 0, 7, 0, 0, 0x23, 0x28, 0, 0, 0, 0];
+
+/// A feed of packets of at most twelve bytes that answers what it is given to answer, one after another, and
+/// counts what it takes.
+#[derive(Drop)]
+struct Answering<'a> {
+    refusals: [Option<Refused>; 4],
+    offered: usize,
+    published: &'a Cell<usize>,
+}
+
+impl Feed for Answering<'_> {
+    ghost told = { λ _. None };
+
+    ghost packet_bytes = { λ _. 12 };
+
+    ghost may_refuse = { λ _. ⊤ };
+
+    ghost publish_gives = { λ _ _ _ _. ⊤ };
+
+    fn publish(&mut self, _tag: u8, bytes: &[u8]) -> Result<u64, Refused> {
+        if bytes.len() > self.packet_bytes() {
+            return Err(Refused::TooLong);
+        }
+        let at = self.offered % 4;
+        self.offered = self.offered.wrapping_add(1);
+        match self.refusals[at] {
+            Some(Refused::TooLong) | None => {
+                self.published.set(self.published.get().saturating_add(1));
+                Ok(0)
+            }
+            Some(refused) => Err(refused),
+        }
+    }
+
+    fn packet_bytes(&self) -> usize {
+        12
+    }
+
+    fn close(self) {}
+}
+
+/// A source of frames of sixteen bytes that looks, at each read, whether all that it gave whole were published.
+#[derive(Drop)]
+struct Passing<'a, S> {
+    inner: S,
+    given: usize,
+    published: &'a Cell<usize>,
+    /// A read came before.
+    late: &'a Cell<bool>,
+}
+
+impl<S: Source> Source for Passing<'_, S> {
+    ghost incoming = { λ s. S.incoming s.inner };
+
+    ghost bound = { λ s. S.bound s.inner };
+
+    ghost failed = { λ s. S.failed s.inner };
+
+    ghost gives = { λ old bytes new. S.gives old.inner bytes new.inner };
+
+    fn read(&mut self, buf: &mut [u8]) -> Result<usize, Failed> {
+        if self.published.get() < self.given / 16 {
+            self.late.set(true);
+        }
+        let count = self.inner.read(buf)?;
+        self.given = self.given.wrapping_add(count);
+        Ok(count)
+    }
+
+    fn left(&self) -> u64 {
+        self.inner.left()
+    }
+
+    fn has_failed(&self) -> bool {
+        self.inner.has_failed()
+    }
+}
+
+/// The points of sixteen tracks, none of which stands anywhere.
+const NO_POINTS: [Option<Point>; 16] = [None; 16];
+
+/// Where an RTP packet of this number stands.
+fn point(seq: u16) -> Point {
+    Point { seq, rtptime: 9000 }
+}
+
+/// The channels of tracks, where they may have them.
+fn set_up(tracks: &[(usize, u8, u8)]) -> TrackChannels {
+    let mut channels = TrackChannels::new();
+    for (track, first, second) in tracks {
+        let pair = ChannelPair {
+            first: *first,
+            second: *second,
+        };
+        if *track < 16 && channels.may_have(*track, pair) {
+            channels.set(*track, pair);
+        }
+    }
+    channels
+}
+
+/// What a stream's frames come to, over any feed.
+fn relay<F: Feed>(
+    alloc: Global,
+    stream: Vec<u8>,
+    fail_at: Option<usize>,
+    feed: &mut F,
+    channels: &TrackChannels,
+    points: &mut [Option<Point>; 16],
+) -> InReport {
+    // A long stream comes in long pieces.
+    let piece = 5 + stream.len() / 16;
+    let mut intake = Intake::new(alloc, ListSource::new(stream, piece, fail_at));
+    let _sixteen = channels.pair_of(0);
+    relay_in(&mut intake, feed, channels, points)
+}
+
+/// The seven counts, and a word for the stop.
+fn told(report: &InReport) -> ([u64; 7], &'static str) {
+    let counts = [
+        report.published,
+        report.pinned,
+        report.oversize,
+        report.worn,
+        report.unkept,
+        report.bad_rtp,
+        report.strangers,
+    ];
+    let stop = match &report.stop {
+        InStop::Message(_) => "message",
+        InStop::End => "end",
+        InStop::Fault(_) => "fault",
+        InStop::ReadFailed => "read failed",
+        InStop::OutOfMemory => "out of memory",
+    };
+    (counts, stop)
+}
+
+/// The first so many bytes of a frame's data: an RTP packet, whose first byte is this one.
+fn put_rtp(stream: &mut Vec<u8>, channel: u8, first: u8, len: u8) -> Result<(), Fail> {
+    stream.extend_from_slice(&[0x24, channel, 0, len])?;
+    for at in 0..len {
+        let byte = if at == 0 {
+            first
+        } else {
+            *RTP.get(usize::from(at)).unwrap_or(&0)
+        };
+        stream.push(byte)?;
+    }
+    Ok(())
+}
+
+/// A feed of packets of at most twelve bytes, whose log has one seat that reads it from the start.
+fn logged(alloc: Global) -> Result<PlainFeed, Fail> {
+    let mut log = PlainLog::new(alloc, 9, 1, 12)?;
+    log.attach(0);
+    if log.is_closed() {
+        return Err("an open log".into());
+    }
+    Ok(PlainFeed::new(log))
+}
+
+/// The packets that were published.
+fn packets_of(alloc: Global, feed: PlainFeed) -> Result<Vec<Packet>, Fail> {
+    let log = feed.into_log();
+    if !log.is_attached(0) {
+        return Err("a seat that is attached".into());
+    }
+    let mut packets = Vec::new(alloc);
+    match pump(alloc, &mut PlainTap::new(log, 0), 99, &mut packets) {
+        Ok(_) => Ok(packets),
+        Err(_) => Err("room for a packet".into()),
+    }
+}
+
+#[test]
+fn row_frames_in(rt: HostRuntime) -> Result<(), Fail> {
+    let alloc = rt.alloc();
+    let mut stream = Vec::new(alloc);
+    // The channel, the first byte and the length of each frame.
+    let frames = [
+        (0, 0x80, 12),
+        (0, 0x80, 11),
+        (0, 0x80, 13),
+        (0, 0x81, 13),
+        (1, 0, 0),
+        (2, 0x80, 12),
+        (0, 0x40, 12),
+        (1, 0, 13),
+        (0, 0x80, 0),
+    ];
+    for (channel, first, len) in frames {
+        put_rtp(&mut stream, channel, first, len)?;
+    }
+    let mut feed = logged(alloc)?;
+    let mut points = NO_POINTS;
+    let channels = set_up(&[(0, 0, 1)]);
+    let report = relay(alloc, stream, None, &mut feed, &channels, &mut points);
+    assert_eq!(rt; told(&report), ([2, 0, 2, 0, 0, 4, 1], "end"));
+    assert!(rt; points[0] == Some(point(7)) && points[1] == None);
+    let packets = packets_of(alloc, feed)?;
+    let [first, second] = packets.as_slice() else {
+        return Err("two packets".into());
+    };
+    assert!(rt; first.tag == 0 && first.bytes.as_slice() == RTP.as_slice());
+    assert!(rt; second.tag == 1 && second.bytes.as_slice().is_empty());
+    Ok(())
+}
+
+/// Appends an RTP packet of twelve bytes with this number as a frame on the channel.
+fn put_numbered(stream: &mut Vec<u8>, channel: u8, number: u8) -> Result<(), Fail> {
+    stream.extend_from_slice(&[0x24, channel, 0, 12, 0x80, 0x60, 0, number])?;
+    stream.extend_from_slice(&RTP[4..])?;
+    Ok(())
+}
+
+#[test]
+fn each_channel_is_that_of_its_own_track(rt: HostRuntime) -> Result<(), Fail> {
+    let alloc = rt.alloc();
+    let mut stream = Vec::new(alloc);
+    for channel in 0..=255 {
+        put_numbered(&mut stream, channel, channel)?;
+    }
+    let mut feed = logged(alloc)?;
+    let mut points = NO_POINTS;
+    // Two tracks, whose channels come in odd order.
+    let channels = set_up(&[(0, 6, 8), (1, 7, 5)]);
+    let report = relay(alloc, stream, None, &mut feed, &channels, &mut points);
+    assert_eq!(rt; told(&report), ([4, 0, 0, 0, 0, 0, 252], "end"));
+    assert!(rt; points[0] == Some(point(6)) && points[1] == Some(point(7)) && points[2] == None);
+    // RTCP of the second track, RTP of the first and of the second, and RTCP of the first.
+    let want = [(3, 5), (0, 6), (2, 7), (1, 8)];
+    let packets = packets_of(alloc, feed)?;
+    assert_eq!(rt; packets.len(), want.len());
+    for (packet, (tag, number)) in packets.iter().zip(want) {
+        assert_eq!(rt;
+            (packet.tag, packet.bytes.as_slice().get(3)),
+            (tag, Some(&number))
+        );
+    }
+    Ok(())
+}
+
+#[test]
+fn each_answer_of_a_feed_is_counted(rt: HostRuntime) -> Result<(), Fail> {
+    let alloc = rt.alloc();
+    let mut stream = Vec::new(alloc);
+    for number in 0..8 {
+        put_numbered(&mut stream, 6, number)?;
+    }
+    put_rtp(&mut stream, 6, 0x80, 13)?;
+    let published = Cell::new(0);
+    let mut feed = Answering {
+        refusals: [
+            None,
+            Some(Refused::Pinned { pins: 3 }),
+            Some(Refused::Worn),
+            Some(Refused::OutOfMemory),
+        ],
+        offered: 0,
+        published: &published,
+    };
+    let mut points = NO_POINTS;
+    let channels = set_up(&[(1, 6, 5)]);
+    let report = relay(alloc, stream, None, &mut feed, &channels, &mut points);
+    assert_eq!(rt; told(&report), ([2, 2, 1, 2, 2, 0, 0], "end"));
+    assert!(rt; points[0] == None && points[1] == Some(point(4)));
+    Ok(())
+}
+
+#[test]
+fn each_frame_is_offered_before_more_is_read(rt: HostRuntime) -> Result<(), Fail> {
+    for piece in [1, 15, 16, 17, 40, 100] {
+        let mut stream = Vec::new(rt.alloc());
+        for number in 0..5 {
+            put_numbered(&mut stream, 0, number)?;
+        }
+        let published = Cell::new(0);
+        let late = Cell::new(false);
+        let source = Passing {
+            inner: ListSource::new(stream, piece, None),
+            given: 0,
+            published: &published,
+            late: &late,
+        };
+        let mut feed = Answering {
+            refusals: [None; 4],
+            offered: 0,
+            published: &published,
+        };
+        let channels = set_up(&[(0, 0, 1)]);
+        let mut points = NO_POINTS;
+        let _sixteen = channels.pair_of(0);
+        let mut intake = Intake::new(rt.alloc(), source);
+        let report = relay_in(&mut intake, &mut feed, &channels, &mut points);
+        assert_eq!(rt;
+            (report.published, published.get(), late.get()),
+            (5, 5, false),
+            "{piece}"
+        );
+    }
+    Ok(())
+}
+
+/// The frames that were published or that there was no memory for.
+fn published_or_unkept(report: &InReport) -> u64 {
+    report.published.saturating_add(report.unkept)
+}
+
+#[test]
+fn no_frame_is_lost_where_memory_is_refused(rt: HostRuntime) -> Result<(), Fail> {
+    let alloc = rt.alloc();
+    let mut stream = Vec::new(alloc);
+    for number in 0..5 {
+        put_numbered(&mut stream, 0, number)?;
+    }
+    let mut feed = logged(alloc)?;
+    let mut points = NO_POINTS;
+    let channels = set_up(&[(0, 0, 1)]);
+    let _sixteen = channels.pair_of(0);
+    let mut intake = Intake::new(alloc, ListSource::new(stream, 40, None));
+    // A run in which one request for memory is refused ends early, or leaves one frame unkept.
+    let first = relay_in(&mut intake, &mut feed, &channels, &mut points);
+    let second = relay_in(&mut intake, &mut feed, &channels, &mut points);
+    let all = published_or_unkept(&first).saturating_add(published_or_unkept(&second));
+    assert_eq!(rt; (all, told(&second).1), (5, "end"));
+    Ok(())
+}
+
+#[test]
+fn each_stop(rt: HostRuntime) -> Result<(), Fail> {
+    let alloc = rt.alloc();
+    let frame = b"$\x01\x00\x01x".as_slice();
+    // What stands behind the first frame, and where the source fails.
+    let cases = [
+        (b"".as_slice(), None, "end"),
+        (b"$\x01\x00\x02x".as_slice(), None, "end"),
+        (
+            b"OPTIONS * RTSP/1.0\r\n\r\n$\x01\x00\x00".as_slice(),
+            None,
+            "message",
+        ),
+        (b"\r\n?\n".as_slice(), None, "fault"),
+        (b"$\x01\x00\x02xy".as_slice(), Some(8), "read failed"),
+    ];
+    for (behind, fail_at, stop) in cases {
+        let mut stream = Vec::from_slice(alloc, frame)?;
+        stream.extend_from_slice(behind)?;
+        let mut feed = PlainFeed::new(PlainLog::new(alloc, 9, 0, 12)?);
+        let mut points = NO_POINTS;
+        let channels = set_up(&[(0, 0, 1)]);
+        let report = relay(alloc, stream, fail_at, &mut feed, &channels, &mut points);
+        assert_eq!(rt; told(&report), ([1, 0, 0, 0, 0, 0, 0], stop));
+    }
+    Ok(())
+}
+
+#[test]
+fn rtp_packets_by_their_bytes(rt: HostRuntime) -> Result<(), Fail> {
+    let mut packet = [0; 72];
+    // The first byte, and how long a packet that begins with it is at least.
+    for (first, least) in [(0x80, 12), (0xbf, 72), (0xa1, 16)] {
+        packet[0] = first;
+        assert!(rt;
+            is_rtp(&packet[..least]) && !is_rtp(&packet[..least - 1]),
+            "{first}"
+        );
+    }
+    for first in [0, 0x40, 0xc0, 0x7f] {
+        packet[0] = first;
+        assert!(rt; !is_rtp(&packet), "{first}");
+    }
+    assert!(rt; !is_rtp(&[]));
+    let point = point_of(&[0x80, 0x60, 0xff, 0xfe, 0xfd, 0xfc, 0xfb, 0xfa, 0, 0, 0, 0]);
+    assert_eq!(rt; (point.seq, point.rtptime), (0xfffe, 0xfdfc_fbfa));
+    Ok(())
+}
+
+/// A frame of so many zero bytes on channel 1.
+fn largest_frame(alloc: Global, len: u16) -> Result<Vec<u8>, Fail> {
+    let [high, low] = len.to_be_bytes();
+    let mut stream = Vec::from_slice(alloc, &[0x24, 1, high, low])?;
+    for _ in 0..len {
+        stream.push(0)?;
+    }
+    Ok(stream)
+}
+
+#[test]
+fn the_largest_frame_is_published(rt: HostRuntime) -> Result<(), Fail> {
+    let alloc = rt.alloc();
+    for (keeps, counts) in [
+        (65_535, [1, 0, 0, 0, 0, 0, 0]),
+        (65_534, [0, 0, 1, 0, 0, 0, 0]),
+    ] {
+        let stream = largest_frame(alloc, 65_535)?;
+        let mut feed = PlainFeed::new(PlainLog::new(alloc, 9, 0, keeps)?);
+        let mut points = NO_POINTS;
+        let channels = set_up(&[(0, 0, 1)]);
+        let report = relay(alloc, stream, None, &mut feed, &channels, &mut points);
+        assert_eq!(rt; told(&report), (counts, "end"), "{keeps}");
+    }
+    Ok(())
+}

@@ -1,0 +1,129 @@
+//! Worked runs, byte for byte, and each way to refuse an input.
+use interleaved::{ListSink, ListSource};
+use ring_script::{PlanFault, StepsEnd, put_trace, read_plan, run_steps, script_of, steps_end};
+use ring_steps::{Actor, StepFault, run};
+use std::alloc::Global;
+use std::test::Fail;
+
+/// A ring that keeps two packets passes a slow seat, which then counts its loss.
+const LOST: &[u8] =
+    b"keep 2\nseats 1\np 41\np 42\np 43\np 44\n0 attach\n0 take\n0 take\ngo 0 p*10 0 p*6 0*8\n";
+
+const LOST_TRACE: &[u8] =
+    b"0 0 load 0 0\n1 p begin 0 0 0\n2 p len 1\n3 p byte 41\n4 p finish 0 1 0\n5 p append 1\n6 p begin 0 0 0\n7 p len 1\n8 p byte 42\n9 p finish 0 1 0\n10 p append 2\n11 0 load 2 0\n12 p begin 0 0 0\n13 p len 1\n14 p byte 43\n15 p finish 0 1 0\n16 p append 3\n17 p begin 0 0 1\n18 0 pin 0 1 1\n19 0 unpin 1 1 1\n20 0 load 3 0\n21 0 load 3 0\n22 0 pin 0 0 2\n23 0 len 1\n24 0 byte 42\n25 0 unpin 1 0 2\n@0 0 attach 0\n@5 p appended 0\n@10 p appended 1\n@16 p appended 2\n@20 0 lost 1\n@21 0 took 1 42\n";
+
+/// What is written for this input, read at most so many bytes at a time, and how the run ends, in words.
+fn steps(
+    alloc: Global,
+    input: &[u8],
+    piece: usize,
+    fail_at: Option<usize>,
+    room: usize,
+) -> Result<String, Fail> {
+    let mut source = ListSource::new(Vec::from_slice(alloc, input)?, piece.max(1), fail_at);
+    let mut sink = ListSink::new(alloc, room)?;
+    let end = run_steps(alloc, &mut source, &mut sink);
+    let (_, line) = steps_end(alloc, &end)?;
+    let text = String::from_utf8_lossy(alloc, sink.bytes())?;
+    Ok(format!(in alloc; "{text}{line}")?)
+}
+
+#[test]
+fn a_plan_is_read_run_and_told(rt: HostRuntime) -> Result<(), Fail> {
+    let alloc = rt.alloc();
+    let plan = read_plan(alloc, LOST).ok().ok_or("a plan")?;
+    let script = script_of(alloc, 1, plan.calls)?;
+    let schedule = plan.schedule.as_slice();
+    let trace = run(alloc, &plan.config, &script, schedule)
+        .ok()
+        .ok_or("a run")?;
+    let mut text = Vec::new(alloc);
+    put_trace(&mut text, &trace)?;
+    assert_eq!(rt; text.as_slice(), LOST_TRACE);
+    assert!(rt; read_plan(alloc, b"keep 2\nkeep 2\n").err() == Some(PlanFault::BadLine(2)));
+    Ok(())
+}
+
+#[test]
+fn ends_and_their_lines(rt: HostRuntime) -> Result<(), Fail> {
+    let rows = [
+        (StepsEnd::Done, 0, ""),
+        (StepsEnd::BadLine(7), 1, "relay: bad line 7"),
+        (
+            StepsEnd::Refused(StepFault::BadConfig),
+            1,
+            "relay: bad config",
+        ),
+        (
+            StepsEnd::Refused(StepFault::BadScript {
+                actor: Actor::Seat(0),
+                call: 0,
+            }),
+            1,
+            "relay: bad script 0 call 0",
+        ),
+        (
+            StepsEnd::Refused(StepFault::BadScript {
+                actor: Actor::P,
+                call: 2,
+            }),
+            1,
+            "relay: bad script p call 2",
+        ),
+        (
+            StepsEnd::Refused(StepFault::BadSchedule(0)),
+            1,
+            "relay: bad schedule at 0",
+        ),
+        (StepsEnd::ReadFailed, 1, "relay: read failed"),
+        (StepsEnd::WriteFailed, 1, "relay: write failed"),
+        (StepsEnd::OutOfMemory, 1, "relay: out of memory"),
+    ];
+    for (end, status, line) in rows {
+        let (is_status, is_line) = steps_end(rt.alloc(), &end)?;
+        assert_eq!(rt; is_status, status);
+        assert_eq!(rt; is_line.as_str(), line);
+    }
+    Ok(())
+}
+
+#[test]
+fn reader_that_fails(rt: HostRuntime) -> Result<(), Fail> {
+    for place in 0..LOST.len() + 1 {
+        let text = steps(rt.alloc(), LOST, 7, Some(place), 1000)?;
+        assert_eq!(rt; text.as_str(), "relay: read failed", "{place}");
+    }
+    Ok(())
+}
+
+#[test]
+fn writer_of_each_room(rt: HostRuntime) -> Result<(), Fail> {
+    for room in 0..LOST_TRACE.len() {
+        let text = steps(rt.alloc(), LOST, 1000, None, room)?;
+        let written = text.as_bytes().strip_suffix(b"relay: write failed");
+        assert_eq!(rt; written, Some(&LOST_TRACE[..room]));
+    }
+    Ok(())
+}
+
+/// 100,000 publishes of six bytes, each of which is ten steps.
+fn long_input(alloc: Global) -> Result<Vec<u8>, Fail> {
+    let mut input = Vec::from_slice(alloc, b"keep 7\nseats 1\n")?;
+    for _ in 0..100_000 {
+        input.extend_from_slice(b"p 000102030405\n")?;
+    }
+    input.extend_from_slice(b"go")?;
+    for _ in 0..10 {
+        input.extend_from_slice(b" p*100000")?;
+    }
+    Ok(input)
+}
+
+#[test]
+fn a_million_steps(rt: HostRuntime) -> Result<(), Fail> {
+    let mut source = ListSource::new(long_input(rt.alloc())?, 100_000, None);
+    let mut sink = ListSink::new(rt.alloc(), 40_000_000)?;
+    let end = run_steps(rt.alloc(), &mut source, &mut sink);
+    assert!(rt; end == StepsEnd::Done && sink.bytes().ends_with(b"@999999 p appended 99999\n"));
+    Ok(())
+}

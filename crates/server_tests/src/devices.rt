@@ -1,0 +1,176 @@
+//! Devices in memory, for tests.
+use cursor::Left;
+use packet_ring::{Pass, Publisher, Subscriber};
+use relay_server::{HangUp, Maker, RingMaker};
+use std::alloc::{AllocError, Global};
+use std::io::{Read, Write};
+use std::sync::atomic::{AtomicBool, AtomicU64, Ordering};
+use std::sync::{Arc, Mutex, Wait};
+use std::time::{Clock, Duration};
+use std::{io, thread};
+
+/// A connection that needs no hanging up.
+#[derive(Clone, Copy, Drop)]
+pub(crate) struct Open;
+
+impl HangUp for Open {
+    fn hang_up(&self) {}
+
+    fn close_writes(&self) {}
+
+    fn limit_waits(&self, _wait: u64) {}
+}
+
+/// Keeps what is written for whoever shares it, and takes so many bytes more.
+#[derive(Drop)]
+pub(crate) struct Written<R> {
+    rt: R,
+    bytes: Arc<Mutex<Vec<u8>>, Global>,
+    room: usize,
+}
+
+impl<R> Written<R> {
+    pub(crate) fn new(rt: R, bytes: Arc<Mutex<Vec<u8>>, Global>, room: usize) -> Written<R> {
+        Written { rt, bytes, room }
+    }
+}
+
+impl<R: Wait> Write for Written<R> {
+    fn write(&mut self, buf: &[u8]) -> io::Result<usize> {
+        let count = buf.len().min(self.room);
+        self.room -= count;
+        self.bytes.lock(&self.rt).extend_from_slice(&buf[..count])?;
+        Ok(count)
+    }
+
+    fn flush(&mut self) -> io::Result<()> {
+        Ok(())
+    }
+}
+
+/// Keeps what is written for whoever shares it. Behind so many bytes it takes nothing until it is let on, for which it
+/// waits at most 10,000 turns of a millisecond.
+#[derive(Drop)]
+pub(crate) struct Held<R> {
+    pub(crate) rt: R,
+    pub(crate) bytes: Arc<Mutex<Vec<u8>>, Global>,
+    pub(crate) free: usize,
+    pub(crate) let_on: Arc<AtomicBool, Global>,
+}
+
+impl<R: Wait + Clock> Write for Held<R> {
+    fn write(&mut self, buf: &[u8]) -> io::Result<usize> {
+        if self.bytes.lock(&self.rt).len() >= self.free {
+            wait_for(&self.rt, &self.let_on);
+        }
+        self.bytes.lock(&self.rt).extend_from_slice(buf)?;
+        Ok(buf.len())
+    }
+
+    fn flush(&mut self) -> io::Result<()> {
+        Ok(())
+    }
+}
+
+/// Waits until a word is set, for at most 10,000 turns of a millisecond.
+pub(crate) fn wait_for<R: Clock>(rt: &R, word: &AtomicBool) {
+    for _ in 0..10_000u32 {
+        if word.load(Ordering::SeqCst) {
+            return;
+        }
+        thread::sleep(rt, Duration::from_millis(1));
+    }
+}
+
+/// Makes rings, of which one is refused memory.
+#[derive(Drop)]
+pub(crate) struct Rings {
+    maker: RingMaker,
+    made: AtomicU64,
+    /// Which one is refused, counted from 0.
+    refused: Option<u64>,
+}
+
+impl Rings {
+    /// Rings of one seat that keep four packets of at most 16 bytes.
+    pub(crate) fn refusing(refused: Option<u64>) -> Rings {
+        Rings {
+            maker: RingMaker::new(4, 1, 16),
+            made: AtomicU64::new(0),
+            refused,
+        }
+    }
+}
+
+impl Maker for Rings {
+    type In = Publisher;
+
+    type Pass = Pass;
+
+    type Out = Subscriber;
+
+    fn make(&self, alloc: Global) -> Result<(Publisher, Vec<Pass>), AllocError> {
+        let place = self.made.fetch_add(1, Ordering::SeqCst);
+        if self.refused == Some(place) {
+            return Err(AllocError);
+        }
+        self.maker.make(alloc)
+    }
+
+    fn attach(&self, pass: Pass) -> Subscriber {
+        self.maker.attach(pass)
+    }
+
+    fn detach(&self, out: Subscriber) -> (Pass, Left) {
+        self.maker.detach(out)
+    }
+
+    fn keep(&self) -> u64 {
+        self.maker.keep()
+    }
+}
+
+/// Gives the one part, and the other once it is let on, for which it waits at most 10,000 turns of a millisecond.
+#[derive(Drop)]
+pub(crate) struct Staged<R> {
+    pub(crate) rt: R,
+    pub(crate) first: Vec<u8>,
+    pub(crate) then: Vec<u8>,
+    pub(crate) let_on: Arc<AtomicBool, Global>,
+    /// How many bytes were given.
+    pub(crate) given: usize,
+}
+
+impl<R> Staged<R> {
+    /// What isn't given yet of the part that it stands in.
+    fn rest(&self) -> &[u8] {
+        let first = self.first.as_slice();
+        if self.given < first.len() {
+            &first[self.given..]
+        } else {
+            self.then.get(self.given - first.len()..).unwrap_or(b"")
+        }
+    }
+}
+
+impl<R: Clock> Read for Staged<R> {
+    fn read(&mut self, buf: &mut [u8]) -> io::Result<usize> {
+        if self.given >= self.first.len() {
+            wait_for(&self.rt, &self.let_on);
+        }
+        let rest = self.rest();
+        let count = rest.len().min(buf.len());
+        buf[..count].copy_from_slice(&rest[..count]);
+        self.given = self.given.saturating_add(count);
+        Ok(count)
+    }
+}
+
+/// These, one behind another.
+pub(crate) fn joined(alloc: Global, parts: &[&[u8]]) -> Result<Vec<u8>, AllocError> {
+    let mut all = Vec::new(alloc);
+    for part in parts {
+        all.extend_from_slice(part)?;
+    }
+    Ok(all)
+}

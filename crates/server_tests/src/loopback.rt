@@ -1,0 +1,194 @@
+//! Clients over loopback, for tests.
+use crate::words::OneWord;
+use log::Log;
+use packet_ring::Pass;
+use relay_server::{Gate, Options, RingMaker, Seat, SharedBook, run_server};
+use session_lock::Book;
+use std::alloc::{AllocError, Global};
+use std::collections::hash_map::RandomState;
+use std::io::{Read, Write};
+use std::net::{Net, Shutdown, SocketAddr, TcpListener, TcpStream};
+use std::random::RandomSource;
+use std::sync::{Arc, Mutex, Wait};
+use std::thread::{JoinHandle, Threads};
+use std::time::{Clock, Duration};
+use std::{io, thread};
+
+/// What is announced: one track of video.
+pub(crate) const ANNOUNCE: &str =
+    "ANNOUNCE rtsp://127.0.0.1:8554/cam RTSP/1.0\r\nCSeq: 2\r\nContent-Length: 137\r\n\r\nv=0\r\no=- 0 0 IN IP4 127.0.0.1\r\ns=No Name\r\nc=IN IP4 127.0.0.1\r\nt=0 0\r\nm=video 0 RTP/AVP 96\r\na=rtpmap:96 H264/90000\r\na=control:streamid=0\r\n";
+
+pub(crate) const OPTIONS: &[u8] = b"OPTIONS * RTSP/1.0\r\nCSeq: 9\r\n\r\n";
+
+/// A peer of a server, which gives up when nothing comes for thirty seconds.
+#[derive(Drop)]
+pub(crate) struct Client {
+    stream: TcpStream,
+    alloc: Global,
+    /// What was read and not asked for yet.
+    rest: Vec<u8>,
+}
+
+impl Client {
+    pub(crate) fn connect<R: Net<Stream = TcpStream>>(
+        rt: &R,
+        alloc: Global,
+        addr: SocketAddr,
+    ) -> io::Result<Client> {
+        let stream = TcpStream::connect(rt, addr)?;
+        stream.set_read_timeout(Some(Duration::from_secs(30)))?;
+        Ok(Client {
+            stream,
+            alloc,
+            rest: Vec::new(alloc),
+        })
+    }
+
+    pub(crate) fn say(&mut self, bytes: &[u8]) -> io::Result<()> {
+        self.stream.write_all(bytes)
+    }
+
+    /// Reads a piece more. `false` at the end.
+    fn read_more(&mut self) -> io::Result<bool> {
+        let mut piece = [0; 4096];
+        let count = self.stream.read(&mut piece)?;
+        self.rest.extend_from_slice(&piece[..count])?;
+        Ok(count > 0)
+    }
+
+    /// The first so many bytes of what was read.
+    fn take(&mut self, count: usize) -> io::Result<Vec<u8>> {
+        let count = count.min(self.rest.len());
+        let taken = Vec::from_slice(self.alloc, &self.rest[..count])?;
+        self.rest = Vec::from_slice(self.alloc, &self.rest[count..])?;
+        Ok(taken)
+    }
+
+    /// The next so many bytes, or fewer where there are no more.
+    pub(crate) fn bytes(&mut self, count: usize) -> io::Result<Vec<u8>> {
+        for _ in 0..100_000u32 {
+            if self.rest.len() >= count || !self.read_more()? {
+                break;
+            }
+        }
+        self.take(count)
+    }
+
+    /// The next bytes up to an empty line, or up to the end.
+    pub(crate) fn head(&mut self) -> io::Result<Vec<u8>> {
+        for _ in 0..100_000u32 {
+            let end = self
+                .rest
+                .as_slice()
+                .windows(4)
+                .position(|four| four == b"\r\n\r\n".as_slice());
+            if let Some(place) = end {
+                return self.take(place.saturating_add(4));
+            }
+            if !self.read_more()? {
+                break;
+            }
+        }
+        self.take(usize::MAX)
+    }
+
+    /// Says nothing more.
+    pub(crate) fn fall_silent(&self) -> io::Result<()> {
+        self.stream.shutdown(Shutdown::Write)
+    }
+
+    /// Asks, and answers the head of the reply.
+    pub(crate) fn ask(&mut self, request: &[u8]) -> io::Result<Vec<u8>> {
+        self.say(request)?;
+        self.head()
+    }
+}
+
+/// The number behind the status code's place in a reply.
+pub(crate) fn status(head: &[u8]) -> u16 {
+    let mut code = 0u16;
+    for byte in head.get(9..12).unwrap_or(b"") {
+        code = code
+            .wrapping_mul(10)
+            .wrapping_add(u16::from(byte.wrapping_sub(b'0')));
+    }
+    code
+}
+
+/// A server that is running in a thread of its own.
+#[derive(Drop)]
+pub(crate) struct Running {
+    pub(crate) addr: SocketAddr,
+    pub(crate) book: SharedBook<Seat<Pass>>,
+    thread: JoinHandle<Result<(), AllocError>>,
+}
+
+impl Running {
+    /// Waits until the server has ended.
+    pub(crate) fn end<R: Threads>(self, rt: &R) -> Result<SharedBook<Seat<Pass>>, AllocError> {
+        let Running {
+            addr: _,
+            book,
+            thread,
+        } = self;
+        thread.join(rt)?;
+        Ok(book)
+    }
+}
+
+/// What a test's server is told.
+#[derive(Clone, Copy)]
+pub(crate) struct Set {
+    pub(crate) accept: u64,
+    pub(crate) seats: usize,
+    /// For so many milliseconds players may stay behind their mount's end; `None` for good.
+    pub(crate) after_end: Option<u64>,
+    /// The milliseconds for which packets gather.
+    pub(crate) gather: u64,
+}
+
+impl Set {
+    /// Packets gather for a millisecond, and players stay when their mount has ended.
+    pub(crate) fn of(accept: u64, seats: usize) -> Set {
+        Set {
+            accept,
+            seats,
+            after_end: None,
+            gather: 1,
+        }
+    }
+}
+
+/// Starts a server whose rings keep 512 packets of at most 16,384 bytes.
+pub(crate) fn start<R, G>(rt: R, alloc: Global, set: Set, gate: G) -> io::Result<Running>
+where
+    R: Threads
+        + Wait
+        + Clock
+        + Log
+        + RandomSource
+        + Net<Listener = TcpListener, Stream = TcpStream>
+        + Copy
+        + Send
+        + Sync
+        + 'static,
+    G: Gate + Drop + Send + Sync + 'static,
+{
+    let listener = TcpListener::bind(&rt, "127.0.0.1:0")?;
+    let addr = listener.local_addr()?;
+    let seats = set.seats.min(1024);
+    let hasher = RandomState::new(&rt)?;
+    let book = Arc::new(alloc, Mutex::new(Book::new(alloc, seats, hasher)))?;
+    let theirs = Arc::try_clone(&book)?;
+    let options = Options {
+        accept: Some(set.accept),
+        gather: set.gather,
+        after_end: set.after_end,
+    };
+    let maker = RingMaker::new(512, seats, 16_384);
+    let thread = thread::spawn(&rt, move || {
+        run_server(rt, alloc, &listener, options, maker, theirs, OneWord, gate)
+    })
+    .map_err(|_| AllocError)?;
+    Ok(Running { addr, book, thread })
+}

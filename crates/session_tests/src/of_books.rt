@@ -1,0 +1,73 @@
+//! Books of many connections and many requests.
+use crate::asking::{accepted, connects};
+use session_lock::{AskFault, Book};
+use session_state::{Act, ConnectFault};
+use std::collections::hash_map::RandomState;
+use std::test::Fail;
+
+/// More connections than may be open at a time, one after the other.
+const IN_TURN: u64 = 5000;
+
+#[test]
+fn who_hangs_up_gives_room_to_others(rt: HostRuntime) -> Result<(), Fail> {
+    let mut book: Book<u16> = Book::new(rt.alloc(), 1, RandomState::new(&rt)?);
+    for number in 1..=IN_TURN {
+        assert!(rt; book.connect() == Ok(number));
+        assert!(rt; book.hangup(number) == Act::None);
+    }
+    for number in 1..=1024 {
+        assert!(rt; book.connect() == Ok(IN_TURN + number));
+    }
+    assert!(rt; book.connect() == Err(ConnectFault::Full));
+    assert!(rt; book.kept() == 2 * 5000 + 1024);
+    Ok(())
+}
+
+/// The room for each hang-up was made when its connection came.
+#[test]
+fn all_that_are_open_hang_up(rt: HostRuntime) -> Result<(), Fail> {
+    let mut book: Book<u16> = Book::new(rt.alloc(), 1, RandomState::new(&rt)?);
+    assert!(rt; connects(&mut book, 1024));
+    for conn in 1..1025 {
+        assert!(rt; book.hangup(conn) == Act::None);
+    }
+    assert!(rt; book.kept() == 2048);
+    Ok(())
+}
+
+/// More requests than a server's connections send in a while.
+const MANY: usize = 3000;
+
+#[test]
+fn many_requests_are_answered(rt: HostRuntime) -> Result<(), Fail> {
+    let alloc = rt.alloc();
+    let mut book: Book<u16> = Book::new(alloc, 0, RandomState::new(&rt)?);
+    assert!(rt; book.connect() == Ok(1));
+    for _ in 0..MANY {
+        assert!(rt;
+            accepted(
+                &mut book,
+                alloc,
+                1,
+                b"OPTIONS * RTSP/1.0\nCSeq: 1\n\n",
+                None
+            )
+            .is_some()
+        );
+    }
+    assert!(rt; book.kept() == MANY + 1);
+    Ok(())
+}
+
+#[test]
+fn faults_have_numbers(rt: HostRuntime) -> Result<(), Fail> {
+    let faults: [AskFault<u16>; 3] = [
+        AskFault::NotOpen { back: None },
+        AskFault::BadOffer { back: None },
+        AskFault::NoMemory { back: None },
+    ];
+    for (fault, number) in faults.into_iter().zip([1, 2, 3]) {
+        assert_eq!(rt; fault.number(), number);
+    }
+    Ok(())
+}

@@ -1,0 +1,57 @@
+//! The names of methods, what a decision is handed, and the laws of decisions.
+use base_syntax::Items;
+use session_state::{Given, Method, laws, read_method};
+use std::test::Fail;
+use transport_header::Point;
+
+#[test]
+fn methods_are_read_by_their_exact_names(rt: HostRuntime) -> Result<(), Fail> {
+    let table: [(&[u8], Option<Method>); 13] = [
+        (b"OPTIONS", Some(Method::Options)),
+        (b"DESCRIBE", Some(Method::Describe)),
+        (b"ANNOUNCE", Some(Method::Announce)),
+        (b"SETUP", Some(Method::Setup)),
+        (b"PLAY", Some(Method::Play)),
+        (b"PAUSE", Some(Method::Pause)),
+        (b"RECORD", Some(Method::Record)),
+        (b"TEARDOWN", Some(Method::Teardown)),
+        (b"GET_PARAMETER", Some(Method::GetParameter)),
+        (b"SET_PARAMETER", None),
+        (b"options", None),
+        (b"OPTIONS ", None),
+        (b"", None),
+    ];
+    for (name, method) in table {
+        assert_eq!(rt; read_method(name), method);
+    }
+    Ok(())
+}
+
+#[test]
+fn what_was_handed_in_is_copied(rt: HostRuntime) -> Result<(), Fail> {
+    let alloc = rt.alloc();
+    let mut points = Vec::new(alloc);
+    points.push(None)?;
+    points.push(Some(Point { seq: 1, rtptime: 2 }))?;
+    let given = Given {
+        word: 0x0000_abcd,
+        points: Items::new(points),
+    };
+    let copied = given.copy(alloc)?;
+    assert_eq!(rt; copied.word, 0x0000_abcd);
+    assert!(rt; copied.points.as_slice() == given.points.as_slice());
+    Ok(())
+}
+
+#[test]
+fn the_laws_are_called() {
+    laws::seats_are_taken_free();
+    laws::refusals_change_nothing();
+    laws::sessions_change_by_their_own();
+    laws::connections_come_first();
+    laws::mounts_differ();
+    laws::mounts_are_found_in_any_list();
+    laws::sessions_differ();
+    laws::sessions_are_told_once();
+    laws::one_reply();
+}

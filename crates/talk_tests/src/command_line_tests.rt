@@ -1,0 +1,271 @@
+//! Command lines, accepted and refused, and what they ask for.
+use clap::Error;
+use relay_command::{Asked, Settings, Task, exit_code, read_words, task_named};
+use relay_talk::{NoWords, WordSource, word_source};
+use std::alloc::Global;
+use std::process::ExitCode;
+use std::test::Fail;
+
+/// What `serve` is to do without options.
+const DEFAULTS: Settings = Settings {
+    keep: 512,
+    seats: 64,
+    packet_bytes: 16_384,
+    accept: None,
+    gather: 5,
+    hang_up_ended: false,
+};
+
+/// What a line asks for, or its error.
+fn asked(alloc: Global, line: &str) -> Result<Result<Asked, Error>, Fail> {
+    let words: Vec<&str> = line.split(' ').collect(alloc)?;
+    Ok(read_words(alloc, words.as_slice()))
+}
+
+/// What a line of `relay serve` asks for. `None` where it is refused.
+fn settings(alloc: Global, line: &str) -> Result<Option<Settings>, Fail> {
+    match asked(alloc, line)? {
+        Ok(Asked::Serve(_, settings)) => Ok(Some(settings)),
+        _ => Ok(None),
+    }
+}
+
+/// Lines of `serve`, and what they ask for.
+const ACCEPTED: [(&str, Settings); 8] = [
+    ("relay serve 127.0.0.1:8554", DEFAULTS),
+    (
+        "relay serve a --keep 1 --seats 1 --packet-bytes 12 --accept 1 --gather 0",
+        Settings {
+            keep: 1,
+            seats: 1,
+            packet_bytes: 12,
+            accept: Some(1),
+            gather: 0,
+            hang_up_ended: false,
+        },
+    ),
+    (
+        "relay serve --keep 4095 --seats 1024 --packet-bytes 65535 --accept 18446744073709551615 --gather 100 --hang-up-ended a",
+        Settings {
+            keep: 4095,
+            seats: 1024,
+            packet_bytes: 65_535,
+            accept: Some(18_446_744_073_709_551_615),
+            gather: 100,
+            hang_up_ended: true,
+        },
+    ),
+    (
+        "relay serve a --keep=7",
+        Settings {
+            keep: 7,
+            ..DEFAULTS
+        },
+    ),
+    (
+        "relay serve a --seats 7",
+        Settings {
+            seats: 7,
+            ..DEFAULTS
+        },
+    ),
+    (
+        "relay serve a --packet-bytes 70",
+        Settings {
+            packet_bytes: 70,
+            ..DEFAULTS
+        },
+    ),
+    (
+        "relay serve a --gather 7",
+        Settings {
+            gather: 7,
+            ..DEFAULTS
+        },
+    ),
+    (
+        "relay serve a --hang-up-ended",
+        Settings {
+            hang_up_ended: true,
+            ..DEFAULTS
+        },
+    ),
+];
+
+#[test]
+fn a_server_does_what_its_line_says(rt: HostRuntime) -> Result<(), Fail> {
+    for (line, want) in ACCEPTED {
+        assert_eq!(rt; settings(rt.alloc(), line)?, Some(want), "{line}");
+    }
+    Ok(())
+}
+
+/// Lines of `serve` that are refused: no address, two of them, a number that is out of its range or none.
+const REFUSED: [&str; 16] = [
+    "relay serve",
+    "relay serve a b",
+    "relay serve a --keep 0",
+    "relay serve a --keep 4096",
+    "relay serve a --keep x",
+    "relay serve a --seats 0",
+    "relay serve a --seats 1025",
+    "relay serve a --packet-bytes 11",
+    "relay serve a --packet-bytes 65536",
+    "relay serve a --accept 0",
+    "relay serve a --accept 18446744073709551616",
+    "relay serve a --gather 101",
+    "relay serve a --gather -1",
+    "relay serve a --hang-up-ended yes",
+    "relay serve a --keep 1 --keep 2",
+    "relay serve a --unknown",
+];
+
+#[test]
+fn a_line_out_of_range_is_refused(rt: HostRuntime) -> Result<(), Fail> {
+    for line in REFUSED {
+        assert_eq!(rt; settings(rt.alloc(), line)?, None, "{line}");
+    }
+    Ok(())
+}
+
+/// Lines that aren't understood, and the status that tells it: asking for help is 0.
+const OTHER_LINES: [(&str, i32); 7] = [
+    ("relay", 2),
+    ("relay play", 2),
+    ("relay talk x", 2),
+    ("relay talk --word", 2),
+    ("relay steps x", 2),
+    ("relay --help", 0),
+    ("relay serve --help", 0),
+];
+
+#[test]
+fn another_line_has_its_status(rt: HostRuntime) -> Result<(), Fail> {
+    for (line, want) in OTHER_LINES {
+        match asked(rt.alloc(), line)? {
+            Ok(_) => assert!(rt; false, "{line} is accepted"),
+            Err(error) => assert_eq!(rt; error.exit_code(), want, "{line}"),
+        }
+    }
+    Ok(())
+}
+
+/// Lines of `talk`, and where its words come from, or why it has none.
+const TALKS: [(&str, Result<WordSource, NoWords>); 8] = [
+    ("relay talk", Ok(WordSource::Drawn)),
+    ("relay talk --word 0000abcd", Ok(WordSource::Fixed(0xabcd))),
+    ("relay talk --word 0000ABCD", Ok(WordSource::Fixed(0xabcd))),
+    (
+        "relay talk --word=FFFFFFFF",
+        Ok(WordSource::Fixed(0xffff_ffff)),
+    ),
+    ("relay talk --word abcd", Err(NoWords::BadWord)),
+    ("relay talk --word 000abcd", Err(NoWords::BadWord)),
+    ("relay talk --word 00000abcd", Err(NoWords::BadWord)),
+    ("relay talk --word=", Err(NoWords::BadWord)),
+];
+
+#[test]
+fn a_talk_has_the_words_of_its_line(rt: HostRuntime) -> Result<(), Fail> {
+    for (line, want) in TALKS {
+        let Ok(Asked::Talk(text)) = asked(rt.alloc(), line)? else {
+            return Err(Fail::from("a talk"));
+        };
+        assert_eq!(rt; word_source(text.as_deref()), want, "{line}");
+    }
+    Ok(())
+}
+
+/// Why a talk has no words, with the status and the line that tell it.
+const WORDLESS: [(NoWords, u8, &str); 2] = [
+    (NoWords::BadWord, 2, "relay: bad word"),
+    (NoWords::NoRandomSource, 1, "relay: no random source"),
+];
+
+#[test]
+fn a_talk_without_words_is_told(rt: HostRuntime) -> Result<(), Fail> {
+    for (why, status, line) in WORDLESS {
+        assert_eq!(rt; why.status(), status, "{line}");
+        assert_eq!(rt; why.line(), line);
+    }
+    Ok(())
+}
+
+const SERVE_HELP: &str = "Serves publishers and players over TCP
+
+Usage: relay serve [OPTIONS] <ADDR>
+
+Arguments:
+  <ADDR>  Where to listen, as 127.0.0.1:8554; port 0 takes a free one
+
+Options:
+      --keep <N>          How many packets a mount keeps for players that are behind, 1 to 4095 [default: 512]
+      --seats <N>         How many players a mount has, 1 to 1024 [default: 64]
+      --packet-bytes <N>  The longest packet, in bytes, 12 to 65535 [default: 16384]
+      --accept <N>        End when N connections were accepted and have ended
+      --gather <MS>       For how long packets gather before players are woken, 0 to 100 milliseconds [default: 5]
+      --hang-up-ended     Hang a player up once the last packet of its mount was written
+  -h, --help              Print help
+
+Examples:
+
+./relay serve 127.0.0.1:8554
+./relay serve 0.0.0.0:554 --keep 2048 --seats 500 --hang-up-ended
+";
+
+const TALK_HELP: &str = "Answers one connection on standard input and standard output
+
+Usage: relay talk [OPTIONS]
+
+Options:
+      --word <HEX8>  The last eight hexadecimal digits of each session identifier [default: drawn at random]
+  -h, --help         Print help
+
+Example: the methods that the relay knows
+
+printf 'OPTIONS * RTSP/1.0\\r\\nCSeq: 1\\r\\n\\r\\n' | ./relay talk --word 0000abcd
+";
+
+const STEPS_HELP: &str = "Runs a ring's schedule from standard input, and writes what each step did
+
+Usage: relay steps
+
+Options:
+  -h, --help  Print help
+
+Example: a seat loses the first of three packets, since the ring keeps two
+
+printf 'keep 2\\nseats 1\\np 41\\np 42\\np 43\\n0 attach\\n0 take\\n0 take\\n0 detach\\ngo 0 p*15 0 0*5 0\\n' | ./relay steps
+";
+
+/// Lines that ask for help, and what they are told.
+const HELPS: [(&str, &str); 3] = [
+    ("relay serve --help", SERVE_HELP),
+    ("relay talk --help", TALK_HELP),
+    ("relay steps --help", STEPS_HELP),
+];
+
+#[test]
+fn the_help_of_a_command_tells_its_options_and_an_example(rt: HostRuntime) -> Result<(), Fail> {
+    let alloc = rt.alloc();
+    for (line, want) in HELPS {
+        match asked(alloc, line)? {
+            Ok(_) => assert!(rt; false, "{line} is accepted"),
+            Err(error) => {
+                let help = format!(in alloc; "{error}")?;
+                assert!(rt; help.as_str() == want, "{help}");
+            }
+        }
+    }
+    Ok(())
+}
+
+#[test]
+fn a_command_is_known_by_its_name(rt: HostRuntime) {
+    assert_eq!(rt; task_named("talk"), Some(Task::Talk));
+    assert_eq!(rt; task_named("steps"), Some(Task::Steps));
+    assert_eq!(rt; task_named("serve"), Some(Task::Serve));
+    assert_eq!(rt; task_named("play"), None);
+    assert!(rt; exit_code(1) == ExitCode::FAILURE);
+    assert!(rt; exit_code(2) == ExitCode::from(2));
+}

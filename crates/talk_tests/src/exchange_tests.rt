@@ -1,0 +1,186 @@
+//! A publisher's connection, byte for byte.
+ghost use Rattle.std.specs.Prelude.{◌≡◌};
+
+use interleaved::{ListSink, ListSource};
+use relay_talk::{FixedWord, TalkEnd, Talker, run_talk};
+use session_state::Words;
+use std::collections::hash_map::RandomState;
+use std::test::Fail;
+
+/// What a publisher sends, and what it reads.
+struct Run {
+    sent: &'static [&'static [u8]],
+    read: &'static [&'static [u8]],
+}
+
+const SETUP: &[u8] =
+    b"SETUP rtsp://127.0.0.1:8554/cam/streamid=0 RTSP/1.0\r\nCSeq: 3\r\nTransport: RTP/AVP/TCP;unicast;interleaved=0-1;mode=record\r\n\r\n";
+
+const DESCRIBE: &[u8] = b"DESCRIBE rtsp://127.0.0.1:8554/cam RTSP/1.0\r\nCSeq: 5\r\n\r\n";
+
+const ACCEPTED: &[u8] =
+    b"RTSP/1.0 200 OK\r\nCSeq: 2\r\n\r\nRTSP/1.0 200 OK\r\nCSeq: 3\r\nSession: 000000010000abcd\r\nTransport: RTP/AVP/TCP;unicast;interleaved=0-1;mode=\"RECORD\"\r\n\r\nRTSP/1.0 200 OK\r\nCSeq: 4\r\nSession: 000000010000abcd\r\n\r\n";
+
+const RUNS: [Run; 4] = [
+    Run {
+        sent: &[
+            b"ANNOUNCE rtsp://127.0.0.1:8554/cam RTSP/1.0\r\nCSeq: 2\r\nContent-Type: application/sdp\r\nContent-Length: 137\r\n\r\n",
+            b"v=0\r\no=- 0 0 IN IP4 127.0.0.1\r\ns=No Name\r\nc=IN IP4 127.0.0.1\r\nt=0 0\r\nm=video 0 RTP/AVP 96\r\na=rtpmap:96 H264/90000\r\na=control:streamid=0\r\n",
+            SETUP,
+            b"RECORD rtsp://127.0.0.1:8554/cam RTSP/1.0\r\nCSeq: 4\r\nSession: 000000010000abcd\r\n\r\n",
+            DESCRIBE,
+        ],
+        read: &[
+            ACCEPTED,
+            b"RTSP/1.0 200 OK\r\nCSeq: 5\r\nContent-Base: rtsp://127.0.0.1:8554/cam/\r\nContent-Type: application/sdp\r\nContent-Length: 149\r\n\r\n",
+            b"v=0\r\no=- 0 0 IN IP4 127.0.0.1\r\ns=No Name\r\nc=IN IP4 127.0.0.1\r\nt=0 0\r\na=control:*\r\nm=video 0 RTP/AVP 96\r\na=rtpmap:96 H264/90000\r\na=control:trackID=0\r\n",
+        ],
+    },
+    Run {
+        sent: &[
+            b"ANNOUNCE rtsp://127.0.0.1:8554/cam RTSP/1.0\r\nCSeq: 2\r\nContent-Type: application/sdp\r\nContent-Length: 179\r\n\r\n",
+            b"v=0\r\no=- 0 0 IN IP4 127.0.0.1\r\ns=No Name\r\nc=IN IP4 127.0.0.1\r\nt=0 0\r\na=tool:x\r\nm=video 0 RTP/AVP 96\r\na=rtpmap:96 H264/90000\r\na=fmtp:96 packetization-mode=1\r\na=control:streamid=0\r\n",
+            SETUP,
+            b"RECORD rtsp://127.0.0.1:8554/cam RTSP/1.0\r\nCSeq: 4\r\nSession: 000000010000abcd\r\nRange: npt=0.000-\r\n\r\n",
+            DESCRIBE,
+        ],
+        read: &[
+            ACCEPTED,
+            b"RTSP/1.0 200 OK\r\nCSeq: 5\r\nContent-Base: rtsp://127.0.0.1:8554/cam/\r\nContent-Type: application/sdp\r\nContent-Length: 191\r\n\r\n",
+            b"v=0\r\no=- 0 0 IN IP4 127.0.0.1\r\ns=No Name\r\nc=IN IP4 127.0.0.1\r\nt=0 0\r\na=tool:x\r\na=control:*\r\nm=video 0 RTP/AVP 96\r\na=rtpmap:96 H264/90000\r\na=fmtp:96 packetization-mode=1\r\na=control:trackID=0\r\n",
+        ],
+    },
+    // A mount ends with its owner's TEARDOWN, and may be announced again.
+    Run {
+        sent: &[
+            b"ANNOUNCE rtsp://h/a RTSP/1.0\nCSeq: 1\nContent-Length: 26\n\nv=0\nm=audio 0 RTP/AVP 0  \n",
+            b"ANNOUNCE rtsp://h/b RTSP/1.0\nCSeq: 2\nContent-Length: 26\n\nv=0\nm=audio 0 RTP/AVP 0  \n",
+            b"SETUP rtsp://h/a/trackID=0 RTSP/1.0\nCSeq: 3\nTransport: RTP/AVP/TCP;mode=record\n\n",
+            b"$\x00\x00\x01xPLAY rtsp://h/a RTSP/1.0\nCSeq: 4\nSession: 000000010000abcd\n\n",
+            b"TEARDOWN rtsp://h/a RTSP/1.0\nCSeq: 5\nSession: 000000010000abcd\n\n",
+            b"ANNOUNCE rtsp://h/a RTSP/1.0\nCSeq: 6\nContent-Length: 26\n\nv=0\nm=audio 0 RTP/AVP 0  \n",
+        ],
+        read: &[
+            b"RTSP/1.0 200 OK\r\nCSeq: 1\r\n\r\n",
+            b"RTSP/1.0 403 Forbidden\r\nCSeq: 2\r\n\r\n",
+            b"RTSP/1.0 200 OK\r\nCSeq: 3\r\nSession: 000000010000abcd\r\nTransport: RTP/AVP/TCP;unicast;interleaved=0-1;mode=\"RECORD\"\r\n\r\n",
+            b"RTSP/1.0 403 Forbidden\r\nCSeq: 4\r\nSession: 000000010000abcd\r\n\r\n",
+            b"RTSP/1.0 200 OK\r\nCSeq: 5\r\nSession: 000000010000abcd\r\n\r\n",
+            b"RTSP/1.0 200 OK\r\nCSeq: 6\r\n\r\n",
+        ],
+    },
+    Run {
+        sent: &[
+            b"DESCRIBE rtsp://h/a RTSP/1.0\nCSeq: 1\n\n",
+            b"PLAY rtsp://h/a RTSP/1.0\nCSeq: 2\n\n",
+        ],
+        read: &[
+            b"RTSP/1.0 404 Not Found\r\nCSeq: 1\r\n\r\n",
+            b"RTSP/1.0 454 Session Not Found\r\nCSeq: 2\r\n\r\n",
+        ],
+    },
+];
+
+#[test]
+fn publishers_are_answered_byte_for_byte(rt: HostRuntime) -> Result<(), Fail> {
+    let alloc = rt.alloc();
+    for run in &RUNS {
+        for piece in [1, 50, 100_000] {
+            let source = ListSource::new(run.sent.concat(alloc)?, piece, None);
+            let mut sink = ListSink::new(alloc, 10_000)?;
+            let mut words = FixedWord(0xabcd);
+            let hasher = RandomState::new(&rt)?;
+            let (end, _last) = run_talk(alloc, hasher, source, &mut sink, &mut words);
+            assert!(rt; end == TalkEnd::Done);
+            assert!(rt; sink.bytes() == run.read.concat(alloc)?.as_slice());
+        }
+    }
+    Ok(())
+}
+
+/// Answers the words from this one on.
+#[derive(Drop)]
+struct CountedWords(u32);
+
+impl Words for CountedWords {
+    ghost gives = { λ old word new. word ≡ old.0 };
+
+    fn word(&mut self) -> u32 {
+        let word = self.0;
+        self.0 = word.wrapping_add(1);
+        word
+    }
+}
+
+/// The SETUP is the fourth message: frames are none, and refused requests are.
+#[test]
+fn each_message_has_a_word(rt: HostRuntime) -> Result<(), Fail> {
+    let alloc = rt.alloc();
+    let input =
+        b"OPTIONS * RTSP/1.0\n\n$\x00\x00\x00ANNOUNCE rtsp://h/a RTSP/1.0\nCSeq: 2\n\nANNOUNCE rtsp://h/a RTSP/1.0\nCSeq: 3\nContent-Length: 26\n\nv=0\nm=audio 0 RTP/AVP 0  \nSETUP rtsp://h/a/trackID=0 RTSP/1.0\nCSeq: 4\nTransport: RTP/AVP/TCP;mode=record\n\n";
+    let source = ListSource::new(Vec::from_slice(alloc, input)?, 100, None);
+    let mut sink = ListSink::new(alloc, 10_000)?;
+    let mut words = CountedWords(10);
+    let (end, _last) = run_talk(alloc, RandomState::new(&rt)?, source, &mut sink, &mut words);
+    assert!(rt; end == TalkEnd::Done);
+    assert!(rt; words.0 == 14);
+    assert!(rt;
+        sink.bytes().ends_with(
+            b"Session: 000000010000000d\r\nTransport: RTP/AVP/TCP;unicast;interleaved=0-1;mode=\"RECORD\"\r\n\r\n"
+        )
+    );
+    Ok(())
+}
+
+#[test]
+fn no_word_is_asked_for_behind_a_failed_write(rt: HostRuntime) -> Result<(), Fail> {
+    let alloc = rt.alloc();
+    let input = b"OPTIONS * RTSP/1.0\nCSeq: 1\n\nOPTIONS * RTSP/1.0\nCSeq: 2\n\n";
+    let source = ListSource::new(Vec::from_slice(alloc, input)?, 100, None);
+    let mut sink = ListSink::new(alloc, 3)?;
+    let mut words = CountedWords(10);
+    let (end, _last) = run_talk(alloc, RandomState::new(&rt)?, source, &mut sink, &mut words);
+    assert!(rt; end == TalkEnd::WriteFailed && words.0 == 11);
+    Ok(())
+}
+
+/// More requests than a reader holds at a time.
+const MANY: usize = 2000;
+
+#[test]
+fn many_requests_of_one_talk(rt: HostRuntime) -> Result<(), Fail> {
+    let alloc = rt.alloc();
+    let mut input = Vec::new(alloc);
+    for _ in 0..MANY {
+        input.extend_from_slice(b"GET_PARAMETER * RTSP/1.0\nCSeq: 1\n\n")?;
+    }
+    let reply = b"RTSP/1.0 200 OK\r\nCSeq: 1\r\n\r\n";
+    let source = ListSource::new(input, 5000, None);
+    let mut sink = ListSink::new(alloc, 100_000)?;
+    let (end, _last) = run_talk(
+        alloc,
+        RandomState::new(&rt)?,
+        source,
+        &mut sink,
+        &mut CountedWords(10),
+    );
+    assert!(rt; end == TalkEnd::Done);
+    assert!(rt; sink.bytes().len() == MANY * reply.len());
+    assert!(rt;
+        sink.bytes()
+            .chunks(reply.len())
+            .all(|one| one == reply.as_slice())
+    );
+    Ok(())
+}
+
+#[test]
+fn a_connection_leaves_its_book(rt: HostRuntime) -> Result<(), Fail> {
+    let Ok(mut talker) = Talker::connect(rt.alloc(), RandomState::new(&rt)?) else {
+        return Err(Fail::from("it comes"));
+    };
+    assert!(rt; talker.book.is_open(1));
+    talker.leave();
+    assert!(rt; !talker.book.is_open(1) && talker.book.kept() == 2);
+    Ok(())
+}

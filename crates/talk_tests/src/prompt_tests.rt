@@ -1,0 +1,174 @@
+//! Each answer is written before more is read. No contract says this of the two devices of a talk, so it is tried.
+use interleaved::{ListSink, ListSource, Reading, Source, Writing};
+use relay_talk::{FixedWord, TalkEnd, run_talk};
+use rtsp_message::Fault;
+use std::alloc::Global;
+use std::cell::Cell;
+use std::collections::hash_map::RandomState;
+use std::io;
+use std::io::{Read, Write};
+use std::test::Fail;
+
+const OPTIONS: &[u8] = b"OPTIONS * RTSP/1.0\r\nCSeq: 1\r\n\r\n";
+
+/// Two requests in one piece.
+const TWO: &[u8] = b"OPTIONS * RTSP/1.0\r\nCSeq: 1\r\n\r\nOPTIONS * RTSP/1.0\r\nCSeq: 1\r\n\r\n";
+
+/// A request and the beginning of the next one, and its rest.
+const AND_A_HALF: &[u8] = b"OPTIONS * RTSP/1.0\r\nCSeq: 1\r\n\r\nOPTIONS * RT";
+
+const OTHER_HALF: &[u8] = b"SP/1.0\r\nCSeq: 1\r\n\r\n";
+
+/// What comes in, one piece a read, and how often it was read and written.
+#[derive(Drop)]
+struct Wire<'a> {
+    pieces: &'a [&'a [u8]],
+    reads: Cell<usize>,
+    writes: Cell<usize>,
+    /// A read came while an answer to a piece was due.
+    late: Cell<bool>,
+}
+
+#[derive(Drop)]
+struct Asking<'a> {
+    wire: &'a Wire<'a>,
+}
+
+impl Read for Asking<'_> {
+    fn read(&mut self, buf: &mut [u8]) -> io::Result<usize> {
+        let reads = self.wire.reads.get();
+        self.wire.reads.set(reads.saturating_add(1));
+        if self.wire.writes.get() < reads.min(self.wire.pieces.len()) {
+            self.wire.late.set(true);
+        }
+        match self.wire.pieces.get(reads) {
+            Some(piece) if piece.len() <= buf.len() => {
+                buf[..piece.len()].copy_from_slice(piece);
+                Ok(piece.len())
+            }
+            _ => Ok(0),
+        }
+    }
+}
+
+/// Takes each answer whole, so that a write is an answer.
+#[derive(Drop)]
+struct Answered<'a> {
+    wire: &'a Wire<'a>,
+}
+
+impl Write for Answered<'_> {
+    fn write(&mut self, buf: &[u8]) -> io::Result<usize> {
+        let writes = self.wire.writes.get();
+        self.wire.writes.set(writes.saturating_add(1));
+        Ok(buf.len())
+    }
+
+    fn flush(&mut self) -> io::Result<()> {
+        Ok(())
+    }
+}
+
+#[test]
+fn an_answer_is_written_before_more_is_read(rt: HostRuntime) -> Result<(), Fail> {
+    let rows = [
+        ([OPTIONS, OPTIONS, OPTIONS], TalkEnd::Done, 4),
+        // Each answer is a write of its own, and none waits for the rest of another request.
+        ([TWO, OPTIONS, b""], TalkEnd::Done, 3),
+        ([AND_A_HALF, OTHER_HALF, OPTIONS], TalkEnd::Done, 4),
+        (
+            // Behind a fault nothing is read.
+            [OPTIONS, OPTIONS, b"HELLO\r\n"],
+            TalkEnd::StreamFault(Fault::BadLine),
+            3,
+        ),
+    ];
+    for (pieces, want, reads) in rows {
+        let wire = Wire {
+            pieces: pieces.as_slice(),
+            reads: Cell::new(0),
+            writes: Cell::new(0),
+            late: Cell::new(false),
+        };
+        let reader = Reading::new(Asking { wire: &wire });
+        let mut writer = Writing::new(Answered { wire: &wire });
+        let (end, _reader) = run_talk(
+            rt.alloc(),
+            RandomState::new(&rt)?,
+            reader,
+            &mut writer,
+            &mut FixedWord(0),
+        );
+        assert!(rt; end == want);
+        assert_eq!(rt; (wire.reads.get(), wire.writes.get()), (reads, 3));
+        assert!(rt; !wire.late.get());
+    }
+    Ok(())
+}
+
+#[test]
+fn nothing_is_read_behind_a_failed_write(rt: HostRuntime) -> Result<(), Fail> {
+    let alloc = rt.alloc();
+    let mut input = Vec::from_slice(alloc, OPTIONS)?;
+    input.extend_from_slice(OPTIONS)?;
+    let source = ListSource::new(input, OPTIONS.len(), None);
+    let mut sink = ListSink::new(alloc, 0)?;
+    let (end, last) = run_talk(
+        alloc,
+        RandomState::new(&rt)?,
+        source,
+        &mut sink,
+        &mut FixedWord(0),
+    );
+    assert!(rt; end == TalkEnd::WriteFailed);
+    assert_eq!(rt; last.left(), OPTIONS.len() as u64);
+    Ok(())
+}
+
+/// A request of many fields, with a body of 1,000 bytes.
+fn long_request(alloc: Global) -> Result<Vec<u8>, Fail> {
+    let mut input = Vec::from_slice(
+        alloc,
+        b"OPTIONS * RTSP/1.0\r\nCSeq: 1\r\nUser-Agent: x\r\nFrom: a\r\nFrom: b\r\nDate: c\r\nContent-Length: 1000\r\n\r\n",
+    )?;
+    for _ in 0..1000 {
+        input.push(b'b')?;
+    }
+    Ok(input)
+}
+
+/// Whether a talk ends well, and with an answer to OPTIONS.
+fn is_answered<R: Read + Drop>(alloc: Global, hasher: RandomState, reader: R) -> bool {
+    let mut out = Vec::new(alloc);
+    let mut writer = Writing::new(&mut out);
+    let (end, _reader) = run_talk(
+        alloc,
+        hasher,
+        Reading::new(reader),
+        &mut writer,
+        &mut FixedWord(0),
+    );
+    end == TalkEnd::Done
+        && out
+            .as_slice()
+            .starts_with(b"RTSP/1.0 200 OK\r\nCSeq: 1\r\nPublic: ")
+}
+
+#[test]
+fn a_request_of_many_fields_with_a_body(rt: HostRuntime) -> Result<(), Fail> {
+    let input = long_request(rt.alloc())?;
+    assert!(rt; is_answered(rt.alloc(), RandomState::new(&rt)?, input.as_slice()));
+    Ok(())
+}
+
+#[test]
+fn options_cut_in_two_at_each_place(rt: HostRuntime) -> Result<(), Fail> {
+    for place in 0..OPTIONS.len() {
+        let whole = OPTIONS[..place].chain(&OPTIONS[place..]);
+        assert!(rt;
+            is_answered(rt.alloc(), RandomState::new(&rt)?, whole),
+            "{place}"
+        );
+    }
+    Ok(())
+}

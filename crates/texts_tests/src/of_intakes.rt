@@ -1,0 +1,232 @@
+//! What an intake reads, and when: a source that counts its reads. How much room a reader and its units take.
+use interleaved::{Failed, ListSource, Source};
+use rtsp_message::laws::{any_pieces, one_reading, readings_compose};
+use rtsp_message::{Intake, Next, Reader, Unit};
+use std::alloc::Global;
+use std::cell::Cell;
+use std::test::Fail;
+
+/// A source that counts its reads, and gives at most `first` bytes in the first of them.
+#[derive(Drop)]
+struct Watched<'a, S> {
+    inner: S,
+    first: usize,
+    reads: &'a Cell<usize>,
+}
+
+impl<'a, S: Source> Source for Watched<'a, S> {
+    ghost incoming = { λ s. S.incoming s.inner };
+
+    ghost bound = { λ s. S.bound s.inner };
+
+    ghost failed = { λ s. S.failed s.inner };
+
+    ghost gives = { λ old bytes new. S.gives old.inner bytes new.inner };
+
+    fn read(&mut self, buf: &mut [u8]) -> Result<usize, Failed> {
+        let reads = self.reads.get();
+        self.reads.set(reads.saturating_add(1));
+        if reads > 0 || self.first == 0 {
+            return self.inner.read(buf);
+        }
+        let most = buf.len().min(self.first);
+        self.inner.read(&mut buf[..most])
+    }
+
+    fn left(&self) -> u64 {
+        self.inner.left()
+    }
+
+    fn has_failed(&self) -> bool {
+        self.inner.has_failed()
+    }
+}
+
+/// An intake of these bytes, at most `piece` of them a read and `first` in the first.
+fn watching<'a>(
+    alloc: Global,
+    bytes: &[u8],
+    first: usize,
+    piece: usize,
+    reads: &'a Cell<usize>,
+) -> Result<Intake<Watched<'a, ListSource>>, Fail> {
+    let inner = ListSource::new(Vec::from_slice(alloc, bytes)?, piece.max(1), None);
+    Ok(Intake::new(
+        alloc,
+        Watched {
+            inner,
+            first,
+            reads,
+        },
+    ))
+}
+
+/// A message, a frame, a message, and a pad.
+const UNITS: &[u8] =
+    b"OPTIONS * RTSP/1.0\r\nCSeq: 1\r\n\r\n$\x02\x00\x03abcPLAY * RTSP/1.0\r\nCSeq: 2\r\n\r\n\r\n";
+
+/// So many pieces of this size have so many bytes.
+fn pieces_of(size: usize, bytes: usize) -> usize {
+    bytes.div_ceil(size.max(1))
+}
+
+/// How often the source was read when each of so many calls had been answered. It gives at most `first` bytes in the
+/// first read, and `piece` in each later one.
+fn reads_by_call(
+    alloc: Global,
+    bytes: &[u8],
+    (first, piece): (usize, usize),
+    calls: usize,
+) -> Result<Vec<usize>, Fail> {
+    let reads = Cell::new(0);
+    let mut intake = watching(alloc, bytes, first, piece, &reads)?;
+    let mut counts = Vec::new(alloc);
+    for _ in 0..calls {
+        let _ = intake.next();
+        counts.push(reads.get())?;
+    }
+    Ok(counts)
+}
+
+#[test]
+fn no_read_while_a_unit_is_at_hand(rt: HostRuntime) -> Result<(), Fail> {
+    for piece in 1..70 {
+        let all = pieces_of(piece, 68).saturating_add(1);
+        // The units end at 31, 38 and 66, and the stream at 68. The last read finds the end.
+        let want = [
+            pieces_of(piece, 31),
+            pieces_of(piece, 38),
+            pieces_of(piece, 66),
+            all,
+            all,
+        ];
+        let counts = reads_by_call(rt.alloc(), UNITS, (piece, piece), 5)?;
+        assert_eq!(rt; counts.as_slice(), want.as_slice());
+    }
+    Ok(())
+}
+
+#[test]
+fn no_read_behind_a_fault(rt: HostRuntime) -> Result<(), Fail> {
+    for piece in 1..24 {
+        let want = [pieces_of(piece, 12), pieces_of(piece, 12)];
+        let counts = reads_by_call(rt.alloc(), b"A B C\nX : 1\n and more", (piece, piece), 2)?;
+        assert_eq!(rt; counts.as_slice(), want.as_slice());
+    }
+    Ok(())
+}
+
+/// OPTIONS as a client sends it first.
+const OPTIONS: &[u8] = b"OPTIONS * RTSP/1.0\r\nCSeq: 1\r\n\r\n";
+
+#[test]
+fn a_request_in_two_reads(rt: HostRuntime) -> Result<(), Fail> {
+    for place in 1..OPTIONS.len() {
+        let counts = reads_by_call(rt.alloc(), OPTIONS, (place, 1000), 1)?;
+        assert_eq!(rt; counts.as_slice(), [2].as_slice());
+    }
+    Ok(())
+}
+
+/// What an intake answers to so many calls.
+fn answers(alloc: Global, source: ListSource, calls: usize) -> Result<String, Fail> {
+    let mut intake = Intake::new(alloc, source);
+    let mut out = String::new(alloc);
+    for _ in 0..calls {
+        match intake.next() {
+            Next::Unit(_) => out.push_str("unit;")?,
+            Next::End => out.push_str("end;")?,
+            Next::Fault(_) => out.push_str("fault;")?,
+            Next::ReadFailed => out.push_str("read failed;")?,
+            Next::OutOfMemory => out.push_str("out of memory;")?,
+        }
+    }
+    Ok(out)
+}
+
+/// A stream, the place at which its source fails, and what an intake answers to five calls.
+const ANSWERS: [(&[u8], Option<usize>, &str); 3] = [
+    (UNITS, None, "unit;unit;unit;end;end;"),
+    (
+        UNITS,
+        Some(40),
+        "unit;unit;read failed;read failed;read failed;",
+    ),
+    (b"\nA\nB", None, "fault;fault;fault;fault;fault;"),
+];
+
+#[test]
+fn an_intake_answers_for_good(rt: HostRuntime) -> Result<(), Fail> {
+    for (stream, fail_at, want) in ANSWERS {
+        let source = ListSource::new(Vec::from_slice(rt.alloc(), stream)?, 3, fail_at);
+        assert_eq!(rt; answers(rt.alloc(), source, 5)?.as_str(), want);
+    }
+    Ok(())
+}
+
+/// The reader's room after a piece of so many pads and these bytes.
+fn room_after(alloc: Global, pads: usize, end: &[u8]) -> Result<usize, Fail> {
+    let mut piece = Vec::from_elem(alloc, b'\n', pads)?;
+    piece.extend_from_slice(end)?;
+    let mut reader = Reader::new(alloc);
+    let _ = reader.feed(piece.as_slice())?;
+    Ok(reader.room())
+}
+
+#[test]
+fn a_reader_holds_no_more_than_waits(rt: HostRuntime) -> Result<(), Fail> {
+    let rows = [
+        (4_000_000, b"OPT".as_slice(), 3),
+        (4_000_000, b"$\x00\x00\x00", 0),
+        (4_000_000, b"OPT\nIONS", 0),
+        (0, OPTIONS, 0),
+        (0, b"OPTIONS * RTSP/1.0\r\nCS", 22),
+    ];
+    for (pads, end, want) in rows {
+        assert_eq!(rt; room_after(rt.alloc(), pads, end)?, want);
+    }
+    Ok(())
+}
+
+/// The room of a unit's body or data.
+fn unit_room(unit: Unit) -> usize {
+    match unit {
+        Unit::Message(request) => request.body.into_vec().capacity(),
+        Unit::Frame(frame) => frame.payload.into_vec().capacity(),
+    }
+}
+
+#[test]
+fn a_unit_keeps_no_room_of_its_piece(rt: HostRuntime) -> Result<(), Fail> {
+    let mut piece = Vec::from_elem(rt.alloc(), b'\n', 100_000)?;
+    piece.extend_from_slice(b"$\x00\x00\x03abcOPTIONS * RTSP/1.0\r\nContent-Length: 2\r\n\r\nab")?;
+    let mut reader = Reader::new(rt.alloc());
+    let units = reader.feed(piece.as_slice())?.units;
+    assert_eq!(rt; units.len(), 2);
+    for unit in units {
+        assert!(rt; unit_room(unit) <= 3);
+    }
+    Ok(())
+}
+
+#[test]
+fn each_unit_is_one_less(rt: HostRuntime) -> Result<(), Fail> {
+    let alloc = rt.alloc();
+    let bytes = Vec::from_slice(alloc, b"$\x00\x00\x00$\x00\x00\x00$\x00\x00")?;
+    let mut intake = Intake::new(alloc, ListSource::new(bytes, 20, None));
+    // The first unit is read with all the bytes: one unit more is read, and three bytes wait.
+    for (frame, left) in [(true, 4), (true, 3), (false, 3)] {
+        let next = intake.next();
+        assert_eq!(rt; matches!(&next, Next::Unit(_)), frame, "{left}");
+        assert_eq!(rt; intake.left(), left);
+    }
+    Ok(())
+}
+
+#[test]
+fn laws_hold(_rt: HostRuntime) -> Result<(), Fail> {
+    one_reading();
+    readings_compose();
+    any_pieces();
+    Ok(())
+}

@@ -1,0 +1,341 @@
+//! Cases of a book, and of a world that is asked the same.
+
+use crate::arguments::{Arguments, short_of};
+use crate::fault::Fault;
+use crate::told::Told;
+use base_syntax::{Items, cut, read_number};
+use rtsp_message::{Reader, Reply, Request, Unit, put_reply};
+use session_lock::{Answer, AskFault, Book};
+use session_state::{Act, ConnectFault, Given, Session, State, World};
+use std::alloc::{AllocError, Global};
+use std::collections::hash_map::RandomState;
+use transport_header::Point;
+
+/// The most seats that a mount may have.
+const MOST_SEATS: u32 = 1024;
+
+/// A book and a world in which the same has happened.
+#[derive(Drop)]
+pub struct BookCase {
+    alloc: Global,
+    hasher: RandomState,
+    seats: usize,
+    book: Book<u16>,
+    world: World,
+    /// What the following requests are decided with.
+    given: Given,
+    /// How many passes the next request offers, where that is told.
+    offer: Option<u32>,
+    /// How many passes were offered so far: these are their numbers.
+    offered: u16,
+}
+
+impl BookCase {
+    /// A book and a world in which nothing has happened. Each mount has one seat.
+    pub fn new(alloc: Global, hasher: RandomState) -> BookCase {
+        BookCase {
+            alloc,
+            hasher,
+            seats: 1,
+            book: Book::new(alloc, 1, hasher),
+            world: World::new(alloc, 1, hasher),
+            given: Given {
+                word: 7,
+                points: Items::empty(alloc),
+            },
+            offer: None,
+            offered: 0,
+        }
+    }
+
+    pub fn call(
+        &mut self,
+        word: &[u8],
+        arguments: &mut Arguments<'_>,
+        told: &mut Told,
+    ) -> Result<(), Fault> {
+        match word {
+            b"seats" => self.seat(arguments),
+            b"word" => {
+                self.given.word = arguments.hex()?;
+                Ok(())
+            }
+            b"points" => self.place(arguments),
+            b"offer" => {
+                self.offer = Some(arguments.number()?);
+                Ok(())
+            }
+            b"connect" => self.connect(arguments.number_or(1)?, told),
+            b"hangup" => self.hangup(u64::from(arguments.number()?), told),
+            b"back" => self.give_back(arguments, told),
+            b"kept" => Ok(told.number(Some(self.book.kept() as u64))?),
+            _ => self.look_up(word, arguments, told),
+        }
+    }
+
+    /// Tells something of a connection.
+    fn look_up(
+        &self,
+        word: &[u8],
+        arguments: &mut Arguments<'_>,
+        told: &mut Told,
+    ) -> Result<(), Fault> {
+        match word {
+            b"open" => {
+                let conn = u64::from(arguments.number()?);
+                let is_open = self.book.is_open(conn);
+                told.truth(is_open)?;
+                tell_agreement(is_open == self.world.is_open(conn), told)?;
+            }
+            b"mount" => {
+                let conn = u64::from(arguments.number()?);
+                let mount = self.book.mount_of(conn);
+                told.number(mount)?;
+                tell_agreement(mount == self.world.mount_of(conn), told)?;
+            }
+            b"state" => {
+                let conn = u64::from(arguments.number()?);
+                let of_book = state_text(self.alloc, self.book.session_of(conn))?;
+                let of_world = state_text(self.alloc, self.world.session_of(conn))?;
+                told.fact(of_world.as_bytes())?;
+                tell_agreement(of_book.as_str() == of_world.as_str(), told)?;
+            }
+            _ => return Err(Fault::UnknownWord),
+        }
+        Ok(())
+    }
+
+    /// Begins anew, with so many seats a mount.
+    fn seat(&mut self, arguments: &mut Arguments<'_>) -> Result<(), Fault> {
+        let seats = arguments.number_to(MOST_SEATS)? as usize;
+        self.seats = seats;
+        self.book = Book::new(self.alloc, seats, self.hasher);
+        self.world = World::new(self.alloc, seats, self.hasher);
+        Ok(())
+    }
+
+    /// Places the points of the tracks, each as `SEQ/RTPTIME` or `-`.
+    fn place(&mut self, arguments: &mut Arguments<'_>) -> Result<(), Fault> {
+        let mut points = Items::empty(self.alloc);
+        for word in arguments.words(self.alloc)? {
+            points.push(read_point(word)?)?;
+        }
+        self.given.points = points;
+        Ok(())
+    }
+
+    /// Lets so many connections come, and tells the last number.
+    fn connect(&mut self, count: u32, told: &mut Told) -> Result<(), Fault> {
+        let mut last = None;
+        for _ in 0..count {
+            let kept = self.book.kept();
+            let came = connected(self.book.connect())?;
+            tell_agreement(connected(self.world.connect())? == came, told)?;
+            self.tell_rise(kept, usize::from(came.is_some()), told)?;
+            last = came;
+        }
+        match last {
+            Some(conn) => told.number(Some(conn))?,
+            None => told.fact(b"full")?,
+        }
+        Ok(())
+    }
+
+    fn hangup(&mut self, conn: u64, told: &mut Told) -> Result<(), Fault> {
+        let kept = self.book.kept();
+        let was_open = self.book.is_open(conn);
+        let act = self.book.hangup(conn);
+        told.fact(act_text(self.alloc, act)?.as_bytes())?;
+        tell_agreement(self.world.hangup(conn) == act, told)?;
+        self.tell_rise(kept, usize::from(was_open), told)
+    }
+
+    fn give_back(&mut self, arguments: &mut Arguments<'_>, told: &mut Told) -> Result<(), Fault> {
+        let mount = u64::from(arguments.number()?);
+        let seat = arguments.number()? as usize;
+        let pass = arguments.short()?;
+        let kept = self.book.kept();
+        let back = self.book.give_back(mount, seat, pass);
+        match back {
+            None => told.fact(b"taken")?,
+            Some(pass) => {
+                let text = format!(in self.alloc; "returned {pass}")?;
+                told.fact(text.as_bytes())?;
+            }
+        }
+        let taken = back.is_none();
+        tell_agreement(self.world.back(mount, seat) == taken, told)?;
+        self.tell_rise(kept, usize::from(taken), told)
+    }
+
+    /// Asks what a text of one request says, for a connection.
+    pub fn ask(&mut self, conn: u64, bytes: &[u8], told: &mut Told) -> Result<(), Fault> {
+        let request = read_request(self.alloc, bytes)?;
+        let offer = self.next_offer(&request)?;
+        let kept = self.book.kept();
+        match self.book.ask(conn, &request, &self.given, offer) {
+            Ok(answer) => {
+                put_reply(&mut told.text, &answer.reply)?;
+                let act = answer_text(self.alloc, &answer)?;
+                told.fact(act.as_bytes())?;
+                let agrees = self.world_agrees(conn, &request, &answer, &told.text)?;
+                tell_agreement(agrees, told)?;
+                self.tell_rise(kept, 1, told)
+            }
+            Err(fault) => {
+                let text = refusal_text(self.alloc, &fault)?;
+                told.fact(text.as_bytes())?;
+                self.tell_rise(kept, 0, told)
+            }
+        }
+    }
+
+    /// The passes that the next request offers: as many as was told, or else one for each seat with ANNOUNCE.
+    fn next_offer(&mut self, request: &Request) -> Result<Option<Vec<u16>>, AllocError> {
+        let announces = request.method.as_slice() == b"ANNOUNCE".as_slice();
+        let count = match self.offer.take() {
+            Some(count) => count as usize,
+            None if announces => self.seats,
+            None => return Ok(None),
+        };
+        let mut passes = Vec::new(self.alloc);
+        for _ in 0..count {
+            self.offered = self.offered.wrapping_add(1);
+            passes.push(self.offered)?;
+        }
+        Ok(Some(passes))
+    }
+
+    /// Whether the world answers a request so, and tells the same reply before.
+    fn world_agrees(
+        &mut self,
+        conn: u64,
+        request: &Request,
+        answer: &Answer<u16>,
+        text: &[u8],
+    ) -> Result<bool, AllocError> {
+        if !self.world.is_open(conn) {
+            return Ok(false);
+        }
+        let foreseen = self.world.reply_of(self.alloc, conn, request, &self.given)?;
+        let (reply, act) = self.world.decide(self.alloc, conn, request, &self.given)?;
+        let foreseen = reply_text(self.alloc, &foreseen)?;
+        let reply = reply_text(self.alloc, &reply)?;
+        Ok(act == answer.act && foreseen.as_slice() == text && reply.as_slice() == text)
+    }
+
+    /// Tells how many entries the book keeps, unless they are so many more than before.
+    fn tell_rise(&self, before: usize, rise: usize, told: &mut Told) -> Result<(), Fault> {
+        let kept = self.book.kept();
+        if kept != before.saturating_add(rise) {
+            let text = format!(in self.alloc; "kept {kept}")?;
+            told.fact(text.as_bytes())?;
+        }
+        Ok(())
+    }
+}
+
+/// Tells where the world told something else than the book.
+fn tell_agreement(agrees: bool, told: &mut Told) -> Result<(), AllocError> {
+    if agrees {
+        Ok(())
+    } else {
+        told.fact(b"world differs")
+    }
+}
+
+/// The number of a connection that came. `None` where there are too many.
+fn connected(came: Result<u64, ConnectFault>) -> Result<Option<u64>, Fault> {
+    match came {
+        Ok(conn) => Ok(Some(conn)),
+        Err(ConnectFault::Full) => Ok(None),
+        Err(ConnectFault::OutOfMemory) => Err(Fault::OutOfMemory),
+    }
+}
+
+/// The one request that bytes are.
+fn read_request(alloc: Global, bytes: &[u8]) -> Result<Request, Fault> {
+    let fed = Reader::new(alloc).feed(bytes)?;
+    let mut units = fed.units;
+    match (units.pop(), units.is_empty()) {
+        (Some(Unit::Message(request)), true) => Ok(request),
+        _ => Err(Fault::NoMessage),
+    }
+}
+
+/// A point, as `SEQ/RTPTIME`, or `-` for none.
+fn read_point(word: &[u8]) -> Result<Option<Point>, Fault> {
+    let (sequence, Some(timestamp)) = cut(word, b'/') else {
+        return if word == b"-".as_slice() {
+            Ok(None)
+        } else {
+            Err(Fault::BadNumber)
+        };
+    };
+    Ok(Some(Point {
+        seq: short_of(sequence)?,
+        rtptime: read_number(timestamp, u32::MAX).ok_or(Fault::BadNumber)?,
+    }))
+}
+
+fn reply_text(alloc: Global, reply: &Reply) -> Result<Vec<u8>, AllocError> {
+    let mut text = Vec::new(alloc);
+    put_reply(&mut text, reply)?;
+    Ok(text)
+}
+
+fn act_text(alloc: Global, act: Act) -> Result<String, AllocError> {
+    match act {
+        Act::None => String::from_str(alloc, "none"),
+        Act::Open => String::from_str(alloc, "open"),
+        Act::Play { mount, seat } => format!(in alloc; "play {mount} {seat}"),
+        Act::Stop { mount, seat } => format!(in alloc; "stop {mount} {seat}"),
+        Act::Record => String::from_str(alloc, "record"),
+        Act::End => String::from_str(alloc, "end"),
+    }
+}
+
+/// The act of an answer, the pass that was handed out, and how many came back.
+fn answer_text(alloc: Global, answer: &Answer<u16>) -> Result<String, AllocError> {
+    let mut text = act_text(alloc, answer.act)?;
+    if let Some(pass) = answer.pass {
+        text.push_str(format!(in alloc; " pass {pass}")?.as_str())?;
+    }
+    push_back(&mut text, alloc, &answer.back)?;
+    Ok(text)
+}
+
+/// Why a request isn't answered, and how many passes came back.
+fn refusal_text(alloc: Global, fault: &AskFault<u16>) -> Result<String, Fault> {
+    let (words, back) = match fault {
+        AskFault::NotOpen { back } => ("not open", back),
+        AskFault::BadOffer { back } => ("bad offer", back),
+        AskFault::NoMemory { .. } => return Err(Fault::OutOfMemory),
+    };
+    let mut text = String::from_str(alloc, words)?;
+    push_back(&mut text, alloc, back)?;
+    Ok(text)
+}
+
+/// Says how many passes came back, if any did.
+fn push_back(text: &mut String, alloc: Global, back: &Option<Vec<u16>>) -> Result<(), AllocError> {
+    let count = match back {
+        Some(passes) => passes.len(),
+        None => 0,
+    };
+    if count > 0 {
+        text.push_str(format!(in alloc; " back {count}")?.as_str())?;
+    }
+    Ok(())
+}
+
+fn state_text(alloc: Global, session: Option<&Session>) -> Result<String, AllocError> {
+    let Some(session) = session else {
+        return String::from_str(alloc, "init");
+    };
+    match session.state {
+        State::Ready => String::from_str(alloc, "ready"),
+        State::Playing { seat } => format!(in alloc; "playing {seat}"),
+        State::Recording => String::from_str(alloc, "recording"),
+    }
+}

@@ -1,0 +1,65 @@
+//! The kinds of cases.
+
+/// What a case is about.
+#[derive(Clone, Copy, Debug, PartialEq, Eq, Drop)]
+pub enum Kind {
+    Book,
+    Stream,
+    Reply,
+    Sdp,
+    Header,
+    Mounts,
+    Log,
+    Steps,
+}
+
+/// All kinds, in the order in which they are told.
+pub const KINDS: [Kind; 8] = [
+    Kind::Book,
+    Kind::Stream,
+    Kind::Reply,
+    Kind::Sdp,
+    Kind::Header,
+    Kind::Mounts,
+    Kind::Log,
+    Kind::Steps,
+];
+
+impl Kind {
+    /// The word by which a text names the kind.
+    pub fn name(self) -> &'static str {
+        match self {
+            Kind::Book => "book",
+            Kind::Stream => "stream",
+            Kind::Reply => "reply",
+            Kind::Sdp => "sdp",
+            Kind::Header => "header",
+            Kind::Mounts => "mounts",
+            Kind::Log => "log",
+            Kind::Steps => "steps",
+        }
+    }
+
+    /// The kind of a name.
+    pub fn named(name: &[u8]) -> Option<Kind> {
+        for kind in KINDS {
+            if kind.name().as_bytes() == name {
+                return Some(kind);
+            }
+        }
+        None
+    }
+
+    /// What stands behind a line that goes in or comes out.
+    pub fn line_end(self) -> &'static [u8] {
+        match self {
+            Kind::Steps => b"\n",
+            _ => b"\r\n",
+        }
+    }
+
+    /// Whether what goes in comes from a connection.
+    pub fn has_connections(self) -> bool {
+        self == Kind::Book
+    }
+}

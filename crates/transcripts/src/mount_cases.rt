@@ -1,0 +1,216 @@
+//! Cases of the table of mounts, and of what URIs name.
+
+use crate::arguments::Arguments;
+use crate::fault::Fault;
+use crate::told::Told;
+use crate::uri_cases::call_uris;
+use mounts::{
+    MAX_SEATS, Mount, Mounts, Uri, UriFault, ends_in_track, is_name, read_uri, rest_after,
+};
+use sdp::SdpFault;
+use std::alloc::{AllocError, Global};
+use std::collections::hash_map::RandomState;
+
+/// The description that mounts have where none is told.
+const ONE_TRACK: &[u8] = b"v=0\r\nm=video 0 RTP/AVP 96\r\n";
+
+/// A table of mounts.
+#[derive(Drop)]
+pub struct MountCase {
+    alloc: Global,
+    hasher: RandomState,
+    mounts: Mounts,
+    /// What the next mounts are announced with.
+    description: Vec<u8>,
+}
+
+impl MountCase {
+    /// No mount. Each that is announced has two seats.
+    pub fn new(alloc: Global, hasher: RandomState) -> Result<MountCase, AllocError> {
+        Ok(MountCase {
+            alloc,
+            hasher,
+            mounts: Mounts::new(alloc, 2, hasher),
+            description: Vec::from_slice(alloc, ONE_TRACK)?,
+        })
+    }
+
+    /// Takes the description of the next mounts.
+    pub fn describe(&mut self, bytes: &[u8]) -> Result<(), AllocError> {
+        self.description = Vec::from_slice(self.alloc, bytes)?;
+        Ok(())
+    }
+
+    pub fn call(
+        &mut self,
+        word: &[u8],
+        arguments: &mut Arguments<'_>,
+        told: &mut Told,
+    ) -> Result<(), Fault> {
+        match word {
+            b"seats" => {
+                let seats = arguments.number_to(1024)? as usize;
+                self.mounts = Mounts::new(self.alloc, seats, self.hasher);
+                Ok(())
+            }
+            b"announce" => {
+                let owner = u64::from(arguments.number()?);
+                let name = arguments.text(self.alloc)?;
+                self.announce(owner, &name, told)
+            }
+            b"end-mount" => {
+                self.mounts.end(u64::from(arguments.number()?));
+                Ok(())
+            }
+            b"take" => {
+                let number = u64::from(arguments.number()?);
+                let times = arguments.number_or(1)?;
+                Ok(self.take_seats(number, times, told)?)
+            }
+            b"back" => {
+                let number = u64::from(arguments.number()?);
+                let seat = arguments.number()? as usize;
+                Ok(told.truth(self.mounts.give_back(number, seat))?)
+            }
+            b"back-all" => Ok(self.give_all_back(u64::from(arguments.number()?), told)?),
+            _ => self.look_up(word, arguments, told),
+        }
+    }
+
+    /// Looks something up, which changes nothing.
+    fn look_up(
+        &self,
+        word: &[u8],
+        arguments: &mut Arguments<'_>,
+        told: &mut Told,
+    ) -> Result<(), Fault> {
+        match word {
+            b"find" => Ok(self.find(&arguments.text(self.alloc)?, told)?),
+            b"owned" => {
+                let mount = self.mounts.owned_by(u64::from(arguments.number()?));
+                Ok(told.number(mount.map(|mount| mount.number))?)
+            }
+            b"numbered" => match self.mounts.numbered(u64::from(arguments.number()?)) {
+                Some(mount) => Ok(told.fact(mount.name.as_slice())?),
+                None => Ok(told.fact(b"none")?),
+            },
+            b"live" => Ok(self.tell_live(told)?),
+            b"room" => Ok(told.truth(self.mounts.has_room())?),
+            b"seats-of" => match self.mounts.numbered(u64::from(arguments.number()?)) {
+                Some(mount) => Ok(tell_seats(mount, told)?),
+                None => Ok(told.fact(b"none")?),
+            },
+            b"track" => {
+                let mount = self.mounts.numbered(u64::from(arguments.number()?));
+                let text = arguments.text(self.alloc)?;
+                match mount {
+                    Some(mount) => tell_track(mount, &text, told),
+                    None => Ok(told.fact(b"none")?),
+                }
+            }
+            _ => call_uris(word, arguments, told),
+        }
+    }
+
+    /// Announces a mount, where that may be done, and tells its number.
+    fn announce(&mut self, owner: u64, name: &[u8], told: &mut Told) -> Result<(), Fault> {
+        let description = match sdp::read(self.alloc, &self.description) {
+            Ok(description) => description,
+            Err(SdpFault::OutOfMemory) => return Err(Fault::OutOfMemory),
+            Err(_) => return Ok(told.fact(b"refused")?),
+        };
+        if self.mounts.has_room()
+            && is_name(name)
+            && !ends_in_track(name)
+            && self.mounts.named(name).is_none()
+            && self.mounts.owned_by(owner).is_none()
+        {
+            let number = self.mounts.announce(owner, name, description)?;
+            Ok(told.number(Some(number))?)
+        } else {
+            Ok(told.fact(b"refused")?)
+        }
+    }
+
+    /// Takes so many seats of a mount, and tells how many there were.
+    fn take_seats(&mut self, number: u64, times: u32, told: &mut Told) -> Result<(), AllocError> {
+        let mut taken: u64 = 0;
+        for _ in 0..times {
+            if self.mounts.take_seat(number).is_some() {
+                taken = taken.saturating_add(1);
+            }
+        }
+        told.number(Some(taken))
+    }
+
+    /// Gives each seat of a mount back, and tells how many were out.
+    fn give_all_back(&mut self, number: u64, told: &mut Told) -> Result<(), AllocError> {
+        let mut given: u64 = 0;
+        for seat in 0..MAX_SEATS {
+            if self.mounts.give_back(number, seat) {
+                given = given.saturating_add(1);
+            }
+        }
+        told.number(Some(given))
+    }
+
+    /// Tells the mount that a path names, and the rest of the path.
+    fn find(&self, path: &[u8], told: &mut Told) -> Result<(), AllocError> {
+        match self.mounts.find(path) {
+            None => told.fact(b"none"),
+            Some((number, None)) => told.number(Some(number)),
+            Some((number, Some(rest))) => {
+                let head = format!(in self.alloc; "{number} rest")?;
+                told.named(head.as_bytes(), rest)
+            }
+        }
+    }
+
+    fn tell_live(&self, told: &mut Told) -> Result<(), AllocError> {
+        for mount in self.mounts.live() {
+            let number = mount.number;
+            let head = format!(in self.alloc; "{number}")?;
+            told.named(head.as_bytes(), mount.name.as_slice())?;
+        }
+        Ok(())
+    }
+}
+
+/// Tells how many seats a mount has, how many are out, and whether one is free.
+fn tell_seats(mount: &Mount, told: &mut Told) -> Result<(), AllocError> {
+    let seats = &mount.seats;
+    let mut out: u64 = 0;
+    for seat in 0..seats.len() {
+        if seats.is_out(seat) {
+            out = out.saturating_add(1);
+        }
+    }
+    let free = if seats.has_free() { "free" } else { "full" };
+    let count = seats.len();
+    told.fact(format!(in told.alloc(); "{count} {out} {free}")?.as_bytes())
+}
+
+/// Tells which track a mount's owner and a player name by a URI.
+fn tell_track(mount: &Mount, text: &[u8], told: &mut Told) -> Result<(), Fault> {
+    let alloc = told.alloc();
+    let target = match read_uri(alloc, text) {
+        Ok(Uri::At(target)) => target,
+        Err(UriFault::OutOfMemory) => return Err(Fault::OutOfMemory),
+        Ok(Uri::Star) | Err(UriFault::BadUri) => return Ok(told.fact(b"no rest")?),
+    };
+    let Some(Some(rest)) = rest_after(target.path.as_slice(), mount.name.as_slice()) else {
+        return Ok(told.fact(b"no rest")?);
+    };
+    let by_owner = mount.track(alloc, mount.owner, &target, rest)?;
+    let by_player = mount.track_for_player(rest);
+    let by_owner = track_text(alloc, by_owner)?;
+    let by_player = track_text(alloc, by_player)?;
+    Ok(told.fact(format!(in alloc; "owner {by_owner} player {by_player}")?.as_bytes())?)
+}
+
+fn track_text(alloc: Global, track: Option<usize>) -> Result<String, AllocError> {
+    match track {
+        Some(track) => format!(in alloc; "{track}"),
+        None => String::from_str(alloc, "none"),
+    }
+}

@@ -1,0 +1,180 @@
+//! Running the cases of a text.
+
+use crate::cases::Case;
+use crate::comparing::tell_difference;
+use crate::fault::Fault;
+use crate::kind::{KINDS, Kind};
+use crate::lines::{Line, read_line};
+use crate::step::{Input, Step};
+use crate::told::Told;
+use std::alloc::{AllocError, Global};
+use std::collections::hash_map::RandomState;
+
+/// A run of the cases of a text.
+#[derive(Drop)]
+pub struct Run {
+    alloc: Global,
+    hasher: RandomState,
+    /// The number of the line that is read, or of the step that is run.
+    line: usize,
+    case: Option<Case>,
+    /// How many cases there were, by the places of their kinds.
+    counts: [u64; 8],
+    report: Vec<u8>,
+    differs: bool,
+}
+
+impl Run {
+    /// A run of which nothing is read.
+    pub fn new(alloc: Global, hasher: RandomState) -> Run {
+        Run {
+            alloc,
+            hasher,
+            line: 0,
+            case: None,
+            counts: [0; 8],
+            report: Vec::new(alloc),
+            differs: false,
+        }
+    }
+
+    /// What is to be printed.
+    pub fn report(&self) -> &[u8] {
+        &self.report
+    }
+
+    /// Whether a case differed.
+    pub fn differs(&self) -> bool {
+        self.differs
+    }
+
+    /// The number of the line that a fault is in.
+    pub fn line(&self) -> usize {
+        self.line
+    }
+
+    /// Runs all cases of a text, and tells how many there were.
+    pub fn run(&mut self, text: &[u8]) -> Result<(), Fault> {
+        for (index, line) in text.split(|byte| *byte == b'\n').enumerate() {
+            self.line = index.saturating_add(1);
+            self.read(line)?;
+        }
+        if self.case.is_some() {
+            return Err(Fault::NoEnd);
+        }
+        self.tell_counts()?;
+        Ok(())
+    }
+
+    /// Reads the next line.
+    fn read(&mut self, line: &[u8]) -> Result<(), Fault> {
+        match read_line(line)? {
+            Line::Nothing => Ok(()),
+            Line::Case { kind, title } => self.begin_case(kind, title),
+            line => {
+                let Some(mut case) = self.case.take() else {
+                    return Err(Fault::NoCase);
+                };
+                if self.go_on(&mut case, line)? {
+                    self.case = Some(case);
+                }
+                Ok(())
+            }
+        }
+    }
+
+    fn begin_case(&mut self, kind: &[u8], title: &[u8]) -> Result<(), Fault> {
+        if self.case.is_some() {
+            return Err(Fault::CaseInCase);
+        }
+        let kind = Kind::named(kind).ok_or(Fault::UnknownKind)?;
+        self.case = Some(Case::new(self.alloc, self.hasher, kind, title)?);
+        Ok(())
+    }
+
+    /// Goes on with a case. Tells whether it goes on behind the line.
+    fn go_on(&mut self, case: &mut Case, line: Line<'_>) -> Result<bool, Fault> {
+        match line {
+            Line::Input { from, text } => self.add_input(case, from, text)?,
+            Line::Output { to, text } => case.expect_output(to, text)?,
+            Line::Fact(text) => case.expect_fact(text)?,
+            Line::Call(line) => {
+                let call = Vec::from_slice(self.alloc, line)?;
+                self.begin_step(case, Input::Call(call))?;
+            }
+            Line::End => {
+                self.begin_step(case, Input::End)?;
+                self.finish_step(case)?;
+                self.count(case.kind);
+                return Ok(false);
+            }
+            Line::Nothing | Line::Case { .. } => {}
+        }
+        Ok(true)
+    }
+
+    /// A line goes in.
+    fn add_input(&mut self, case: &mut Case, from: Option<u32>, text: &[u8]) -> Result<(), Fault> {
+        if from.is_some() != case.kind.has_connections() {
+            return Err(Fault::BadConnection);
+        }
+        if !case.is_continued(from) {
+            let bytes = Vec::new(self.alloc);
+            self.begin_step(case, Input::Block { from, bytes })?;
+        }
+        case.add_input(text)
+    }
+
+    /// Runs the step before, and begins the next.
+    fn begin_step(&mut self, case: &mut Case, input: Input) -> Result<(), Fault> {
+        self.finish_step(case)?;
+        case.begin(self.alloc, self.line, input);
+        Ok(())
+    }
+
+    /// Runs the step that is not run yet, and tells where it differs.
+    fn finish_step(&mut self, case: &mut Case) -> Result<(), Fault> {
+        let Some(step) = case.take_step() else {
+            return Ok(());
+        };
+        let line = self.line;
+        self.line = step.line;
+        self.run_step(case, step)?;
+        self.line = line;
+        Ok(())
+    }
+
+    fn run_step(&mut self, case: &mut Case, mut step: Step) -> Result<(), Fault> {
+        step.expect_no_act()?;
+        let mut came = Told::nothing(self.alloc);
+        case.subject.run(&step.input, &mut came)?;
+        if !step.holds(&came) {
+            self.differs = true;
+            tell_difference(
+                &mut self.report,
+                &case.title,
+                step.line,
+                &came,
+                step.expected(),
+            )?;
+        }
+        Ok(())
+    }
+
+    fn count(&mut self, kind: Kind) {
+        for (count, counted) in self.counts.iter_mut().zip(KINDS) {
+            if counted == kind {
+                *count = count.saturating_add(1);
+            }
+        }
+    }
+
+    fn tell_counts(&mut self) -> Result<(), AllocError> {
+        for (kind, count) in KINDS.iter().zip(self.counts) {
+            let name = kind.name();
+            let line = format!(in self.alloc; "{name} {count} cases\n")?;
+            self.report.extend_from_slice(line.as_bytes())?;
+        }
+        Ok(())
+    }
+}

@@ -1,0 +1,178 @@
+//! Cases of a stream that comes in pieces.
+ghost use Rattle.std.specs.Prelude.{◌≤◌};
+
+use crate::told::Told;
+use interleaved::ListSource;
+use rtsp_message::{Fault, Intake, Next, Reader, Request, Unit};
+use std::alloc::{AllocError, Global};
+
+/// A stream of at most so many bytes is read again in other pieces.
+const MOST_AGAIN: usize = 4096;
+
+/// What is read of a stream: the units, as they are told, and what is wrong behind them.
+#[derive(Drop)]
+struct Readout {
+    units: Told,
+    fault: Option<Fault>,
+}
+
+/// A stream, as far as it came.
+#[derive(Drop)]
+pub struct StreamCase {
+    alloc: Global,
+    reader: Reader,
+    bytes: Vec<u8>,
+    read: Readout,
+}
+
+impl StreamCase {
+    /// A stream of which nothing came.
+    pub fn new(alloc: Global) -> StreamCase {
+        StreamCase {
+            alloc,
+            reader: Reader::new(alloc),
+            bytes: Vec::new(alloc),
+            read: Readout::empty(alloc),
+        }
+    }
+
+    /// Feeds the next piece, and tells the units that it brings, and the fault.
+    pub fn feed(&mut self, piece: &[u8], told: &mut Told) -> Result<(), AllocError> {
+        let fed = self.reader.feed(piece)?;
+        for unit in &fed.units {
+            self.read.add(unit)?;
+            tell_unit(unit, told)?;
+        }
+        self.read.fault = fed.fault;
+        self.bytes.extend_from_slice(piece)?;
+        match fed.fault {
+            Some(fault) => {
+                let number = fault.number();
+                told.fact(format!(in self.alloc; "fault {number}")?.as_bytes())
+            }
+            None => Ok(()),
+        }
+    }
+
+    /// Reads all pieces again, cut in other ways, and tells where that gives anything else.
+    pub fn read_again(&self, told: &mut Told) -> Result<(), AllocError> {
+        if self.bytes.len() > MOST_AGAIN {
+            return Ok(());
+        }
+        if !self.is_read_byte_by_byte()? {
+            told.fact(b"otherwise byte by byte")?;
+        }
+        if let Some(place) = self.first_bad_cut()? {
+            told.fact(format!(in self.alloc; "otherwise cut at {place}")?.as_bytes())?;
+        }
+        if !self.is_taken_in(1)? || !self.is_taken_in(7)? {
+            told.fact(b"otherwise taken in")?;
+        }
+        Ok(())
+    }
+
+    fn is_read_byte_by_byte(&self) -> Result<bool, AllocError> {
+        let mut reader = Reader::new(self.alloc);
+        let mut read = Readout::empty(self.alloc);
+        for byte in &self.bytes {
+            read.feed(&mut reader, &[*byte])?;
+        }
+        Ok(read.is(&self.read))
+    }
+
+    /// The first place at which the bytes, cut in two there, read otherwise.
+    fn first_bad_cut(&self) -> Result<Option<usize>, AllocError> {
+        for place in 0..=self.bytes.len() {
+            let (front, back) = self.bytes.split_at(place);
+            let mut reader = Reader::new(self.alloc);
+            let mut read = Readout::empty(self.alloc);
+            read.feed(&mut reader, front)?;
+            read.feed(&mut reader, back)?;
+            if !read.is(&self.read) {
+                return Ok(Some(place));
+            }
+        }
+        Ok(None)
+    }
+
+    /// Whether an intake reads the same from a source that gives so many bytes at a time.
+    fn is_taken_in(&self, piece: usize) -> Result<bool, AllocError>
+        requires { 1 ≤ piece }
+    {
+        let bytes = Vec::from_slice(self.alloc, &self.bytes)?;
+        let mut intake = Intake::new(self.alloc, ListSource::new(bytes, piece, None));
+        let mut read = Readout::empty(self.alloc);
+        // Each unit has a byte at least.
+        for _ in 0..=self.bytes.len() {
+            match intake.next() {
+                Next::Unit(unit) => read.add(&unit)?,
+                Next::Fault(fault) => {
+                    read.fault = Some(fault);
+                    break;
+                }
+                Next::End | Next::ReadFailed => break,
+                Next::OutOfMemory => return Err(AllocError),
+            }
+        }
+        Ok(read.is(&self.read))
+    }
+}
+
+impl Readout {
+    /// Nothing is read.
+    fn empty(alloc: Global) -> Readout {
+        Readout {
+            units: Told::nothing(alloc),
+            fault: None,
+        }
+    }
+
+    /// Feeds a piece to a reader.
+    fn feed(&mut self, reader: &mut Reader, piece: &[u8]) -> Result<(), AllocError> {
+        let fed = reader.feed(piece)?;
+        for unit in &fed.units {
+            self.add(unit)?;
+        }
+        self.fault = fed.fault;
+        Ok(())
+    }
+
+    fn add(&mut self, unit: &Unit) -> Result<(), AllocError> {
+        tell_unit(unit, &mut self.units)
+    }
+
+    fn is(&self, other: &Readout) -> bool {
+        self.fault == other.fault && self.units.facts.as_slice() == other.units.facts.as_slice()
+    }
+}
+
+fn tell_unit(unit: &Unit, told: &mut Told) -> Result<(), AllocError> {
+    match unit {
+        Unit::Message(request) => tell_request(request, told),
+        Unit::Frame(frame) => {
+            let channel = frame.channel;
+            let head = format!(in told.alloc(); "frame {channel}")?;
+            told.named(head.as_bytes(), frame.payload.as_slice())
+        }
+    }
+}
+
+fn tell_request(request: &Request, told: &mut Told) -> Result<(), AllocError> {
+    told.facts.extend_from_slice(request.method.as_slice())?;
+    told.facts.push(b' ')?;
+    told.facts.extend_from_slice(request.uri.as_slice())?;
+    told.facts.push(b' ')?;
+    told.fact(request.version.as_slice())?;
+    if let Some(number) = request.cseq {
+        told.fact(format!(in told.alloc(); "CSeq {number}")?.as_bytes())?;
+    }
+    for header in request.headers.as_slice() {
+        told.facts.extend_from_slice(header.name.as_slice())?;
+        told.facts.extend_from_slice(b": ")?;
+        told.fact(header.value.as_slice())?;
+    }
+    if request.body.is_empty() {
+        return Ok(());
+    }
+    told.named(b"body", request.body.as_slice())
+}

@@ -1,0 +1,94 @@
+//! What a case is run over.
+
+use crate::arguments::Arguments;
+use crate::book_cases::BookCase;
+use crate::description_cases::tell_description;
+use crate::fault::Fault;
+use crate::header_cases::HeaderCase;
+use crate::kind::Kind;
+use crate::log_cases::LogCase;
+use crate::mount_cases::MountCase;
+use crate::reply_cases::call_reply;
+use crate::step::Input;
+use crate::steps_cases::tell_steps;
+use crate::stream_cases::StreamCase;
+use crate::told::Told;
+use base_syntax::cut;
+use std::alloc::{AllocError, Global};
+use std::collections::hash_map::RandomState;
+
+/// What a case is run over.
+#[derive(Drop)]
+pub enum Subject {
+    Book(BookCase),
+    Stream(StreamCase),
+    Reply,
+    Sdp,
+    Header(HeaderCase),
+    Mounts(MountCase),
+    Log(LogCase),
+    Steps,
+}
+
+impl Subject {
+    /// That of a case that begins.
+    pub fn new(alloc: Global, hasher: RandomState, kind: Kind) -> Result<Subject, AllocError> {
+        Ok(match kind {
+            Kind::Book => Subject::Book(BookCase::new(alloc, hasher)),
+            Kind::Stream => Subject::Stream(StreamCase::new(alloc)),
+            Kind::Reply => Subject::Reply,
+            Kind::Sdp => Subject::Sdp,
+            Kind::Header => Subject::Header(HeaderCase::new()),
+            Kind::Mounts => Subject::Mounts(MountCase::new(alloc, hasher)?),
+            Kind::Log => Subject::Log(LogCase::new()),
+            Kind::Steps => Subject::Steps,
+        })
+    }
+
+    /// Runs a step, and tells what comes out.
+    pub fn run(&mut self, input: &Input, told: &mut Told) -> Result<(), Fault> {
+        match input {
+            Input::Block { from, bytes } => self.take_in(from.unwrap_or(0), bytes, told),
+            Input::Call(line) => {
+                let (word, behind) = cut(line, b' ');
+                let mut arguments = Arguments::new(behind);
+                self.call(word, &mut arguments, told)?;
+                arguments.end()
+            }
+            Input::End => match self {
+                Subject::Stream(case) => Ok(case.read_again(told)?),
+                _ => Ok(()),
+            },
+        }
+    }
+
+    /// Takes in the bytes of lines.
+    fn take_in(&mut self, from: u32, bytes: &[u8], told: &mut Told) -> Result<(), Fault> {
+        match self {
+            Subject::Book(case) => case.ask(u64::from(from), bytes, told),
+            Subject::Stream(case) => Ok(case.feed(bytes, told)?),
+            Subject::Sdp => Ok(tell_description(bytes, told)?),
+            Subject::Mounts(case) => Ok(case.describe(bytes)?),
+            Subject::Steps => Ok(tell_steps(bytes, told)?),
+            Subject::Reply | Subject::Header(_) | Subject::Log(_) => Err(Fault::NoInput),
+        }
+    }
+
+    fn call(
+        &mut self,
+        word: &[u8],
+        arguments: &mut Arguments<'_>,
+        told: &mut Told,
+    ) -> Result<(), Fault> {
+        match self {
+            Subject::Book(case) => case.call(word, arguments, told),
+            // Nothing is between two pieces but their border.
+            Subject::Stream(_) if word == b"feed".as_slice() => Ok(()),
+            Subject::Reply => call_reply(word, arguments, told),
+            Subject::Header(case) => case.call(word, arguments, told),
+            Subject::Mounts(case) => case.call(word, arguments, told),
+            Subject::Log(case) => case.call(word, arguments, told),
+            Subject::Stream(_) | Subject::Sdp | Subject::Steps => Err(Fault::UnknownWord),
+        }
+    }
+}
