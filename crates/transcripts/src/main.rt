@@ -25,33 +25,36 @@ mod track_cases;
 mod uri_cases;
 
 use fault::Fault;
-use running::Run;
+use running::{Outcome, outcome_of};
 use std::collections::hash_map::RandomState;
+use std::io;
 use std::io::{Read, Write};
 use std::process::ExitCode;
 
-fn main(rt: HostRuntime) -> std::io::Result<ExitCode> {
-    let alloc = rt.alloc();
-    let hasher = RandomState::new(&rt)?;
-    let mut text = Vec::new(alloc);
+fn main(rt: HostRuntime) -> io::Result<ExitCode> {
+    let text = read_input(&rt)?;
+    let outcome = outcome_of(rt.alloc(), RandomState::new(&rt)?, &text);
+    tell(&rt, &outcome)?;
+    Ok(if outcome.holds {
+        ExitCode::SUCCESS
+    } else {
+        ExitCode::FAILURE
+    })
+}
+
+/// All of the standard input.
+fn read_input(rt: &(impl Input + AllocGlobal)) -> io::Result<Vec<u8>> {
+    let mut text = Vec::new(rt.alloc());
     rt.reader().read_to_end(&mut text)?;
-    let mut run = Run::new(alloc, hasher);
-    let outcome = run.run(&text);
-    std::io::writer(&rt).write_all(run.report())?;
-    match outcome {
-        Ok(()) => Ok(if run.differs() {
-            ExitCode::FAILURE
-        } else {
-            ExitCode::SUCCESS
-        }),
-        Err(Fault::OutOfMemory) => {
-            rt.eprintln("transcripts: out of memory")?;
-            Ok(ExitCode::FAILURE)
-        }
-        Err(fault) => {
-            let line = run.line();
-            eprintln!(rt; "transcripts: line {line}: {fault}")?;
-            Ok(ExitCode::FAILURE)
-        }
+    Ok(text)
+}
+
+/// Tells what differs, and on standard error why the text can't be run on from a line.
+fn tell(rt: &(impl Print + Eprint), outcome: &Outcome) -> io::Result<()> {
+    io::writer(rt).write_all(&outcome.report)?;
+    match outcome.fault {
+        None => Ok(()),
+        Some((_, Fault::OutOfMemory)) => rt.eprintln("transcripts: out of memory"),
+        Some((line, fault)) => eprintln!(rt; "transcripts: line {line}: {fault}"),
     }
 }

@@ -10,9 +10,34 @@ use crate::told::Told;
 use std::alloc::{AllocError, Global};
 use std::collections::hash_map::RandomState;
 
+/// What a run of the cases of a text came to.
+#[derive(Drop)]
+pub struct Outcome {
+    /// What is to be printed.
+    pub report: Vec<u8>,
+    /// Whether each step gave what it had to.
+    pub holds: bool,
+    /// Why the text can't be run on, and the number of the line.
+    pub fault: Option<(usize, Fault)>,
+}
+
+/// Runs all cases of a text, and tells how many there were.
+pub fn outcome_of(alloc: Global, hasher: RandomState, text: &[u8]) -> Outcome {
+    let mut run = Run::new(alloc, hasher);
+    let fault = match run.run(text) {
+        Ok(()) => None,
+        Err(fault) => Some((run.line, fault)),
+    };
+    Outcome {
+        holds: fault.is_none() && !run.differs,
+        fault,
+        report: run.report,
+    }
+}
+
 /// A run of the cases of a text.
 #[derive(Drop)]
-pub struct Run {
+struct Run {
     alloc: Global,
     hasher: RandomState,
     /// The number of the line that is read, or of the step that is run.
@@ -26,7 +51,7 @@ pub struct Run {
 
 impl Run {
     /// A run of which nothing is read.
-    pub fn new(alloc: Global, hasher: RandomState) -> Run {
+    fn new(alloc: Global, hasher: RandomState) -> Run {
         Run {
             alloc,
             hasher,
@@ -38,23 +63,8 @@ impl Run {
         }
     }
 
-    /// What is to be printed.
-    pub fn report(&self) -> &[u8] {
-        &self.report
-    }
-
-    /// Whether a case differed.
-    pub fn differs(&self) -> bool {
-        self.differs
-    }
-
-    /// The number of the line that a fault is in.
-    pub fn line(&self) -> usize {
-        self.line
-    }
-
     /// Runs all cases of a text, and tells how many there were.
-    pub fn run(&mut self, text: &[u8]) -> Result<(), Fault> {
+    fn run(&mut self, text: &[u8]) -> Result<(), Fault> {
         for (index, line) in text.split(|byte| *byte == b'\n').enumerate() {
             self.line = index.saturating_add(1);
             self.read(line)?;
