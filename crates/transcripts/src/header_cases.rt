@@ -84,7 +84,7 @@ impl HeaderCase {
     }
 }
 
-/// Tells the text of a pair of channels.
+/// A pair of channels, as `A-B`.
 pub fn pair_text(alloc: Global, pair: ChannelPair) -> Result<String, AllocError> {
     let ChannelPair { first, second } = pair;
     format!(in alloc; "{first}-{second}")

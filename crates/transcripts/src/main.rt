@@ -26,20 +26,30 @@ mod uri_cases;
 
 use fault::Fault;
 use running::{Outcome, outcome_of};
+use std::alloc::AllocError;
 use std::collections::hash_map::RandomState;
 use std::io;
 use std::io::{Read, Write};
 use std::process::ExitCode;
+use std::random::RandomSource;
 
 fn main(rt: HostRuntime) -> io::Result<ExitCode> {
-    let text = read_input(&rt)?;
-    let outcome = outcome_of(rt.alloc(), RandomState::new(&rt)?, &text);
-    tell(&rt, &outcome)?;
-    Ok(if outcome.holds {
-        ExitCode::SUCCESS
-    } else {
-        ExitCode::FAILURE
-    })
+    match run_input(&rt) {
+        Ok(true) => Ok(ExitCode::SUCCESS),
+        Ok(false) => Ok(ExitCode::FAILURE),
+        Err(error) => {
+            eprintln!(rt; "transcripts: {error}")?;
+            Ok(ExitCode::FAILURE)
+        }
+    }
+}
+
+/// Runs the cases of the standard input. Whether each step gave what it had to.
+fn run_input(rt: &(impl Input + Print + Eprint + AllocGlobal + RandomSource)) -> io::Result<bool> {
+    let text = read_input(rt)?;
+    let outcome = outcome_of(rt.alloc(), RandomState::new(rt)?, &text);
+    tell(rt, &outcome)?;
+    Ok(outcome.holds)
 }
 
 /// All of the standard input.
@@ -54,7 +64,7 @@ fn tell(rt: &(impl Print + Eprint), outcome: &Outcome) -> io::Result<()> {
     io::writer(rt).write_all(&outcome.report)?;
     match outcome.fault {
         None => Ok(()),
-        Some((_, Fault::OutOfMemory)) => rt.eprintln("transcripts: out of memory"),
+        Some((_, Fault::OutOfMemory)) => Err(io::Error::from(AllocError)),
         Some((line, fault)) => eprintln!(rt; "transcripts: line {line}: {fault}"),
     }
 }
