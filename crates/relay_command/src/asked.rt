@@ -28,6 +28,13 @@ pub fn read_words<S: AsStr>(alloc: Global, words: &[S]) -> Result<Asked, Error>
     ensures ranges { IfOk result IsServedInRange }
 {
     let matches = command(alloc)?.try_get_matches_from(words)?;
+    Ok(asked_of(alloc, &matches)?)
+}
+
+/// What the parser found, as what is asked for.
+fn asked_of(alloc: Global, matches: &ArgMatches) -> Result<Asked, AllocError>
+    ensures ranges { IfOk result IsServedInRange }
+{
     let Some((name, of_command)) = matches.subcommand() else {
         return Ok(Asked::Nothing);
     };

@@ -15,22 +15,30 @@ printf 'keep 2\\nseats 1\\np 41\\np 42\\np 43\\n0 attach\\n0 take\\n0 take\\n0 d
 
 /// The command line: `relay serve`, `relay talk` and `relay steps`.
 pub(crate) fn command<'a>(alloc: Global) -> Result<Command<'a>, AllocError> {
-    let word = Arg::new(alloc, "word").long("word").value_name("HEX8").help(
-        "The last eight hexadecimal digits of each session identifier [default: drawn at random]",
-    );
-    let talk = Command::new(alloc, "talk")
-        .about("Answers one connection on standard input and standard output")
-        .arg(word)?
-        .after_help(TALK_EXAMPLE);
-    let steps = Command::new(alloc, "steps")
-        .about("Runs a ring's schedule from standard input, and writes what each step did")
-        .after_help(STEPS_EXAMPLE);
+    let serve = serve_command(alloc)?;
+    let talk = talk_command(alloc)?;
     Command::new(alloc, "relay")
         .about("A live relay for RTSP 1.0 (RFC 2326)")
         .subcommand_required(true)
-        .subcommand(serve_command(alloc)?)?
+        .subcommand(serve)?
         .subcommand(talk)?
-        .subcommand(steps)
+        .subcommand(steps_command(alloc))
+}
+
+fn talk_command<'a>(alloc: Global) -> Result<Command<'a>, AllocError> {
+    let word = Arg::new(alloc, "word").long("word").value_name("HEX8").help(
+        "The last eight hexadecimal digits of each session identifier [default: drawn at random]",
+    );
+    Command::new(alloc, "talk")
+        .about("Answers one connection on standard input and standard output")
+        .after_help(TALK_EXAMPLE)
+        .arg(word)
+}
+
+fn steps_command<'a>(alloc: Global) -> Command<'a> {
+    Command::new(alloc, "steps")
+        .about("Runs a ring's schedule from standard input, and writes what each step did")
+        .after_help(STEPS_EXAMPLE)
 }
 
 /// Command lines of the server.
@@ -41,52 +49,73 @@ const SERVE_EXAMPLE: &str = "Examples:
 
 /// `relay serve ADDR`, with its options, their ranges and their defaults.
 fn serve_command<'a>(alloc: Global) -> Result<Command<'a>, AllocError> {
-    let addr = Arg::new(alloc, "addr")
+    Command::new(alloc, "serve")
+        .about("Serves publishers and players over TCP")
+        .after_help(SERVE_EXAMPLE)
+        .arg(addr_arg(alloc))?
+        .arg(keep_arg(alloc))?
+        .arg(seats_arg(alloc))?
+        .arg(packet_bytes_arg(alloc))?
+        .arg(accept_arg(alloc))?
+        .arg(gather_arg(alloc))?
+        .arg(hang_up_ended_arg(alloc))
+}
+
+fn addr_arg<'a>(alloc: Global) -> Arg<'a> {
+    Arg::new(alloc, "addr")
         .value_name("ADDR")
         .required(true)
         .action(ArgAction::Set)
-        .help("Where to listen, as 127.0.0.1:8554; port 0 takes a free one");
-    let keep = Arg::new(alloc, "keep")
+        .help("Where to listen, as 127.0.0.1:8554; port 0 takes a free one")
+}
+
+fn keep_arg<'a>(alloc: Global) -> Arg<'a> {
+    Arg::new(alloc, "keep")
         .long("keep")
         .value_name("N")
         .default_value("512")
         .value_parser(clap::value_parser!(u16).range(1..4096))
-        .help("How many packets a mount keeps for players that are behind, 1 to 4095");
-    let seats = Arg::new(alloc, "seats")
+        .help("How many packets a mount keeps for players that are behind, 1 to 4095")
+}
+
+fn seats_arg<'a>(alloc: Global) -> Arg<'a> {
+    Arg::new(alloc, "seats")
         .long("seats")
         .value_name("N")
         .default_value("64")
         .value_parser(clap::value_parser!(u16).range(1..1025))
-        .help("How many players a mount has, 1 to 1024");
-    let packet_bytes = Arg::new(alloc, "packet-bytes")
+        .help("How many players a mount has, 1 to 1024")
+}
+
+fn packet_bytes_arg<'a>(alloc: Global) -> Arg<'a> {
+    Arg::new(alloc, "packet-bytes")
         .long("packet-bytes")
         .value_name("N")
         .default_value("16384")
         .value_parser(clap::value_parser!(u16).range(12..))
-        .help("The longest packet, in bytes, 12 to 65535");
-    let accept = Arg::new(alloc, "accept")
+        .help("The longest packet, in bytes, 12 to 65535")
+}
+
+fn accept_arg<'a>(alloc: Global) -> Arg<'a> {
+    Arg::new(alloc, "accept")
         .long("accept")
         .value_name("N")
         .value_parser(clap::value_parser!(u64).range(1..))
-        .help("End when N connections were accepted and have ended");
-    let gather = Arg::new(alloc, "gather")
+        .help("End when N connections were accepted and have ended")
+}
+
+fn gather_arg<'a>(alloc: Global) -> Arg<'a> {
+    Arg::new(alloc, "gather")
         .long("gather")
         .value_name("MS")
         .default_value("5")
         .value_parser(clap::value_parser!(u16).range(0..101))
-        .help("For how long packets gather before players are woken, 0 to 100 milliseconds");
-    let hang_up_ended = Arg::new(alloc, "hang-up-ended")
+        .help("For how long packets gather before players are woken, 0 to 100 milliseconds")
+}
+
+fn hang_up_ended_arg<'a>(alloc: Global) -> Arg<'a> {
+    Arg::new(alloc, "hang-up-ended")
         .long("hang-up-ended")
         .action(ArgAction::SetTrue)
-        .help("Hang a player up once the last packet of its mount was written");
-    Command::new(alloc, "serve")
-        .about("Serves publishers and players over TCP")
-        .after_help(SERVE_EXAMPLE)
-        .arg(addr)?
-        .arg(keep)?
-        .arg(seats)?
-        .arg(packet_bytes)?
-        .arg(accept)?
-        .arg(gather)?
-        .arg(hang_up_ended)
+        .help("Hang a player up once the last packet of its mount was written")
 }
