@@ -5,16 +5,15 @@ use log::Log;
 use rand::make_rng;
 use rand::rngs::StdRng;
 use relay_command::Settings;
-use relay_server::{OpenGate, Options, RingMaker, run_server};
+use relay_server::{OpenGate, Options, RingMaker, run_server, shared_book};
 use relay_talk::{DrawnWords, NoWords};
-use session_lock::Book;
 use std::alloc::Global;
 use std::collections::hash_map::RandomState;
 use std::io;
 use std::io::Eprint;
 use std::net::{Net, TcpListener, TcpStream};
 use std::random::RandomSource;
-use std::sync::{Arc, Mutex, Wait};
+use std::sync::Wait;
 use std::thread::Threads;
 use std::time::Clock;
 
@@ -53,7 +52,7 @@ where
         return Err(NoWords::NoRandomSource.line());
     };
     let maker = RingMaker::new(settings.keep, settings.seats, settings.packet_bytes);
-    let Ok(book) = Arc::new(alloc, Mutex::new(Book::new(alloc, settings.seats, hasher))) else {
+    let Ok(book) = shared_book(alloc, settings.seats, hasher) else {
         return Err(OUT_OF_MEMORY);
     };
     let options = Options {

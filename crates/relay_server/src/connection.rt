@@ -74,10 +74,7 @@ where
     let hand = match Arc::new(alloc, Hand::new(line, wire)) {
         Ok(hand) => hand,
         Err(refused) => {
-            let hand = refused.value;
-            let _ = hand.line.write_plain(&rt, Status::ServiceUnavailable, None);
-            let _ = shared.book.lock(&rt).hangup(conn);
-            close_behind_text(&hand.wire, &mut reader, LAST_READS, AFTER_TEXT);
+            turn_away(&rt, &shared, conn, &refused.value, &mut reader);
             return (ConnectionEnd::OutOfMemory, Counts::new());
         }
     };
@@ -96,9 +93,30 @@ where
         torn_down: false,
         counts: Counts::new(),
     };
-    let mut intake = Intake::new(alloc, reader);
-    let end = connection.serve(&mut intake);
-    connection.hang_up(end, &mut intake.into_source())
+    let end = connection.run(reader);
+    (end, connection.counts)
+}
+
+/// Tells a connection that there is no memory for it, and hangs it up in the book.
+fn turn_away<R, M, V, G, S, W, H>(
+    rt: &R,
+    shared: &Shared<M, V, G>,
+    conn: u64,
+    hand: &Hand<M::Out, W, H>,
+    reader: &mut S,
+)
+where
+    R: Wait,
+    M: Maker + Drop,
+    V: Drop,
+    G: Drop,
+    S: Source,
+    W: Sink + Drop,
+    H: HangUp + Drop,
+{
+    let _ = hand.line.write_plain(rt, Status::ServiceUnavailable, None);
+    let _ = shared.book.lock(rt).hangup(conn);
+    close_behind_text(&hand.wire, reader, LAST_READS, AFTER_TEXT);
 }
 
 impl<R, M, V, G, W, H> Connection<R, M, V, G, W, H>
@@ -111,35 +129,47 @@ where
     W: Sink + Drop + Send + 'static,
     H: HangUp + Drop + Send + Sync + 'static,
 {
+    /// Serves from the first request to the hang-up.
+    fn run<S: Source + Drop>(&mut self, reader: S) -> ConnectionEnd {
+        let mut intake = Intake::new(self.alloc, reader);
+        let end = self.serve(&mut intake);
+        self.hang_up(end, &mut intake.into_source())
+    }
+
     /// Answers request after request.
     fn serve<S: Source + Drop>(&mut self, intake: &mut Intake<S>) -> ConnectionEnd {
         let rt = self.rt;
         for _ in rt.forever() {
-            let end = match self.next_message(intake) {
-                InStop::Message(request) => match self.answer(&request) {
-                    Ok(()) => continue,
-                    Err(end) => end,
-                },
-                InStop::End => ConnectionEnd::Done,
-                InStop::ReadFailed => ConnectionEnd::ReadFailed,
-                InStop::Fault(fault) => {
-                    self.write_last(status_of(fault));
-                    ConnectionEnd::StreamFault(fault)
-                }
-                InStop::OutOfMemory => {
-                    self.write_last(Status::ServiceUnavailable);
-                    ConnectionEnd::OutOfMemory
-                }
-            };
-            return match end {
+            match self.serve_next(intake) {
+                Ok(()) => {}
                 // A peer may close right behind its TEARDOWN.
-                ConnectionEnd::ReadFailed | ConnectionEnd::WriteFailed if self.torn_down => {
-                    ConnectionEnd::Done
+                Err(ConnectionEnd::ReadFailed | ConnectionEnd::WriteFailed) if self.torn_down => {
+                    return ConnectionEnd::Done;
                 }
-                end => end,
-            };
+                Err(end) => return end,
+            }
         }
         unreachable!()
+    }
+
+    /// Answers the next request, or says how the connection ends where there is none.
+    fn serve_next<S: Source + Drop>(
+        &mut self,
+        intake: &mut Intake<S>,
+    ) -> Result<(), ConnectionEnd> {
+        match self.next_message(intake) {
+            InStop::Message(request) => self.answer(&request),
+            InStop::End => Err(ConnectionEnd::Done),
+            InStop::ReadFailed => Err(ConnectionEnd::ReadFailed),
+            InStop::Fault(fault) => {
+                self.write_last(status_of(fault));
+                Err(ConnectionEnd::StreamFault(fault))
+            }
+            InStop::OutOfMemory => {
+                self.write_last(Status::ServiceUnavailable);
+                Err(ConnectionEnd::OutOfMemory)
+            }
+        }
     }
 
     /// Answers a request, and does what the answer asks for.
@@ -166,7 +196,7 @@ where
 
     /// Hangs up in the book, and does what is left to do. Says how the connection ended, which may be by its frames. Behind
     /// a last text the peer is given a moment to read it.
-    fn hang_up<S: Source>(mut self, end: ConnectionEnd, source: &mut S) -> (ConnectionEnd, Counts) {
+    fn hang_up<S: Source>(&mut self, end: ConnectionEnd, source: &mut S) -> ConnectionEnd {
         let act = self.shared.book.lock(&self.rt).hangup(self.conn);
         let has_last_text = matches!(
             end,
@@ -184,7 +214,7 @@ where
         if has_last_text {
             close_behind_text(&self.hand.wire, source, LAST_READS, AFTER_TEXT);
         }
-        (end_of(end, sent, self.is_over), self.counts)
+        end_of(end, sent, self.is_over)
     }
 }
 

@@ -27,5 +27,5 @@ pub use line::Line;
 pub use maker::{Maker, RingMaker, Seat};
 pub use options::Options;
 pub use server::{run_server, tell_end};
-pub use shared::{Shared, SharedBook};
+pub use shared::{Shared, SharedBook, shared_book};
 pub use socket::{HangUp, Socket};

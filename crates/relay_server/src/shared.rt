@@ -1,15 +1,33 @@
 //! What all threads of a server share.
+ghost use Rattle.std.specs.Prelude.{◌≤◌};
+
 use crate::bell::Bell;
 use crate::board::Board;
 use crate::maker::{Maker, Seat};
 use session_lock::Book;
 use std::alloc::{AllocError, Global};
+use std::collections::hash_map::RandomState;
 use std::sync::atomic::AtomicU64;
 use std::sync::{Arc, Mutex, Wait};
 use std::time::Duration;
 
 /// A book that threads share. Each call of it is made whole under its lock, and no other lock is taken meanwhile.
 pub type SharedBook<P> = Arc<Mutex<Book<P>>, Global>;
+
+/// A book for threads to share, in which nothing has happened. Each mount that is announced has so many seats.
+pub fn shared_book<P: Drop>(
+    alloc: Global,
+    seats: usize,
+    hasher: RandomState,
+) -> Result<SharedBook<P>, AllocError>
+    requires { seats ≤ 1024 }
+{
+    let book = Book::new(alloc, seats, hasher);
+    match Arc::new(alloc, Mutex::new(book)) {
+        Ok(shared) => Ok(shared),
+        Err(_) => Err(AllocError),
+    }
+}
 
 /// What all threads of a server share.
 #[derive(Drop)]

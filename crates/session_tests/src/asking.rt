@@ -68,6 +68,17 @@ pub(crate) fn accepted<P: Drop>(
     }
 }
 
+/// Whether this is answered with 200, with the word 7 and no point, and adds one entry.
+pub(crate) fn is_accepted<P: Drop>(
+    book: &mut Book<P>,
+    alloc: Global,
+    conn: u64,
+    text: &[u8],
+    offer: Option<Vec<P>>,
+) -> bool {
+    accepted(book, alloc, conn, text, offer).is_some()
+}
+
 /// How many passes there are.
 pub(crate) fn count_of<P>(passes: &Option<Vec<P>>) -> usize {
     match passes {

@@ -1,8 +1,8 @@
 //! Tests of the decisions and of the book, over what these crates make public.
 //!
 //! They stand in a crate of their own, so that neither of the crates that they test is proved twice. What requests are
-//! answered is told by cases of `transcripts`; here is what takes code: many calls, passes that count their owners,
-//! seats of which any may be taken, and the laws.
+//! answered is told by cases of `transcripts`; here is what takes code: many calls, passes that count their owners, and
+//! seats of which any may be taken.
 #![tactic(auto)]
 
 #[cfg(test)]

@@ -1,5 +1,5 @@
 //! Books of many connections and many requests.
-use crate::asking::{accepted, connects};
+use crate::asking::{connects, is_accepted};
 use session_lock::{AskFault, Book};
 use session_state::{Act, ConnectFault};
 use std::collections::hash_map::RandomState;
@@ -35,6 +35,8 @@ fn all_that_are_open_hang_up(rt: HostRuntime) -> Result<(), Fail> {
     Ok(())
 }
 
+const OPTIONS: &[u8] = b"OPTIONS * RTSP/1.0\nCSeq: 1\n\n";
+
 /// More requests than a server's connections send in a while.
 const MANY: usize = 3000;
 
@@ -44,16 +46,7 @@ fn many_requests_are_answered(rt: HostRuntime) -> Result<(), Fail> {
     let mut book: Book<u16> = Book::new(alloc, 0, RandomState::new(&rt)?);
     assert!(rt; book.connect() == Ok(1));
     for _ in 0..MANY {
-        assert!(rt;
-            accepted(
-                &mut book,
-                alloc,
-                1,
-                b"OPTIONS * RTSP/1.0\nCSeq: 1\n\n",
-                None
-            )
-            .is_some()
-        );
+        assert!(rt; is_accepted(&mut book, alloc, 1, OPTIONS, None));
     }
     assert!(rt; book.kept() == MANY + 1);
     Ok(())

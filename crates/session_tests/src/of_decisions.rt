@@ -1,6 +1,6 @@
-//! The names of methods, what a decision is handed, and the laws of decisions.
+//! The names of methods, and what a decision is handed.
 use base_syntax::Items;
-use session_state::{Given, Method, laws, read_method};
+use session_state::{Given, Method, read_method};
 use std::test::Fail;
 use transport_header::Point;
 
@@ -41,17 +41,4 @@ fn what_was_handed_in_is_copied(rt: HostRuntime) -> Result<(), Fail> {
     assert_eq!(rt; copied.word, 0x0000_abcd);
     assert!(rt; copied.points.as_slice() == given.points.as_slice());
     Ok(())
-}
-
-#[test]
-fn the_laws_are_called() {
-    laws::seats_are_taken_free();
-    laws::refusals_change_nothing();
-    laws::sessions_change_by_their_own();
-    laws::connections_come_first();
-    laws::mounts_differ();
-    laws::mounts_are_found_in_any_list();
-    laws::sessions_differ();
-    laws::sessions_are_told_once();
-    laws::one_reply();
 }

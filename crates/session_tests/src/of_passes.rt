@@ -1,5 +1,5 @@
 //! The passes of a book: of as many seats as there may be, and of mounts that end.
-use crate::asking::{accepted, asked, connects, count_of, given_word};
+use crate::asking::{accepted, asked, connects, count_of, given_word, is_accepted};
 use session_lock::Book;
 use session_state::Act;
 use std::alloc::Global;
@@ -42,8 +42,8 @@ fn is_set_up(book: &mut Book<u16>, alloc: Global) -> bool {
     let Some(passes) = numbers(alloc) else {
         return false;
     };
-    accepted(book, alloc, 1, ANNOUNCE_A, Some(passes)).is_some()
-        && accepted(book, alloc, 2, SETUP, None).is_some()
+    is_accepted(book, alloc, 1, ANNOUNCE_A, Some(passes))
+        && is_accepted(book, alloc, 2, SETUP, None)
 }
 
 /// The seat that a PLAY of connection 2 takes, where the pass is that of the seat.
@@ -68,7 +68,7 @@ fn takes_another(book: &mut Book<u16>, alloc: Global, is_out: &mut [bool]) -> bo
         return false;
     }
     is_out[seat] = true;
-    accepted(book, alloc, 2, PAUSE, None).is_some()
+    is_accepted(book, alloc, 2, PAUSE, None)
 }
 
 /// The status of a PLAY of connection 2 that is handed no pass.
@@ -112,6 +112,11 @@ fn three(alloc: Global, pass: &Counted) -> Option<Vec<Counted>> {
     Some(passes)
 }
 
+/// How many owners each of two passes has.
+fn owners(first: &Counted, second: &Counted) -> (usize, usize) {
+    (Arc::strong_count(first), Arc::strong_count(second))
+}
+
 /// Announces `a` and `b` with three passes each, and plays `a` from one seat, whose pass is handed out.
 fn played(
     book: &mut Book<Counted>,
@@ -119,66 +124,104 @@ fn played(
     first: &Counted,
     second: &Counted,
 ) -> Option<Counted> {
-    if !connects(book, 3) {
+    let is_set_up = connects(book, 3)
+        && is_accepted(book, alloc, 1, ANNOUNCE_A, three(alloc, first))
+        && is_accepted(book, alloc, 3, ANNOUNCE_B, three(alloc, second))
+        && is_accepted(book, alloc, 2, SETUP, None);
+    if !is_set_up {
         return None;
     }
-    accepted(book, alloc, 1, ANNOUNCE_A, Some(three(alloc, first)?))?;
-    accepted(book, alloc, 3, ANNOUNCE_B, Some(three(alloc, second)?))?;
-    accepted(book, alloc, 2, SETUP, None)?;
     accepted(book, alloc, 2, PLAY, None)?.pass
+}
+
+/// Whether the hang-up of connection 1 lets the spare passes of its mount go, and no other.
+fn hangs_up(book: &mut Book<Counted>, first: &Counted, second: &Counted) -> bool {
+    owners(first, second) == (4, 4) && book.hangup(1) == Act::End && owners(first, second) == (2, 4)
+}
+
+/// Whether a pass of a mount that has ended stays with who gives it back.
+fn comes_back(book: &mut Book<Counted>, pass: Counted, first: &Counted) -> bool {
+    match book.give_back(1, 0, pass) {
+        Some(back) => *back == 1 && Arc::strong_count(first) == 2,
+        None => false,
+    }
+}
+
+/// Whether `a` is played, ends by a hang-up, and its pass is given back.
+fn ends_while_played(
+    book: &mut Book<Counted>,
+    alloc: Global,
+    first: &Counted,
+    second: &Counted,
+) -> bool {
+    let Some(pass) = played(book, alloc, first, second) else {
+        return false;
+    };
+    if !hangs_up(book, first, second) {
+        return false;
+    }
+    comes_back(book, pass, first)
 }
 
 #[test]
 fn spare_passes_go_with_their_owner(rt: HostRuntime) -> Result<(), Fail> {
     let alloc = rt.alloc();
-    let mut book: Book<Counted> = Book::new(alloc, 3, RandomState::new(&rt)?);
+    let hasher = RandomState::new(&rt)?;
     let first = Arc::new(alloc, 1)?;
     let second = Arc::new(alloc, 2)?;
-    let pass = played(&mut book, alloc, &first, &second).ok_or("no pass")?;
-    assert!(rt; *pass == 1);
-    assert!(rt; Arc::strong_count(&first) == 4 && Arc::strong_count(&second) == 4);
-    assert!(rt; book.hangup(1) == Act::End);
-    assert!(rt; Arc::strong_count(&first) == 2 && Arc::strong_count(&second) == 4);
-    let back = book.give_back(1, 0, pass).ok_or("taken back")?;
-    assert!(rt; *back == 1 && Arc::strong_count(&first) == 2);
-    drop(back);
-    assert!(rt; Arc::strong_count(&first) == 1);
+    let mut book: Book<Counted> = Book::new(alloc, 3, hasher);
+    assert!(rt; ends_while_played(&mut book, alloc, &first, &second));
+    assert!(rt; owners(&first, &second) == (1, 4));
     drop(book);
-    assert!(rt; Arc::strong_count(&second) == 1);
+    assert!(rt; owners(&first, &second) == (1, 1));
     Ok(())
+}
+
+/// Whether the TEARDOWN of connection 1 ends its mount.
+fn tears_down(book: &mut Book<Counted>, alloc: Global) -> bool {
+    match accepted(book, alloc, 1, TEARDOWN, None) {
+        Some(answer) => answer.act == Act::End,
+        None => false,
+    }
 }
 
 #[test]
 fn spare_passes_go_with_a_teardown(rt: HostRuntime) -> Result<(), Fail> {
     let alloc = rt.alloc();
-    let mut book: Book<Counted> = Book::new(alloc, 3, RandomState::new(&rt)?);
+    let hasher = RandomState::new(&rt)?;
     let first = Arc::new(alloc, 1)?;
     let second = Arc::new(alloc, 2)?;
-    let pass = played(&mut book, alloc, &first, &second).ok_or("no pass")?;
-    assert!(rt; accepted(&mut book, alloc, 1, SETUP, None).is_some());
-    assert!(rt; Arc::strong_count(&first) == 4);
-    let ended = accepted(&mut book, alloc, 1, TEARDOWN, None).ok_or("not ended")?;
-    assert!(rt; ended.act == Act::End);
-    assert!(rt; Arc::strong_count(&first) == 2 && Arc::strong_count(&second) == 4);
+    let mut book: Book<Counted> = Book::new(alloc, 3, hasher);
+    let pass = played(&mut book, alloc, &first, &second);
+    assert!(rt; pass.is_some() && is_accepted(&mut book, alloc, 1, SETUP, None));
+    assert!(rt; owners(&first, &second) == (4, 4));
+    assert!(rt; tears_down(&mut book, alloc));
+    assert!(rt; owners(&first, &second) == (2, 4));
     drop(pass);
-    assert!(rt; Arc::strong_count(&first) == 1);
+    assert!(rt; owners(&first, &second) == (1, 4));
     Ok(())
+}
+
+/// Whether connection 3, which owns a mount, is refused another and has its three passes back.
+fn is_refused_another(book: &mut Book<Counted>, alloc: Global, pass: &Counted) -> bool {
+    let given = given_word(alloc, 7);
+    match asked(book, alloc, 3, ANNOUNCE_A, &given, three(alloc, pass)) {
+        Some(answer) => answer.reply.status.code() == 403 && count_of(&answer.back) == 3,
+        None => false,
+    }
 }
 
 #[test]
 fn an_offer_that_is_not_used_comes_back_whole(rt: HostRuntime) -> Result<(), Fail> {
     let alloc = rt.alloc();
-    let mut book: Book<Counted> = Book::new(alloc, 3, RandomState::new(&rt)?);
+    let hasher = RandomState::new(&rt)?;
     let first = Arc::new(alloc, 1)?;
     let second = Arc::new(alloc, 2)?;
+    let mut book: Book<Counted> = Book::new(alloc, 3, hasher);
     assert!(rt; played(&mut book, alloc, &first, &second).is_some());
     // The pass that was handed out is let go.
-    assert!(rt; Arc::strong_count(&first) == 3);
-    let offer = three(alloc, &first);
-    let given = given_word(alloc, 7);
-    let answer = asked(&mut book, alloc, 3, ANNOUNCE_A, &given, offer).ok_or("no answer")?;
-    assert!(rt; answer.reply.status.code() == 403 && count_of(&answer.back) == 3);
-    drop(answer);
-    assert!(rt; Arc::strong_count(&first) == 3);
+    assert!(rt; owners(&first, &second) == (3, 4));
+    assert!(rt; is_refused_another(&mut book, alloc, &first));
+    assert!(rt; owners(&first, &second) == (3, 4));
     Ok(())
 }

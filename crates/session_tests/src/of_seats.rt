@@ -108,19 +108,23 @@ fn opened(book: &mut Book<u16>, alloc: Global) -> bool {
     true
 }
 
+/// Whether a seat that connection 4 leaves, beside one that is out, can be given back once and is taken again.
+fn is_taken_again(book: &mut Book<u16>, alloc: Global) -> Option<bool> {
+    let third = plays(book, alloc, 3, PLAY_3)?;
+    let fourth = plays(book, alloc, 4, PLAY_4)?;
+    let is_given_back = third != fourth
+        && answered(book, alloc, 4, PAUSE_4).is_some()
+        && book.give_back(1, fourth, pass_of(10, fourth)).is_none();
+    let is_free = is_given_back && refuses(book, 1, fourth);
+    Some(is_free && plays(book, alloc, 4, PLAY_4) == Some(fourth))
+}
+
 #[test]
 fn a_seat_that_is_given_back_is_taken_again(rt: HostRuntime) -> Result<(), Fail> {
     let alloc = rt.alloc();
     let mut book: Book<u16> = Book::new(alloc, 2, RandomState::new(&rt)?);
     assert!(rt; opened(&mut book, alloc));
-    let third = plays(&mut book, alloc, 3, PLAY_3).ok_or("no seat")?;
-    let fourth = plays(&mut book, alloc, 4, PLAY_4).ok_or("no seat")?;
-    assert!(rt; third != fourth);
-    assert!(rt; answered(&mut book, alloc, 4, PAUSE_4).is_some());
-    assert!(rt; book.give_back(1, fourth, pass_of(10, fourth)).is_none());
-    // It is free now, beside one that is out.
-    assert!(rt; refuses(&mut book, 1, fourth));
-    assert!(rt; plays(&mut book, alloc, 4, PLAY_4) == Some(fourth));
+    assert!(rt; is_taken_again(&mut book, alloc) == Some(true));
     Ok(())
 }
 

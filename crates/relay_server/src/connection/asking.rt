@@ -43,12 +43,22 @@ where
             Some(Method::Announce) => self.ask_to_publish(request, word),
             Some(Method::Play) => {
                 let points = self.points()?;
-                Ok((self.ask_book(request, word, points, None)?, None))
+                self.ask_plainly(request, word, points)
             }
-            _ => {
-                let points = Items::empty(self.alloc);
-                Ok((self.ask_book(request, word, points, None)?, None))
-            }
+            _ => self.ask_plainly(request, word, Items::empty(self.alloc)),
+        }
+    }
+
+    /// Asks with nothing offered.
+    fn ask_plainly(
+        &mut self,
+        request: &Request,
+        word: u32,
+        points: Items<Option<Point>>,
+    ) -> Result<Asked<R, M>, AllocError> {
+        match self.ask_book(request, word, points, None) {
+            Ok(answer) => Ok((answer, None)),
+            Err(_) => Err(AllocError),
         }
     }
 
@@ -57,31 +67,27 @@ where
         let shared = Arc::try_clone(&self.shared)?;
         let one_at_a_time = shared.making.lock(&self.rt);
         let (feed, seats) = self.offer()?;
-        let points = Items::empty(self.alloc);
-        let answer = self.ask_book(request, word, points, Some(seats))?;
-        let Answer {
-            reply,
-            act,
-            pass,
-            back,
-        } = answer;
-        drop(back);
-        let feed = if act == Act::Open {
-            Some(feed)
-        } else {
-            drop(feed);
-            None
-        };
+        let asked = self.ask_with_offer(request, word, feed, seats);
         drop(one_at_a_time);
-        let answer = Answer {
-            reply,
-            act,
-            pass,
-            back: None,
-        };
-        Ok((answer, feed))
+        asked
     }
 
+    /// Asks with a seat for each pass. Where no mount is opened, its feed and what comes back of the seats are dropped.
+    fn ask_with_offer(
+        &mut self,
+        request: &Request,
+        word: u32,
+        feed: Posting<R, M::In>,
+        seats: Vec<Seat<M::Pass>>,
+    ) -> Result<Asked<R, M>, AllocError> {
+        let points = Items::empty(self.alloc);
+        let mut answer = self.ask_book(request, word, points, Some(seats))?;
+        drop(answer.back.take());
+        let is_opened = answer.act == Act::Open;
+        Ok((answer, is_opened.then_some(feed)))
+    }
+
+    /// Asks the book, and learns how the session stands then.
     fn ask_book(
         &mut self,
         request: &Request,

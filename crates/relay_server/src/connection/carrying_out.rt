@@ -32,32 +32,41 @@ where
         answer: Answer<Seat<M::Pass>>,
         feed: Option<Posting<R, M::In>>,
     ) -> Result<(), ConnectionEnd> {
-        let Answer {
-            reply,
-            act,
-            pass,
-            back: _,
-        } = answer;
+        self.take_up(answer.act, answer.pass, feed);
+        self.reply_to(answer.act, &answer.reply)
+    }
+
+    /// Takes up the mount that was opened, or the seat that was taken.
+    fn take_up(&mut self, act: Act, pass: Option<Seat<M::Pass>>, feed: Option<Posting<R, M::In>>) {
         match act {
-            Act::None => {}
             Act::Open => self.publishing = feed,
-            Act::Record => self.record(),
-            Act::Play { mount, seat } => {
-                self.attach(mount, seat, pass);
-            }
-            Act::Stop { .. } => {
-                self.stop_frames(Duration::from_millis(STALLED));
-                if self.detach() == FrameEnd::OutOfMemory {
-                    // The thread has hung up: no reply can be written any more.
-                    return Err(ConnectionEnd::OutOfMemory);
-                }
-            }
-            Act::End => self.end_mount(),
+            Act::Play { mount, seat } => self.attach(mount, seat, pass),
+            Act::None | Act::Stop { .. } | Act::Record | Act::End => {}
         }
-        self.write_reply(&reply)?;
+    }
+
+    /// Writes a reply, behind what its request begins or ends for others and before the frames of a PLAY.
+    fn reply_to(&mut self, act: Act, reply: &Reply) -> Result<(), ConnectionEnd> {
+        match act {
+            Act::Record => self.record(),
+            Act::Stop { .. } => self.stop_playing()?,
+            Act::End => self.end_mount(),
+            Act::None | Act::Open | Act::Play { .. } => {}
+        }
+        self.write_reply(reply)?;
         match act {
             Act::Play { .. } => self.start_frames(),
             _ => Ok(()),
+        }
+    }
+
+    /// Stops the frames and gives the seat back, so that the reply can be written.
+    fn stop_playing(&mut self) -> Result<(), ConnectionEnd> {
+        self.stop_frames(Duration::from_millis(STALLED));
+        match self.detach() {
+            // The thread has hung up: no reply can be written any more.
+            FrameEnd::OutOfMemory => Err(ConnectionEnd::OutOfMemory),
+            FrameEnd::Stopped | FrameEnd::Ended | FrameEnd::WriteFailed => Ok(()),
         }
     }
 
@@ -119,21 +128,24 @@ where
         let end = frames.join(&self.rt);
         self.is_over = end == FrameEnd::Ended && self.shared.after_end.is_some();
         match self.hand.take(&self.rt) {
-            TapPlace::Attached(tap) => {
-                let (pass, left) = self.shared.maker.detach(tap);
-                self.counts.add_out(&left, self.shared.maker.keep());
-                let (mount, seat, notice) = frames.into_seat();
-                let mut book = self.shared.book.lock(&self.rt);
-                let returned = book.give_back(mount, seat, Seat { pass, notice });
-                // The pass comes back where the mount has ended, and its ring may go with it: not under the lock.
-                drop(book);
-                drop(returned);
-            }
+            TapPlace::Attached(tap) => self.give_back(tap, frames),
             // The mount has ended: its seats are nobody's any more.
             TapPlace::Left(left) => self.counts.add_out(&left, self.shared.maker.keep()),
             TapPlace::Nowhere => {}
         }
         end
+    }
+
+    /// Detaches a tap, and gives its seat back to the book.
+    fn give_back(&mut self, tap: M::Out, frames: Frames) {
+        let (pass, left) = self.shared.maker.detach(tap);
+        self.counts.add_out(&left, self.shared.maker.keep());
+        let (mount, seat, notice) = frames.into_seat();
+        let mut book = self.shared.book.lock(&self.rt);
+        let returned = book.give_back(mount, seat, Seat { pass, notice });
+        // The pass comes back where the mount has ended, and its ring may go with it: not under the lock.
+        drop(book);
+        drop(returned);
     }
 
     /// The mount has ended: no packet comes any more.
