@@ -1,18 +1,19 @@
 //! What becomes of the packets of a player that is too slow, and of its mount.
 use crate::connection_tests::{ANNOUNCE, SETUP};
-use crate::devices::{Held, Open, Rings, Staged, Written, joined};
+use crate::devices::{Bytes, Flag, Held, Staged, has_come, joined};
 use crate::scripted::FRAME;
+use crate::serving::{Serving, SharedRings, Watch, serve_camera, serve_in_thread, shared_by_two};
 use crate::words::CountedWords;
-use interleaved::{Reading, Writing};
-use relay_server::{ConnectionEnd, Line, OpenGate, Shared, run_connection};
-use session_lock::Book;
+use interleaved::Writing;
+use relay_server::{ConnectionEnd, Line};
 use std::alloc::{AllocError, Global};
 use std::collections::hash_map::RandomState;
+use std::process::Abort;
 use std::sync::atomic::{AtomicBool, Ordering};
-use std::sync::{Arc, Mutex, Wait};
+use std::sync::{Arc, Wait};
 use std::test::Fail;
-use std::thread;
-use std::time::{Clock, Duration};
+use std::thread::Threads;
+use std::time::Clock;
 
 /// In the session that the second word began.
 const RECORD: &[u8] = b"RECORD rtsp://h/a RTSP/1.0\nCSeq: 3\nSession: 0000000100000002\n\n";
@@ -35,24 +36,6 @@ const PACKETS: u64 = 40;
 /// More bytes than the reply to a player's SETUP has, and fewer than this and the reply to its PLAY.
 const SET_UP: usize = 150;
 
-type Bytes = Arc<Mutex<Vec<u8>>, Global>;
-
-type Flag = Arc<AtomicBool, Global>;
-
-/// Waits until at least so many bytes were written and this is the end of them, for at most 10,000 turns of a
-/// millisecond.
-fn has_come<R: Wait + Clock>(rt: &R, bytes: &Bytes, least: usize, end: &[u8]) -> bool {
-    for _ in 0..10_000u32 {
-        let written = bytes.lock(rt);
-        if written.len() >= least && written.as_slice().ends_with(end) {
-            return true;
-        }
-        drop(written);
-        thread::sleep(rt, Duration::from_millis(1));
-    }
-    false
-}
-
 /// The frames of a publisher.
 fn packets(alloc: Global) -> Result<Vec<u8>, AllocError> {
     let mut all = Vec::new(alloc);
@@ -63,26 +46,11 @@ fn packets(alloc: Global) -> Result<Vec<u8>, AllocError> {
     Ok(all)
 }
 
-/// A publisher that sends its packets once it is let on, and then closes.
-fn camera<R: Drop>(rt: R, alloc: Global, let_on: &Flag) -> Result<Staged<R>, AllocError> {
-    Ok(Staged {
-        rt,
-        first: joined(alloc, &[ANNOUNCE, SETUP, RECORD])?,
-        then: packets(alloc)?,
-        let_on: Arc::try_clone(let_on)?,
-        given: 0,
-    })
-}
-
 /// A player that closes once it is let on.
-fn player<R: Drop>(rt: R, alloc: Global, let_on: &Flag) -> Result<Staged<R>, AllocError> {
-    Ok(Staged {
-        rt,
-        first: joined(alloc, &[SETUP_OUT, PLAY])?,
-        then: Vec::new(alloc),
-        let_on: Arc::try_clone(let_on)?,
-        given: 0,
-    })
+fn player<R: Drop>(rt: R, alloc: Global, watch: &Watch) -> Result<Staged<R>, AllocError> {
+    let said = joined(alloc, &[SETUP_OUT, PLAY])?;
+    let let_on = Arc::try_clone(&watch.let_on)?;
+    Ok(Staged::new(rt, said, Vec::new(alloc), let_on))
 }
 
 /// A line of a player that reads nothing behind the reply to its PLAY until it is let on.
@@ -101,51 +69,89 @@ fn stalled_line<R: Wait + Clock + Drop>(
     Ok(Line::new(alloc, Writing::new(sink)))
 }
 
-/// Connection 1 publishes while connection 2 reads nothing; then 2 reads to the end of the mount, and closes. Each
-/// packet was taken and written, or is counted as lost; each request had a word of its own; and the mount that has ended
-/// isn't among those that are recorded.
+/// Connection 1, which records. Once it is let on it sends its packets, and then closes.
+fn recording<R>(
+    rt: R,
+    alloc: Global,
+    shared: &SharedRings<CountedWords>,
+) -> Result<Serving, AllocError>
+where
+    R: Threads + Wait + Clock + Abort + Copy + Drop + Send + 'static,
+{
+    let first = joined(alloc, &[ANNOUNCE, SETUP, RECORD])?;
+    let camera = serve_camera(rt, alloc, shared, first, packets(alloc)?)?;
+    assert!(rt; has_come(&rt, &camera.watch.written, 0, RECORDING));
+    assert!(rt; shared.recorded(&rt) == 1);
+    Ok(camera)
+}
+
+/// Connection 2, which plays, and reads nothing more until `read` is set. Once it is let on it closes.
+fn playing<R>(
+    rt: R,
+    alloc: Global,
+    shared: &SharedRings<CountedWords>,
+    read: &Flag,
+) -> Result<Serving, AllocError>
+where
+    R: Threads + Wait + Clock + Abort + Copy + Drop + Send + 'static,
+{
+    let watch = Watch::new(alloc)?;
+    let source = player(rt, alloc, &watch)?;
+    let line = stalled_line(rt, alloc, &watch.written, read)?;
+    let thread = serve_in_thread(rt, alloc, shared, 2, source, line)?;
+    assert!(rt; has_come(&rt, &watch.written, SET_UP, b"\r\n\r\n"));
+    Ok(Serving { watch, thread })
+}
+
+/// How many packets a publisher has published up to its end, behind which its mount isn't recorded.
+fn published<R>(rt: &R, shared: &SharedRings<CountedWords>, camera: Serving) -> u64
+where
+    R: Threads + Wait + Abort,
+{
+    let (end, came, _written) = camera.end(rt);
+    assert!(rt; end == ConnectionEnd::Done && came.published > 30);
+    assert!(rt; shared.recorded(rt) == 0);
+    came.published
+}
+
+/// What a player has taken was written behind so many bytes of replies, and the rest of what was published is lost.
+fn adds_up<R>(rt: &R, player: Serving, replies: usize, published: u64)
+where
+    R: Threads + Wait + Abort,
+{
+    let (end, counts, written) = player.end(rt);
+    assert!(rt; end == ConnectionEnd::Done && counts.lost > 0);
+    assert!(rt; counts.taken.checked_add(counts.lost) == Some(published));
+    let frames = written.lock(rt).len().saturating_sub(replies) / LAST.len();
+    assert!(rt; frames as u64 == counts.taken);
+}
+
+/// Connection 1 publishes while connection 2 reads nothing; then 2 reads to the end of the mount, and closes.
+fn publish_and_play<R>(
+    rt: R,
+    alloc: Global,
+    shared: &SharedRings<CountedWords>,
+) -> Result<(), AllocError>
+where
+    R: Threads + Wait + Clock + Abort + Copy + Drop + Send + 'static,
+{
+    let camera = recording(rt, alloc, shared)?;
+    let read = Arc::new(alloc, AtomicBool::new(false))?;
+    let player = playing(rt, alloc, shared, &read)?;
+    let replies = player.watch.written.lock(&rt).len();
+    let published = published(&rt, shared, camera);
+    read.store(true, Ordering::SeqCst);
+    assert!(rt; has_come(&rt, &player.watch.written, replies, LAST));
+    adds_up(&rt, player, replies, published);
+    Ok(())
+}
+
+/// Each packet was taken and written, or is counted as lost; each request had a word of its own; and the mount that has
+/// ended isn't among those that are recorded.
 #[test]
 fn a_slow_players_account_adds_up(rt: HostRuntime) -> Result<(), Fail> {
     let alloc = rt.alloc();
-    let book = Book::new(alloc, 1, RandomState::new(&rt)?);
-    let book = Arc::new(alloc, Mutex::new(book))?;
-    for _ in 0..2 {
-        let _ = book.lock(&rt).connect();
-    }
-    let maker = Rings::refusing(None);
-    let shared = Shared::new(alloc, maker, book, CountedWords(1), OpenGate, None)?;
-    let shared = Arc::new(alloc, shared)?;
-    let publish = Arc::new(alloc, AtomicBool::new(false))?;
-    let read = Arc::new(alloc, AtomicBool::new(false))?;
-    let leave = Arc::new(alloc, AtomicBool::new(false))?;
-    let told = Arc::new(alloc, Mutex::new(Vec::new(alloc)))?;
-    let sink = Written::new(rt, Arc::try_clone(&told)?, 1000);
-    let line = Line::new(alloc, Writing::new(sink));
-    let (theirs, source) = (Arc::try_clone(&shared)?, camera(rt, alloc, &publish)?);
-    let recording = thread::spawn(&rt, move || {
-        run_connection(rt, alloc, theirs, 1, Reading::new(source), line, Open)
-    })?;
-    assert!(rt; has_come(&rt, &told, 0, RECORDING));
-    assert!(rt; shared.recorded(&rt) == 1);
-    let written = Arc::new(alloc, Mutex::new(Vec::new(alloc)))?;
-    let line = stalled_line(rt, alloc, &written, &read)?;
-    let (theirs, source) = (Arc::try_clone(&shared)?, player(rt, alloc, &leave)?);
-    let playing = thread::spawn(&rt, move || {
-        run_connection(rt, alloc, theirs, 2, Reading::new(source), line, Open)
-    })?;
-    assert!(rt; has_come(&rt, &written, SET_UP, b"\r\n\r\n"));
-    let replies = written.lock(&rt).len();
-    publish.store(true, Ordering::SeqCst);
-    let (end, came) = recording.join(&rt);
-    assert!(rt; end == ConnectionEnd::Done && came.published > 30);
-    assert!(rt; shared.recorded(&rt) == 0);
-    read.store(true, Ordering::SeqCst);
-    assert!(rt; has_come(&rt, &written, replies, LAST));
-    leave.store(true, Ordering::SeqCst);
-    let (end, counts) = playing.join(&rt);
-    assert!(rt; end == ConnectionEnd::Done && counts.lost > 0);
-    assert!(rt; counts.taken.checked_add(counts.lost) == Some(came.published));
-    let frames = written.lock(&rt).len().saturating_sub(replies) / LAST.len();
-    assert!(rt; frames as u64 == counts.taken);
+    let shared = shared_by_two(&rt, alloc, RandomState::new(&rt)?, None, CountedWords(1))?;
+    publish_and_play(rt, alloc, &shared)?;
     Ok(())
 }

@@ -1,15 +1,13 @@
 //! A connection over devices in memory.
-use crate::devices::{Open, Rings, Written, joined};
+use crate::devices::{Open, joined};
+use crate::serving::{SharedRings, book_of, line_to, shared_over};
 use crate::words::OneWord;
-use interleaved::{ListSource, Writing};
-use packet_ring::Pass;
-use relay_server::{
-    ConnectionEnd, Counts, Line, OpenGate, Seat, Shared, SharedBook, run_connection,
-};
+use interleaved::ListSource;
+use relay_server::{ConnectionEnd, Counts, run_connection};
 use rtsp_message::Fault;
-use session_lock::Book;
 use std::alloc::{AllocError, Global};
 use std::collections::hash_map::RandomState;
+use std::process::Abort;
 use std::sync::{Arc, Mutex, Wait};
 use std::test::Fail;
 use std::thread::Threads;
@@ -33,7 +31,32 @@ struct Served {
     end: ConnectionEnd,
     counts: Counts,
     written: Vec<u8>,
-    book: SharedBook<Seat<Pass>>,
+    /// How many calls its book keeps.
+    kept: usize,
+    is_open: bool,
+}
+
+/// Serves a connection over what it shares. How it ended, and what was written.
+fn run<R>(
+    rt: R,
+    alloc: Global,
+    shared: SharedRings<OneWord>,
+    peer: Peer,
+) -> Result<(ConnectionEnd, Counts, Vec<u8>), AllocError>
+where
+    R: Threads + Wait + Clock + Copy + Drop + Send + 'static,
+{
+    let bytes = Arc::new(alloc, Mutex::new(Vec::new(alloc)))?;
+    let line = line_to(rt, alloc, &bytes, peer.room)?;
+    let fail_at = if peer.read_fails {
+        Some(peer.said.len())
+    } else {
+        None
+    };
+    let source = ListSource::new(peer.said, 7, fail_at);
+    let (end, counts) = run_connection(rt, alloc, shared, 1, source, line, Open);
+    let written = Vec::from_slice(alloc, bytes.lock(&rt).as_slice())?;
+    Ok((end, counts, written))
 }
 
 /// Serves a connection over a ring of one seat that keeps four packets of at most 16 bytes.
@@ -41,28 +64,16 @@ fn serve<R>(rt: R, alloc: Global, hasher: RandomState, peer: Peer) -> Result<Ser
 where
     R: Threads + Wait + Clock + Copy + Drop + Send + 'static,
 {
-    let book = Arc::new(alloc, Mutex::new(Book::new(alloc, 1, hasher)))?;
-    let _first = book.lock(&rt).connect();
-    let theirs = Arc::try_clone(&book)?;
-    let maker = Rings::refusing(peer.refused);
-    let shared = Shared::new(alloc, maker, theirs, OneWord, OpenGate, None)?;
-    let shared = Arc::new(alloc, shared)?;
-    let fail_at = if peer.read_fails {
-        Some(peer.said.len())
-    } else {
-        None
-    };
-    let source = ListSource::new(peer.said, 7, fail_at);
-    let bytes = Arc::new(alloc, Mutex::new(Vec::new(alloc)))?;
-    let written = Written::new(rt, Arc::try_clone(&bytes)?, peer.room);
-    let line = Line::new(alloc, Writing::new(written));
-    let (end, counts) = run_connection(rt, alloc, shared, 1, source, line, Open);
-    let written = Vec::from_slice(alloc, bytes.lock(&rt).as_slice())?;
+    let book = book_of(&rt, alloc, hasher, 1)?;
+    let shared = shared_over(alloc, &book, peer.refused, OneWord)?;
+    let (end, counts, written) = run(rt, alloc, shared, peer)?;
+    let book = book.lock(&rt);
     Ok(Served {
         end,
         counts,
         written,
-        book,
+        kept: book.kept(),
+        is_open: book.is_open(1),
     })
 }
 
@@ -94,7 +105,7 @@ fn each_frame_of_a_connection_is_counted(rt: HostRuntime) -> Result<(), Fail> {
     };
     assert!(rt; served.counts == want && served.counts.has_losses());
     // Its coming, four requests and its hang-up.
-    assert!(rt; served.book.lock(&rt).kept() == 6);
+    assert!(rt; served.kept == 6);
     Ok(())
 }
 
@@ -238,30 +249,47 @@ const ROWS: [Row; 10] = [
     },
 ];
 
+/// The peer of a row, which is answered by so many bytes.
+fn peer_of(alloc: Global, row: &Row, answered: usize) -> Result<Peer, AllocError> {
+    Ok(Peer {
+        said: joined(alloc, row.said)?,
+        read_fails: row.read_fails,
+        room: if row.write_fails { answered } else { 1000 },
+        refused: row.refused,
+    })
+}
+
+/// A row's connection is answered as the row says, and ends so.
+fn row_holds<R>(
+    rt: R,
+    alloc: Global,
+    hasher: RandomState,
+    place: usize,
+    row: &Row,
+) -> Result<(), AllocError>
+where
+    R: Threads + Wait + Clock + Abort + Copy + Drop + Send + 'static,
+{
+    let answered = joined(alloc, row.answered)?;
+    let peer = peer_of(alloc, row, answered.len())?;
+    let served = serve(rt, alloc, hasher, peer)?;
+    assert!(rt;
+        served.written.as_slice() == answered.as_slice(),
+        "row {place}: {}",
+        served.written.as_slice().escape_ascii()
+    );
+    assert!(rt; served.end == row.end, "row {place}: {}", served.end);
+    assert!(rt; served.counts.strangers == row.strangers, "row {place}");
+    assert!(rt; !served.is_open, "row {place}");
+    Ok(())
+}
+
 #[test]
 fn connections_end_as_their_peers_do(rt: HostRuntime) -> Result<(), Fail> {
     let alloc = rt.alloc();
+    let hasher = RandomState::new(&rt)?;
     for (place, row) in ROWS.iter().enumerate() {
-        let answered = joined(alloc, row.answered)?;
-        let peer = Peer {
-            said: joined(alloc, row.said)?,
-            read_fails: row.read_fails,
-            room: if row.write_fails {
-                answered.len()
-            } else {
-                1000
-            },
-            refused: row.refused,
-        };
-        let served = serve(rt, alloc, RandomState::new(&rt)?, peer)?;
-        assert!(rt;
-            served.written.as_slice() == answered.as_slice(),
-            "row {place}: {}",
-            served.written.as_slice().escape_ascii()
-        );
-        assert!(rt; served.end == row.end, "row {place}: {}", served.end);
-        assert!(rt; served.counts.strangers == row.strangers, "row {place}");
-        assert!(rt; !served.book.lock(&rt).is_open(1), "row {place}");
+        row_holds(rt, alloc, hasher, place, row)?;
     }
     Ok(())
 }

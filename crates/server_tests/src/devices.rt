@@ -9,6 +9,12 @@ use std::sync::{Arc, Mutex, Wait};
 use std::time::{Clock, Duration};
 use std::{io, thread};
 
+/// Bytes that are written, shared with who reads them.
+pub(crate) type Bytes = Arc<Mutex<Vec<u8>>, Global>;
+
+/// A word by which a device is let on.
+pub(crate) type Flag = Arc<AtomicBool, Global>;
+
 /// A connection that needs no hanging up.
 #[derive(Clone, Copy, Drop)]
 pub(crate) struct Open;
@@ -24,15 +30,9 @@ impl HangUp for Open {
 /// Keeps what is written for whoever shares it, and takes so many bytes more.
 #[derive(Drop)]
 pub(crate) struct Written<R> {
-    rt: R,
-    bytes: Arc<Mutex<Vec<u8>>, Global>,
-    room: usize,
-}
-
-impl<R> Written<R> {
-    pub(crate) fn new(rt: R, bytes: Arc<Mutex<Vec<u8>>, Global>, room: usize) -> Written<R> {
-        Written { rt, bytes, room }
-    }
+    pub(crate) rt: R,
+    pub(crate) bytes: Bytes,
+    pub(crate) room: usize,
 }
 
 impl<R: Wait> Write for Written<R> {
@@ -53,9 +53,9 @@ impl<R: Wait> Write for Written<R> {
 #[derive(Drop)]
 pub(crate) struct Held<R> {
     pub(crate) rt: R,
-    pub(crate) bytes: Arc<Mutex<Vec<u8>>, Global>,
+    pub(crate) bytes: Bytes,
     pub(crate) free: usize,
-    pub(crate) let_on: Arc<AtomicBool, Global>,
+    pub(crate) let_on: Flag,
 }
 
 impl<R: Wait + Clock> Write for Held<R> {
@@ -133,15 +133,26 @@ impl Maker for Rings {
 /// Gives the one part, and the other once it is let on, for which it waits at most 10,000 turns of a millisecond.
 #[derive(Drop)]
 pub(crate) struct Staged<R> {
-    pub(crate) rt: R,
-    pub(crate) first: Vec<u8>,
-    pub(crate) then: Vec<u8>,
-    pub(crate) let_on: Arc<AtomicBool, Global>,
+    rt: R,
+    first: Vec<u8>,
+    then: Vec<u8>,
+    let_on: Flag,
     /// How many bytes were given.
-    pub(crate) given: usize,
+    given: usize,
 }
 
 impl<R> Staged<R> {
+    /// Nothing is given yet.
+    pub(crate) fn new(rt: R, first: Vec<u8>, then: Vec<u8>, let_on: Flag) -> Staged<R> {
+        Staged {
+            rt,
+            first,
+            then,
+            let_on,
+            given: 0,
+        }
+    }
+
     /// What isn't given yet of the part that it stands in.
     fn rest(&self) -> &[u8] {
         let first = self.first.as_slice();
@@ -173,4 +184,18 @@ pub(crate) fn joined(alloc: Global, parts: &[&[u8]]) -> Result<Vec<u8>, AllocErr
         all.extend_from_slice(part)?;
     }
     Ok(all)
+}
+
+/// Waits until at least so many bytes were written and this is the end of them, for at most 10,000 turns of a
+/// millisecond.
+pub(crate) fn has_come<R: Wait + Clock>(rt: &R, bytes: &Bytes, least: usize, end: &[u8]) -> bool {
+    for _ in 0..10_000u32 {
+        let written = bytes.lock(rt);
+        if written.len() >= least && written.as_slice().ends_with(end) {
+            return true;
+        }
+        drop(written);
+        thread::sleep(rt, Duration::from_millis(1));
+    }
+    false
 }

@@ -2,6 +2,9 @@
 use crate::loopback::{Client, OPTIONS, Set, start, status};
 use relay_server::OpenGate;
 use std::alloc::{AllocError, Global};
+use std::io;
+use std::net::{Net, SocketAddr, TcpStream};
+use std::process::Abort;
 use std::test::Fail;
 
 /// How many requests come in one write.
@@ -16,20 +19,53 @@ fn flood(alloc: Global) -> Result<Vec<u8>, AllocError> {
     Ok(requests)
 }
 
-#[test]
-fn each_request_of_a_flood_is_answered(rt: HostRuntime) -> Result<(), Fail> {
-    let alloc = rt.alloc();
-    let server = start(rt, alloc, Set::of(1, 1), OpenGate)?;
-    let mut client = Client::connect(&rt, alloc, server.addr)?;
+/// Says nothing more, and is hung up.
+fn leaves<R: Abort>(rt: &R, client: &mut Client) -> io::Result<()> {
+    client.fall_silent()?;
+    assert!(rt; client.is_hung_up()?);
+    Ok(())
+}
+
+/// A client each of whose requests was answered.
+fn flooding<R: Net<Stream = TcpStream> + Abort>(
+    rt: &R,
+    alloc: Global,
+    addr: SocketAddr,
+) -> io::Result<Client> {
+    let mut client = Client::connect(rt, alloc, addr)?;
     client.say(flood(alloc)?.as_slice())?;
     for place in 0..FLOOD {
         assert!(rt; status(client.head()?.as_slice()) == 200, "reply {place}");
     }
-    client.fall_silent()?;
-    assert!(rt; client.bytes(1)?.is_empty());
-    let book = server.end(&rt)?;
+    leaves(rt, &mut client)?;
+    Ok(client)
+}
+
+#[test]
+fn each_request_of_a_flood_is_answered(rt: HostRuntime) -> Result<(), Fail> {
+    let alloc = rt.alloc();
+    let server = start(rt, alloc, Set::of(1, 1), OpenGate)?;
+    let _client = flooding(&rt, alloc, server.addr)?;
+    let ended = server.end(&rt)?;
     // Its coming, its requests and its hang-up.
-    assert!(rt; book.lock(&rt).kept() == 1002);
+    assert!(rt; ended.kept == 1002);
+    Ok(())
+}
+
+/// A client that says this and nothing more is closed, and is answered where it is a request.
+fn silent_is_closed<R: Net<Stream = TcpStream> + Abort>(
+    rt: &R,
+    alloc: Global,
+    addr: SocketAddr,
+    said: &[u8],
+) -> io::Result<()> {
+    let mut client = Client::connect(rt, alloc, addr)?;
+    client.ask(OPTIONS)?;
+    client.say(said)?;
+    client.fall_silent()?;
+    let replies = client.bytes(usize::MAX)?;
+    assert!(rt; replies.is_empty() || status(replies.as_slice()) == 200);
+    assert!(rt; replies.is_empty() == (said != OPTIONS));
     Ok(())
 }
 
@@ -38,16 +74,33 @@ fn each_request_of_a_flood_is_answered(rt: HostRuntime) -> Result<(), Fail> {
 fn a_silent_peer_is_closed(rt: HostRuntime) -> Result<(), Fail> {
     let alloc = rt.alloc();
     let server = start(rt, alloc, Set::of(2, 1), OpenGate)?;
-    for said in [OPTIONS, b"$\x00\x00\x0c\x80\x60".as_slice()] {
-        let mut client = Client::connect(&rt, alloc, server.addr)?;
-        client.ask(OPTIONS)?;
-        client.say(said)?;
-        client.fall_silent()?;
-        let replies = client.bytes(usize::MAX)?;
-        assert!(rt; replies.is_empty() || status(replies.as_slice()) == 200);
-        assert!(rt; replies.is_empty() == (said != OPTIONS));
-    }
-    let _book = server.end(&rt)?;
+    silent_is_closed(&rt, alloc, server.addr, OPTIONS)?;
+    silent_is_closed(&rt, alloc, server.addr, b"$\x00\x00\x0c\x80\x60")?;
+    server.end(&rt)?;
+    Ok(())
+}
+
+/// A client that closes while replies come to it.
+fn closes_early<R: Net<Stream = TcpStream> + Abort>(
+    rt: &R,
+    alloc: Global,
+    addr: SocketAddr,
+) -> io::Result<()> {
+    let mut client = Client::connect(rt, alloc, addr)?;
+    assert!(rt; client.status_of(flood(alloc)?.as_slice())? == 200);
+    Ok(())
+}
+
+/// Another client is answered before and behind that.
+fn other_is_unhurt<R: Net<Stream = TcpStream> + Abort>(
+    rt: &R,
+    alloc: Global,
+    addr: SocketAddr,
+) -> io::Result<()> {
+    let mut other = Client::connect(rt, alloc, addr)?;
+    other.ask(OPTIONS)?;
+    closes_early(rt, alloc, addr)?;
+    assert!(rt; other.status_of(OPTIONS)? == 200);
     Ok(())
 }
 
@@ -56,33 +109,34 @@ fn a_silent_peer_is_closed(rt: HostRuntime) -> Result<(), Fail> {
 fn a_reset_ends_one_connection_alone(rt: HostRuntime) -> Result<(), Fail> {
     let alloc = rt.alloc();
     let server = start(rt, alloc, Set::of(2, 1), OpenGate)?;
-    let mut other = Client::connect(&rt, alloc, server.addr)?;
-    other.ask(OPTIONS)?;
-    let mut client = Client::connect(&rt, alloc, server.addr)?;
-    assert!(rt; status(client.ask(flood(alloc)?.as_slice())?.as_slice()) == 200);
-    drop(client);
-    assert!(rt; status(other.ask(OPTIONS)?.as_slice()) == 200);
-    drop(other);
-    let book = server.end(&rt)?;
-    let book = book.lock(&rt);
-    assert!(rt; !book.is_open(1) && !book.is_open(2));
+    other_is_unhurt(&rt, alloc, server.addr)?;
+    let ended = server.end(&rt)?;
+    assert!(rt; !ended.open[0] && !ended.open[1]);
     Ok(())
+}
+
+/// Two clients that are there together, and leave one behind the other.
+fn two_that_left<R: Net<Stream = TcpStream> + Abort>(
+    rt: &R,
+    alloc: Global,
+    addr: SocketAddr,
+) -> io::Result<[Client; 2]> {
+    let mut first = Client::connect(rt, alloc, addr)?;
+    let mut last = Client::connect(rt, alloc, addr)?;
+    assert!(rt; first.status_of(OPTIONS)? == 200);
+    leaves(rt, &mut first)?;
+    for _ in 0..2 {
+        assert!(rt; last.status_of(OPTIONS)? == 200);
+    }
+    leaves(rt, &mut last)?;
+    Ok([first, last])
 }
 
 #[test]
 fn a_server_ends_with_its_last_connection(rt: HostRuntime) -> Result<(), Fail> {
     let alloc = rt.alloc();
     let server = start(rt, alloc, Set::of(2, 1), OpenGate)?;
-    let mut first = Client::connect(&rt, alloc, server.addr)?;
-    let mut last = Client::connect(&rt, alloc, server.addr)?;
-    assert!(rt; status(first.ask(OPTIONS)?.as_slice()) == 200);
-    first.fall_silent()?;
-    assert!(rt; first.bytes(1)?.is_empty());
-    for _ in 0..2 {
-        assert!(rt; status(last.ask(OPTIONS)?.as_slice()) == 200);
-    }
-    last.fall_silent()?;
-    assert!(rt; last.bytes(1)?.is_empty());
-    let _book = server.end(&rt)?;
+    let _clients = two_that_left(&rt, alloc, server.addr)?;
+    server.end(&rt)?;
     Ok(())
 }

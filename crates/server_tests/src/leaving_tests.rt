@@ -1,9 +1,12 @@
 //! How peers leave over loopback, and what is free behind them.
-use crate::loopback::{Client, OPTIONS, Set, start, status};
-use crate::scripted::{FRAME, SETUP_OUT, asking, numbered, play, player, publisher};
+use crate::loopback::{Client, OPTIONS, Set, start};
+use crate::scripted::{
+    FRAME, Peers, has_frame, passes_on, play, player, publish, publisher, status_in,
+};
 use relay_server::OpenGate;
 use std::alloc::Global;
 use std::net::{Net, SocketAddr, TcpStream};
+use std::process::Abort;
 use std::test::Fail;
 use std::time::{Clock, Duration};
 use std::{io, thread};
@@ -14,13 +17,40 @@ const DESCRIBE: &[u8] = b"DESCRIBE rtsp://127.0.0.1:8554/cam RTSP/1.0\r\nCSeq: 2
 fn plays_at_last<R: Clock>(rt: &R, client: &mut Client, number: u8) -> io::Result<u16> {
     let mut answered = 0;
     for _ in 0..1000 {
-        answered = status(client.ask(&play(number))?.as_slice());
+        answered = client.status_of(&play(number))?;
         if answered != 453 {
             break;
         }
         thread::sleep(rt, Duration::from_millis(10));
     }
     Ok(answered)
+}
+
+/// While a mount lives its player has its packets, and another client is served.
+fn mount_lives<R: Abort>(
+    rt: &R,
+    camera: &mut Client,
+    player: &mut Client,
+    other: &mut Client,
+) -> io::Result<()> {
+    assert!(rt; passes_on(camera, player)?);
+    assert!(rt; other.status_of(OPTIONS)? == 200);
+    Ok(())
+}
+
+fn mount_ends<R: Net<Stream = TcpStream> + Abort>(
+    rt: &R,
+    alloc: Global,
+    addr: SocketAddr,
+) -> io::Result<()> {
+    let mut camera = publisher(rt, alloc, addr)?;
+    let mut player = player(rt, alloc, addr, 2)?;
+    let mut other = Client::connect(rt, alloc, addr)?;
+    mount_lives(rt, &mut camera, &mut player, &mut other)?;
+    drop(camera);
+    assert!(rt; player.is_hung_up()?);
+    assert!(rt; other.status_of(DESCRIBE)? == 404);
+    Ok(())
 }
 
 /// Its player sees the end, and nobody finds the mount.
@@ -32,18 +62,23 @@ fn a_mount_ends_where_its_publisher_just_closes(rt: HostRuntime) -> Result<(), F
         ..Set::of(3, 1)
     };
     let server = start(rt, alloc, set, OpenGate)?;
-    let mut camera = publisher(&rt, alloc, server.addr)?;
-    let mut player = player(&rt, alloc, server.addr, 2)?;
-    camera.say(FRAME)?;
-    assert!(rt; player.bytes(16)?.as_slice().ends_with(&FRAME[4..]));
-    let mut other = Client::connect(&rt, alloc, server.addr)?;
-    assert!(rt; status(other.ask(OPTIONS)?.as_slice()) == 200);
-    drop(camera);
-    assert!(rt; player.bytes(1)?.is_empty());
-    assert!(rt; status(other.ask(DESCRIBE)?.as_slice()) == 404);
-    drop((player, other));
-    let book = server.end(&rt)?;
-    assert!(rt; !book.lock(&rt).is_open(1));
+    mount_ends(&rt, alloc, server.addr)?;
+    let ended = server.end(&rt)?;
+    assert!(rt; !ended.open[0]);
+    Ok(())
+}
+
+/// The second player has the seat as soon as the first one has closed, and then what is published.
+fn seat_is_handed_on<R: Clock + Abort>(rt: &R, peers: Peers) -> io::Result<()> {
+    let Peers {
+        mut camera,
+        first,
+        mut second,
+    } = peers;
+    assert!(rt; second.status_of(&play(3))? == 453);
+    drop(first);
+    assert!(rt; plays_at_last(rt, &mut second, 3)? == 200);
+    assert!(rt; passes_on(&mut camera, &mut second)?);
     Ok(())
 }
 
@@ -51,18 +86,23 @@ fn a_mount_ends_where_its_publisher_just_closes(rt: HostRuntime) -> Result<(), F
 fn a_seat_is_free_again_where_its_player_just_closes(rt: HostRuntime) -> Result<(), Fail> {
     let alloc = rt.alloc();
     let server = start(rt, alloc, Set::of(3, 1), OpenGate)?;
-    let mut camera = publisher(&rt, alloc, server.addr)?;
-    let first = player(&rt, alloc, server.addr, 2)?;
-    let mut second = Client::connect(&rt, alloc, server.addr)?;
-    second.ask(SETUP_OUT)?;
-    assert!(rt; status(second.ask(&play(3))?.as_slice()) == 453);
-    drop(first);
-    assert!(rt; plays_at_last(&rt, &mut second, 3)? == 200);
-    camera.say(FRAME)?;
-    assert!(rt; second.bytes(16)?.as_slice().ends_with(&FRAME[4..]));
-    drop((camera, second));
-    let _book = server.end(&rt)?;
+    let peers = Peers::connect(&rt, alloc, server.addr)?;
+    seat_is_handed_on(&rt, peers)?;
+    server.end(&rt)?;
     Ok(())
+}
+
+/// A player to which a packet was published before its mount ended.
+fn player_behind_the_end<R: Net<Stream = TcpStream>>(
+    rt: &R,
+    alloc: Global,
+    addr: SocketAddr,
+) -> io::Result<Client> {
+    let mut camera = publisher(rt, alloc, addr)?;
+    let player = player(rt, alloc, addr, 2)?;
+    camera.say(FRAME)?;
+    status_in(&mut camera, alloc, "TEARDOWN", 1)?;
+    Ok(player)
 }
 
 /// A player that neither speaks nor closes is hung up behind its mount's end: the server ends while it is still there.
@@ -74,13 +114,22 @@ fn a_silent_player_is_hung_up_behind_the_end(rt: HostRuntime) -> Result<(), Fail
         ..Set::of(2, 1)
     };
     let server = start(rt, alloc, set, OpenGate)?;
-    let mut camera = publisher(&rt, alloc, server.addr)?;
-    let mut silent = player(&rt, alloc, server.addr, 2)?;
-    camera.say(FRAME)?;
-    camera.ask(asking(alloc, "TEARDOWN", 1)?.as_bytes())?;
-    drop(camera);
-    let _book = server.end(&rt)?;
+    let mut silent = player_behind_the_end(&rt, alloc, server.addr)?;
+    server.end(&rt)?;
     assert!(rt; silent.bytes(17)?.len() == 16);
+    Ok(())
+}
+
+/// A player sees that its mount has ended, and closes.
+fn player_closes<R: Net<Stream = TcpStream> + Abort>(
+    rt: &R,
+    alloc: Global,
+    addr: SocketAddr,
+) -> io::Result<()> {
+    let mut camera = publisher(rt, alloc, addr)?;
+    let mut player = player(rt, alloc, addr, 2)?;
+    status_in(&mut camera, alloc, "TEARDOWN", 1)?;
+    assert!(rt; player.is_hung_up()?);
     Ok(())
 }
 
@@ -93,12 +142,46 @@ fn a_player_that_closes_behind_the_end_is_not_waited_for(rt: HostRuntime) -> Res
         ..Set::of(2, 1)
     };
     let server = start(rt, alloc, set, OpenGate)?;
-    let mut camera = publisher(&rt, alloc, server.addr)?;
-    let mut player = player(&rt, alloc, server.addr, 2)?;
-    camera.ask(asking(alloc, "TEARDOWN", 1)?.as_bytes())?;
-    assert!(rt; player.bytes(1)?.is_empty());
-    drop((camera, player));
-    let _book = server.end(&rt)?;
+    player_closes(&rt, alloc, server.addr)?;
+    server.end(&rt)?;
+    Ok(())
+}
+
+/// Asks for the mount until it isn't found, up to a thousand times, and once more. The status that is answered last.
+fn asks_for_the_mount<R: Clock>(rt: &R, player: &mut Client) -> io::Result<u16> {
+    for _ in 0..1000 {
+        if player.status_of(DESCRIBE)? == 404 {
+            break;
+        }
+        // The description of a mount that lives comes behind its head.
+        player.bytes(149)?;
+        thread::sleep(rt, Duration::from_millis(10));
+    }
+    player.status_of(DESCRIBE)
+}
+
+/// A player whose camera has published and closed.
+fn player_of_a_closed_camera<R: Net<Stream = TcpStream>>(
+    rt: &R,
+    alloc: Global,
+    addr: SocketAddr,
+) -> io::Result<Client> {
+    let mut camera = publisher(rt, alloc, addr)?;
+    let player = player(rt, alloc, addr, 2)?;
+    camera.say(FRAME)?;
+    Ok(player)
+}
+
+fn player_stays<R: Net<Stream = TcpStream> + Clock + Abort>(
+    rt: &R,
+    alloc: Global,
+    addr: SocketAddr,
+) -> io::Result<()> {
+    let mut player = player_of_a_closed_camera(rt, alloc, addr)?;
+    assert!(rt; has_frame(&mut player)?);
+    assert!(rt; asks_for_the_mount(rt, &mut player)? == 404);
+    assert!(rt; status_in(&mut player, alloc, "TEARDOWN", 2)? == 200);
+    assert!(rt; status_in(&mut player, alloc, "TEARDOWN", 2)? == 454);
     Ok(())
 }
 
@@ -107,98 +190,51 @@ fn a_player_that_closes_behind_the_end_is_not_waited_for(rt: HostRuntime) -> Res
 fn a_player_may_stay_behind_the_end(rt: HostRuntime) -> Result<(), Fail> {
     let alloc = rt.alloc();
     let server = start(rt, alloc, Set::of(2, 1), OpenGate)?;
-    let mut camera = publisher(&rt, alloc, server.addr)?;
-    let mut player = player(&rt, alloc, server.addr, 2)?;
-    camera.say(FRAME)?;
-    drop(camera);
-    assert!(rt; player.bytes(16)?.as_slice().ends_with(&FRAME[4..]));
-    for _ in 0..1000 {
-        if status(player.ask(DESCRIBE)?.as_slice()) == 404 {
-            break;
-        }
-        // The description of a mount that lives comes behind its head.
-        player.bytes(149)?;
-        thread::sleep(&rt, Duration::from_millis(10));
-    }
-    assert!(rt; status(player.ask(DESCRIBE)?.as_slice()) == 404);
-    assert!(rt;
-        status(
-            player
-                .ask(asking(alloc, "TEARDOWN", 2)?.as_bytes())?
-                .as_slice()
-        ) == 200
-    );
-    assert!(rt;
-        status(
-            player
-                .ask(asking(alloc, "TEARDOWN", 2)?.as_bytes())?
-                .as_slice()
-        ) == 454
-    );
-    drop(player);
-    let _book = server.end(&rt)?;
+    player_stays(&rt, alloc, server.addr)?;
+    server.end(&rt)?;
     Ok(())
 }
 
 /// How many packets of 6,000 bytes are published to a player that reads nothing: more than a system's buffers mostly hold.
 const STALLING: u16 = 2_000;
 
-/// A camera, a player that reads nothing and has the only seat, and another player that has set up.
-#[derive(Drop)]
-struct Stalled {
-    camera: Client,
-    first: Client,
-    second: Client,
-}
-
-/// The first player has stopped reading amid what the camera published.
-fn stalled_peers<R: Net<Stream = TcpStream>>(
+/// The second player has the seat as soon as it is free, and doesn't have it before the first one says this.
+fn seat_is_freed<R: Clock + Abort>(
     rt: &R,
-    alloc: Global,
-    addr: SocketAddr,
-) -> io::Result<Stalled> {
-    let mut camera = publisher(rt, alloc, addr)?;
-    let first = player(rt, alloc, addr, 2)?;
-    let mut second = Client::connect(rt, alloc, addr)?;
-    second.ask(SETUP_OUT)?;
-    for number in 0..STALLING {
-        camera.say(numbered(alloc, number)?.as_slice())?;
-    }
-    // The server has read them all.
-    camera.ask(OPTIONS)?;
-    Ok(Stalled {
-        camera,
-        first,
-        second,
-    })
-}
-
-/// Whether the second player has the seat, as soon as it is free, and didn't have it before the first one said this.
-fn is_freed<R: Clock>(rt: &R, peers: &mut Stalled, said: Option<&[u8]>) -> io::Result<bool> {
-    if status(peers.second.ask(&play(3))?.as_slice()) != 453 {
-        return Ok(false);
-    }
+    peers: &mut Peers,
+    said: Option<&[u8]>,
+) -> io::Result<()> {
+    assert!(rt; peers.second.status_of(&play(3))? == 453);
     match said {
         Some(bytes) => peers.first.say(bytes)?,
         None => peers.first.fall_silent()?,
     }
-    Ok(plays_at_last(rt, &mut peers.second, 3)? == 200)
+    assert!(rt; plays_at_last(rt, &mut peers.second, 3)? == 200);
+    Ok(())
+}
+
+/// A player that stopped reading amid what its camera published, and whose seat was freed as it said this, or fell
+/// silent. The other clients have closed.
+fn freed<R: Net<Stream = TcpStream> + Clock + Abort>(
+    rt: &R,
+    alloc: Global,
+    addr: SocketAddr,
+    said: Option<&[u8]>,
+) -> io::Result<Client> {
+    let mut peers = Peers::connect(rt, alloc, addr)?;
+    publish(&mut peers.camera, alloc, 0, STALLING)?;
+    // The server has read them all.
+    peers.camera.ask(OPTIONS)?;
+    seat_is_freed(rt, &mut peers, said)?;
+    Ok(peers.first)
 }
 
 #[test]
 fn a_stalled_player_that_sends_a_fault_is_freed(rt: HostRuntime) -> Result<(), Fail> {
     let alloc = rt.alloc();
     let server = start(rt, alloc, Set::of(3, 1), OpenGate)?;
-    let mut peers = stalled_peers(&rt, alloc, server.addr)?;
-    assert!(rt; is_freed(&rt, &mut peers, Some(b"HELLO\r\n"))?);
-    let Stalled {
-        camera,
-        first,
-        second,
-    } = peers;
-    drop((camera, second));
-    let _book = server.end(&rt)?;
-    drop(first);
+    let _first = freed(&rt, alloc, server.addr, Some(b"HELLO\r\n"))?;
+    server.end(&rt)?;
     Ok(())
 }
 
@@ -206,22 +242,40 @@ fn a_stalled_player_that_sends_a_fault_is_freed(rt: HostRuntime) -> Result<(), F
 fn a_stalled_player_that_falls_silent_is_freed(rt: HostRuntime) -> Result<(), Fail> {
     let alloc = rt.alloc();
     let server = start(rt, alloc, Set::of(3, 1), OpenGate)?;
-    let mut peers = stalled_peers(&rt, alloc, server.addr)?;
-    assert!(rt; is_freed(&rt, &mut peers, None)?);
-    drop(peers);
-    let _book = server.end(&rt)?;
+    freed(&rt, alloc, server.addr, None)?;
+    server.end(&rt)?;
     Ok(())
 }
+
+/// In the session of the first player.
+const TEARDOWN: &[u8] =
+    b"TEARDOWN rtsp://127.0.0.1:8554/cam RTSP/1.0\r\nCSeq: 7\r\nSession: 000000020000abcd\r\n\r\n";
 
 #[test]
 fn a_stalled_player_that_tears_down_is_freed(rt: HostRuntime) -> Result<(), Fail> {
     let alloc = rt.alloc();
     let server = start(rt, alloc, Set::of(3, 1), OpenGate)?;
-    let mut peers = stalled_peers(&rt, alloc, server.addr)?;
-    let said = asking(alloc, "TEARDOWN", 2)?;
-    assert!(rt; is_freed(&rt, &mut peers, Some(said.as_bytes()))?);
-    drop(peers);
-    let _book = server.end(&rt)?;
+    freed(&rt, alloc, server.addr, Some(TEARDOWN))?;
+    server.end(&rt)?;
+    Ok(())
+}
+
+/// Twenty clients, one behind another, for which there is no connection.
+fn each_reads_why<R: Net<Stream = TcpStream> + Abort>(
+    rt: &R,
+    alloc: Global,
+    addr: SocketAddr,
+) -> io::Result<()> {
+    for place in 0..20u32 {
+        let mut late = Client::connect(rt, alloc, addr)?;
+        late.say(OPTIONS)?;
+        assert!(rt;
+            late.reads(b"RTSP/1.0 503 Service Unavailable\r\n\r\n")?,
+            "peer {place}"
+        );
+        late.fall_silent()?;
+        assert!(rt; late.is_hung_up()?, "peer {place}");
+    }
     Ok(())
 }
 
@@ -230,19 +284,8 @@ fn a_stalled_player_that_tears_down_is_freed(rt: HostRuntime) -> Result<(), Fail
 fn a_refused_peer_reads_why(rt: HostRuntime) -> Result<(), Fail> {
     let alloc = rt.alloc();
     let server = start(rt, alloc, Set::of(20, 1), OpenGate)?;
-    for _ in 0..1024 {
-        let _ = server.book.lock(&rt).connect();
-    }
-    for place in 0..20u32 {
-        let mut late = Client::connect(&rt, alloc, server.addr)?;
-        late.say(OPTIONS)?;
-        assert!(rt;
-            late.head()?.as_slice() == b"RTSP/1.0 503 Service Unavailable\r\n\r\n".as_slice(),
-            "peer {place}"
-        );
-        late.fall_silent()?;
-        assert!(rt; late.bytes(1)?.is_empty(), "peer {place}");
-    }
-    let _book = server.end(&rt)?;
+    server.fill(&rt);
+    each_reads_why(&rt, alloc, server.addr)?;
+    server.end(&rt)?;
     Ok(())
 }

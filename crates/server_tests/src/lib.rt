@@ -26,6 +26,8 @@ mod row_tests;
 #[cfg(test)]
 mod scripted;
 #[cfg(test)]
+mod serving;
+#[cfg(test)]
 mod text_tests;
 #[cfg(test)]
 mod words;

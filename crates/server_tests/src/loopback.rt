@@ -102,6 +102,22 @@ impl Client {
         self.say(request)?;
         self.head()
     }
+
+    /// Asks, and answers the status of the reply.
+    pub(crate) fn status_of(&mut self, request: &[u8]) -> io::Result<u16> {
+        let head = self.ask(request)?;
+        Ok(status(head.as_slice()))
+    }
+
+    /// Whether just these bytes come next.
+    pub(crate) fn reads(&mut self, wanted: &[u8]) -> io::Result<bool> {
+        Ok(self.bytes(wanted.len())?.as_slice() == wanted)
+    }
+
+    /// Whether nothing comes any more.
+    pub(crate) fn is_hung_up(&mut self) -> io::Result<bool> {
+        Ok(self.bytes(1)?.is_empty())
+    }
 }
 
 /// The number behind the status code's place in a reply.
@@ -119,20 +135,40 @@ pub(crate) fn status(head: &[u8]) -> u16 {
 #[derive(Drop)]
 pub(crate) struct Running {
     pub(crate) addr: SocketAddr,
-    pub(crate) book: SharedBook<Seat<Pass>>,
+    book: SharedBook<Seat<Pass>>,
     thread: JoinHandle<Result<(), AllocError>>,
 }
 
+/// What the book of a server that has ended says.
+#[derive(Clone, Copy)]
+pub(crate) struct Ended {
+    /// How many calls it keeps.
+    pub(crate) kept: usize,
+    /// Whether connection 1 is open, and connection 2.
+    pub(crate) open: [bool; 2],
+}
+
 impl Running {
+    /// Opens as many connections as there may be.
+    pub(crate) fn fill<R: Wait>(&self, rt: &R) {
+        for _ in 0..1024 {
+            let _ = self.book.lock(rt).connect();
+        }
+    }
+
     /// Waits until the server has ended.
-    pub(crate) fn end<R: Threads>(self, rt: &R) -> Result<SharedBook<Seat<Pass>>, AllocError> {
+    pub(crate) fn end<R: Threads + Wait>(self, rt: &R) -> Result<Ended, AllocError> {
         let Running {
             addr: _,
             book,
             thread,
         } = self;
         thread.join(rt)?;
-        Ok(book)
+        let book = book.lock(rt);
+        Ok(Ended {
+            kept: book.kept(),
+            open: [book.is_open(1), book.is_open(2)],
+        })
     }
 }
 

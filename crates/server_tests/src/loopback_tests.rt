@@ -1,30 +1,38 @@
 //! Connections over loopback.
 use crate::loopback::{Client, OPTIONS, Set, start, status};
-use crate::scripted::{FRAME, SETUP_OUT, asking, numbered, play, player, publisher};
+use crate::scripted::{
+    FRAME, Peers, SETUP_OUT, passes_on, play, player, publish, publisher, status_in,
+};
 use relay_server::{Gate, OpenGate};
 use std::alloc::Global;
-use std::net::TcpListener;
+use std::net::{Net, SocketAddr, TcpListener, TcpStream};
+use std::process::Abort;
 use std::sync::Arc;
 use std::sync::atomic::{AtomicBool, Ordering};
 use std::test::Fail;
 use std::time::{Clock, Duration};
 use std::{io, thread};
 
-#[test]
-fn a_frame_comes_out_where_it_was_set_up(rt: HostRuntime) -> Result<(), Fail> {
-    let alloc = rt.alloc();
-    let server = start(rt, alloc, Set::of(3, 2), OpenGate)?;
-    let mut camera = publisher(&rt, alloc, server.addr)?;
-    let mut player = Client::connect(&rt, alloc, server.addr)?;
-    assert!(rt; status(player.ask(SETUP_OUT)?.as_slice()) == 200);
-    assert!(rt; status(player.ask(&play(2))?.as_slice()) == 200);
+/// A frame comes to its player on the channel that it set up. Behind that the server has read all that the camera said.
+fn comes_out<R: Abort>(rt: &R, camera: &mut Client, player: &mut Client) -> io::Result<()> {
+    assert!(rt; player.status_of(SETUP_OUT)? == 200);
+    assert!(rt; player.status_of(&play(2))? == 200);
     camera.say(FRAME)?;
     let frame = player.bytes(16)?;
     assert!(rt;
         frame.as_slice().starts_with(b"\x24\x04\x00\x0c") && frame.as_slice().ends_with(&FRAME[4..])
     );
     camera.ask(OPTIONS)?;
-    let mut late = Client::connect(&rt, alloc, server.addr)?;
+    Ok(())
+}
+
+/// A player that comes later is told which packet is the next one.
+fn late_player_is_told<R: Net<Stream = TcpStream> + Abort>(
+    rt: &R,
+    alloc: Global,
+    addr: SocketAddr,
+) -> io::Result<()> {
+    let mut late = Client::connect(rt, alloc, addr)?;
     late.ask(SETUP_OUT)?;
     let reply = late.ask(&play(3))?;
     let info: &[u8] = b"RTP-Info: url=rtsp://127.0.0.1:8554/cam/trackID=0;seq=8;rtptime=9000\r\n";
@@ -35,8 +43,39 @@ fn a_frame_comes_out_where_it_was_set_up(rt: HostRuntime) -> Result<(), Fail> {
             .windows(info.len())
             .any(|part| part == info)
     );
-    drop((camera, player, late));
-    let _book = server.end(&rt)?;
+    Ok(())
+}
+
+fn frame_is_played<R: Net<Stream = TcpStream> + Abort>(
+    rt: &R,
+    alloc: Global,
+    addr: SocketAddr,
+) -> io::Result<()> {
+    let mut camera = publisher(rt, alloc, addr)?;
+    let mut player = Client::connect(rt, alloc, addr)?;
+    comes_out(rt, &mut camera, &mut player)?;
+    late_player_is_told(rt, alloc, addr)
+}
+
+#[test]
+fn a_frame_comes_out_where_it_was_set_up(rt: HostRuntime) -> Result<(), Fail> {
+    let alloc = rt.alloc();
+    let server = start(rt, alloc, Set::of(3, 2), OpenGate)?;
+    frame_is_played(&rt, alloc, server.addr)?;
+    server.end(&rt)?;
+    Ok(())
+}
+
+/// Two clients, one behind the other, each of which asks once.
+fn two_clients_ask<R: Net<Stream = TcpStream> + Abort>(
+    rt: &R,
+    alloc: Global,
+    addr: SocketAddr,
+) -> io::Result<()> {
+    for _ in 0..2 {
+        let mut client = Client::connect(rt, alloc, addr)?;
+        assert!(rt; client.status_of(OPTIONS)? == 200);
+    }
     Ok(())
 }
 
@@ -44,21 +83,24 @@ fn a_frame_comes_out_where_it_was_set_up(rt: HostRuntime) -> Result<(), Fail> {
 fn each_connection_comes_asks_and_hangs_up(rt: HostRuntime) -> Result<(), Fail> {
     let alloc = rt.alloc();
     let server = start(rt, alloc, Set::of(2, 1), OpenGate)?;
-    for _ in 0..2 {
-        let mut client = Client::connect(&rt, alloc, server.addr)?;
-        assert!(rt; status(client.ask(OPTIONS)?.as_slice()) == 200);
-    }
-    let book = server.end(&rt)?;
-    assert!(rt; book.lock(&rt).kept() == 6);
+    two_clients_ask(&rt, alloc, server.addr)?;
+    let ended = server.end(&rt)?;
+    assert!(rt; ended.kept == 6);
     Ok(())
+}
+
+/// What a test tells the gate of its server, and is told by it.
+#[derive(Drop)]
+struct Latch {
+    opened: AtomicBool,
+    gave_up: AtomicBool,
 }
 
 /// Holds the first call of connection 1 until it is opened, for at most 10,000 turns of a millisecond.
 #[derive(Drop)]
 struct Held<R> {
     rt: R,
-    opened: Arc<AtomicBool, Global>,
-    gave_up: Arc<AtomicBool, Global>,
+    latch: Arc<Latch, Global>,
 }
 
 impl<R: Clock> Gate for Held<R> {
@@ -67,35 +109,47 @@ impl<R: Clock> Gate for Held<R> {
             return;
         }
         for _ in 0..10_000u32 {
-            if self.opened.load(Ordering::SeqCst) {
+            if self.latch.opened.load(Ordering::SeqCst) {
                 return;
             }
             thread::sleep(&self.rt, Duration::from_millis(1));
         }
-        self.gave_up.store(true, Ordering::SeqCst);
+        self.latch.gave_up.store(true, Ordering::SeqCst);
     }
+}
+
+/// The second client is answered while the first one is held, which is answered once it is let on.
+fn second_is_served_first<R: Net<Stream = TcpStream> + Abort>(
+    rt: &R,
+    alloc: Global,
+    addr: SocketAddr,
+    latch: &Latch,
+) -> io::Result<()> {
+    let mut held = Client::connect(rt, alloc, addr)?;
+    held.say(OPTIONS)?;
+    let mut other = Client::connect(rt, alloc, addr)?;
+    assert!(rt; other.status_of(OPTIONS)? == 200);
+    latch.opened.store(true, Ordering::SeqCst);
+    assert!(rt; status(held.head()?.as_slice()) == 200);
+    Ok(())
 }
 
 #[test]
 fn connections_are_served_side_by_side(rt: HostRuntime) -> Result<(), Fail> {
     let alloc = rt.alloc();
-    let opened = Arc::new(alloc, AtomicBool::new(false))?;
-    let gave_up = Arc::new(alloc, AtomicBool::new(false))?;
+    let latch = Latch {
+        opened: AtomicBool::new(false),
+        gave_up: AtomicBool::new(false),
+    };
+    let latch = Arc::new(alloc, latch)?;
     let gate = Held {
         rt,
-        opened: Arc::try_clone(&opened)?,
-        gave_up: Arc::try_clone(&gave_up)?,
+        latch: Arc::try_clone(&latch)?,
     };
     let server = start(rt, alloc, Set::of(2, 1), gate)?;
-    let mut held = Client::connect(&rt, alloc, server.addr)?;
-    held.say(OPTIONS)?;
-    let mut other = Client::connect(&rt, alloc, server.addr)?;
-    assert!(rt; status(other.ask(OPTIONS)?.as_slice()) == 200);
-    opened.store(true, Ordering::SeqCst);
-    assert!(rt; status(held.head()?.as_slice()) == 200);
-    drop((held, other));
-    let _book = server.end(&rt)?;
-    assert!(rt; !gave_up.load(Ordering::SeqCst));
+    second_is_served_first(&rt, alloc, server.addr, &latch)?;
+    server.end(&rt)?;
+    assert!(rt; !latch.gave_up.load(Ordering::SeqCst));
     Ok(())
 }
 
@@ -139,6 +193,39 @@ fn read_to_the_end(player: &mut Client) -> io::Result<Option<u16>> {
     Ok(Some(next))
 }
 
+/// Two players read each batch before the next one is published, and are hung up behind the mount's end.
+fn two_read_all<R: Abort>(
+    rt: &R,
+    alloc: Global,
+    camera: &mut Client,
+    players: &mut [Client; 2],
+) -> io::Result<()> {
+    let mut from = 0u16;
+    for _ in 0..PUBLISHED / BATCH {
+        publish(camera, alloc, from, BATCH)?;
+        assert!(rt; reads(&mut players[0], from)? && reads(&mut players[1], from)?);
+        from = from.wrapping_add(BATCH);
+    }
+    status_in(camera, alloc, "TEARDOWN", 1)?;
+    // The mount has ended, and players are hung up when they have read what was kept for them.
+    assert!(rt; players[0].is_hung_up()? && players[1].is_hung_up()?);
+    Ok(())
+}
+
+/// A third player reads nothing meanwhile, and then what was kept for it.
+fn one_reads_later<R: Net<Stream = TcpStream> + Abort>(
+    rt: &R,
+    alloc: Global,
+    addr: SocketAddr,
+) -> io::Result<()> {
+    let mut camera = publisher(rt, alloc, addr)?;
+    let mut players = [player(rt, alloc, addr, 2)?, player(rt, alloc, addr, 3)?];
+    let mut stalled = player(rt, alloc, addr, 4)?;
+    two_read_all(rt, alloc, &mut camera, &mut players)?;
+    assert!(rt; read_to_the_end(&mut stalled)? == Some(PUBLISHED));
+    Ok(())
+}
+
 #[test]
 fn a_player_that_reads_nothing_hurts_no_other(rt: HostRuntime) -> Result<(), Fail> {
     let alloc = rt.alloc();
@@ -147,24 +234,20 @@ fn a_player_that_reads_nothing_hurts_no_other(rt: HostRuntime) -> Result<(), Fai
         ..Set::of(4, 3)
     };
     let server = start(rt, alloc, set, OpenGate)?;
-    let mut camera = publisher(&rt, alloc, server.addr)?;
-    let mut first = player(&rt, alloc, server.addr, 2)?;
-    let mut second = player(&rt, alloc, server.addr, 3)?;
-    let mut stalled = player(&rt, alloc, server.addr, 4)?;
-    let mut from = 0u16;
-    for _ in 0..PUBLISHED / BATCH {
-        for place in 0..BATCH {
-            camera.say(numbered(alloc, from.wrapping_add(place))?.as_slice())?;
-        }
-        assert!(rt; reads(&mut first, from)? && reads(&mut second, from)?);
-        from = from.wrapping_add(BATCH);
-    }
-    camera.ask(asking(alloc, "TEARDOWN", 1)?.as_bytes())?;
-    // The mount has ended, and players are hung up when they have read what was kept for them.
-    assert!(rt; first.bytes(1)?.is_empty() && second.bytes(1)?.is_empty());
-    assert!(rt; read_to_the_end(&mut stalled)? == Some(PUBLISHED));
-    drop((camera, first, second, stalled));
-    let _book = server.end(&rt)?;
+    one_reads_later(&rt, alloc, server.addr)?;
+    server.end(&rt)?;
+    Ok(())
+}
+
+/// A camera publishes once and closes.
+fn frame_is_published<R: Net<Stream = TcpStream>>(
+    rt: &R,
+    alloc: Global,
+    addr: SocketAddr,
+) -> io::Result<()> {
+    let mut camera = publisher(rt, alloc, addr)?;
+    camera.say(FRAME)?;
+    camera.ask(OPTIONS)?;
     Ok(())
 }
 
@@ -176,63 +259,100 @@ fn a_server_ends_while_packets_gather(rt: HostRuntime) -> Result<(), Fail> {
         ..Set::of(1, 1)
     };
     let server = start(rt, alloc, set, OpenGate)?;
-    let mut camera = publisher(&rt, alloc, server.addr)?;
-    camera.say(FRAME)?;
-    camera.ask(OPTIONS)?;
-    drop(camera);
-    let _book = server.end(&rt)?;
+    frame_is_published(&rt, alloc, server.addr)?;
+    server.end(&rt)?;
     Ok(())
+}
+
+/// The second player has the seat once the first one pauses, and the first one isn't sent what comes then.
+fn seat_changes<R: Abort>(rt: &R, alloc: Global, peers: &mut Peers) -> io::Result<()> {
+    assert!(rt; peers.second.status_of(&play(3))? == 453);
+    assert!(rt; status_in(&mut peers.first, alloc, "PAUSE", 2)? == 200);
+    assert!(rt; peers.second.status_of(&play(3))? == 200);
+    assert!(rt; passes_on(&mut peers.camera, &mut peers.second)?);
+    // What came while it paused isn't sent to the first one.
+    assert!(rt; status_in(&mut peers.first, alloc, "TEARDOWN", 2)? == 200);
+    Ok(())
+}
+
+fn pause_frees_a_seat<R: Net<Stream = TcpStream> + Abort>(
+    rt: &R,
+    alloc: Global,
+    addr: SocketAddr,
+) -> io::Result<()> {
+    let mut peers = Peers::connect(rt, alloc, addr)?;
+    seat_changes(rt, alloc, &mut peers)
 }
 
 #[test]
 fn a_seat_is_free_again_behind_a_pause(rt: HostRuntime) -> Result<(), Fail> {
     let alloc = rt.alloc();
     let server = start(rt, alloc, Set::of(3, 1), OpenGate)?;
-    let mut camera = publisher(&rt, alloc, server.addr)?;
-    let mut first = player(&rt, alloc, server.addr, 2)?;
-    let mut second = Client::connect(&rt, alloc, server.addr)?;
-    second.ask(SETUP_OUT)?;
-    assert!(rt; status(second.ask(&play(3))?.as_slice()) == 453);
-    assert!(rt; status(first.ask(asking(alloc, "PAUSE", 2)?.as_bytes())?.as_slice()) == 200);
-    assert!(rt; status(second.ask(&play(3))?.as_slice()) == 200);
-    camera.say(FRAME)?;
-    assert!(rt; second.bytes(16)?.as_slice().ends_with(&FRAME[4..]));
-    // What came while it paused isn't sent to the first one.
-    assert!(rt;
-        status(
-            first
-                .ask(asking(alloc, "TEARDOWN", 2)?.as_bytes())?
-                .as_slice()
-        ) == 200
-    );
-    drop((camera, first, second));
-    let book = server.end(&rt)?;
-    assert!(rt; !book.lock(&rt).is_open(1));
+    pause_frees_a_seat(&rt, alloc, server.addr)?;
+    let ended = server.end(&rt)?;
+    assert!(rt; !ended.open[0]);
     Ok(())
+}
+
+/// A client that says this is told that.
+fn refused<R: Net<Stream = TcpStream> + Abort>(
+    rt: &R,
+    alloc: Global,
+    addr: SocketAddr,
+    said: &[u8],
+    told: &[u8],
+) -> io::Result<Client> {
+    let mut client = Client::connect(rt, alloc, addr)?;
+    client.say(said)?;
+    assert!(rt; client.reads(told)?, "{}", told.escape_ascii());
+    Ok(client)
+}
+
+/// A client that says no request is hung up.
+fn odd_is_refused<R: Net<Stream = TcpStream> + Abort>(
+    rt: &R,
+    alloc: Global,
+    addr: SocketAddr,
+) -> io::Result<Client> {
+    let told = b"RTSP/1.0 400 Bad Request\r\n\r\n";
+    let mut odd = refused(rt, alloc, addr, b"HELLO\r\n", told)?;
+    assert!(rt; odd.is_hung_up()?);
+    Ok(odd)
+}
+
+/// A client whose line has no end is told so.
+fn long_is_refused<R: Net<Stream = TcpStream> + Abort>(
+    rt: &R,
+    alloc: Global,
+    addr: SocketAddr,
+) -> io::Result<()> {
+    let said = Vec::from_elem(alloc, b'A', 8192)?;
+    let told = b"RTSP/1.0 413 Request Entity Too Large\r\n\r\n";
+    refused(rt, alloc, addr, said.as_slice(), told)?;
+    Ok(())
+}
+
+/// A client for which there is no connection is hung up.
+fn late_is_refused<R: Net<Stream = TcpStream> + Abort>(
+    rt: &R,
+    alloc: Global,
+    addr: SocketAddr,
+) -> io::Result<Client> {
+    let told = b"RTSP/1.0 503 Service Unavailable\r\n\r\n";
+    let mut late = refused(rt, alloc, addr, b"", told)?;
+    assert!(rt; late.is_hung_up()?);
+    Ok(late)
 }
 
 #[test]
 fn connections_that_cannot_be_served_are_told_so(rt: HostRuntime) -> Result<(), Fail> {
     let alloc = rt.alloc();
     let server = start(rt, alloc, Set::of(3, 1), OpenGate)?;
-    let mut odd = Client::connect(&rt, alloc, server.addr)?;
-    assert!(rt;
-        odd.ask(b"HELLO\r\n")?.as_slice() == b"RTSP/1.0 400 Bad Request\r\n\r\n".as_slice()
-    );
-    assert!(rt; odd.bytes(1)?.is_empty());
-    let mut long = Client::connect(&rt, alloc, server.addr)?;
-    long.say(Vec::from_elem(alloc, b'A', 8192)?.as_slice())?;
-    assert!(rt;
-        long.head()?.as_slice() == b"RTSP/1.0 413 Request Entity Too Large\r\n\r\n".as_slice()
-    );
-    drop(long);
-    for _ in 0..1024 {
-        let _ = server.book.lock(&rt).connect();
-    }
-    let mut late = Client::connect(&rt, alloc, server.addr)?;
-    assert!(rt; late.head()?.as_slice() == b"RTSP/1.0 503 Service Unavailable\r\n\r\n".as_slice());
-    assert!(rt; late.bytes(1)?.is_empty());
-    let _book = server.end(&rt)?;
+    let _odd = odd_is_refused(&rt, alloc, server.addr)?;
+    long_is_refused(&rt, alloc, server.addr)?;
+    server.fill(&rt);
+    let _late = late_is_refused(&rt, alloc, server.addr)?;
+    server.end(&rt)?;
     Ok(())
 }
 

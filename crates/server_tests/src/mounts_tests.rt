@@ -1,9 +1,10 @@
 //! Two mounts at a time.
-use crate::loopback::{Client, OPTIONS, Set, start, status};
+use crate::loopback::{Client, OPTIONS, Set, start};
 use relay_server::OpenGate;
 use std::alloc::{AllocError, Global};
 use std::io;
 use std::net::{Net, SocketAddr, TcpStream};
+use std::process::Abort;
 use std::test::Fail;
 
 /// A request for this mount, in the session of this number where that isn't 0, with these further lines.
@@ -22,52 +23,80 @@ fn request(
     )
 }
 
-/// Asks each of these, each of which is answered by 200.
-fn ask_all(client: &mut Client, requests: &[String]) -> io::Result<bool> {
-    for request in requests {
-        if status(client.ask(request.as_bytes())?.as_slice()) != 200 {
-            return Ok(false);
-        }
-    }
-    Ok(true)
+/// A mount with one track.
+#[derive(Clone, Copy)]
+struct Mount {
+    name: &'static str,
+    track: &'static str,
 }
 
-/// A client that records into a mount in the session of this number, which is the next one.
-fn publisher_of<R: Net<Stream = TcpStream>>(
-    rt: &R,
+const FIRST: Mount = Mount {
+    name: "first",
+    track: "first/trackID=0",
+};
+
+const SECOND: Mount = Mount {
+    name: "second",
+    track: "second/trackID=0",
+};
+
+/// Whether a request for this mount is answered by 200.
+fn is_granted(
+    client: &mut Client,
     alloc: Global,
-    addr: SocketAddr,
-    name: &str,
+    method: &str,
+    path: &str,
     number: u8,
-) -> io::Result<Option<Client>> {
-    let mut client = Client::connect(rt, alloc, addr)?;
+    more: &str,
+) -> io::Result<bool> {
+    let request = request(alloc, method, path, number, more)?;
+    Ok(client.status_of(request.as_bytes())? == 200)
+}
+
+/// Whether a client may record into a mount in the session of this number, which is the next one.
+fn records(client: &mut Client, alloc: Global, mount: Mount, number: u8) -> io::Result<bool> {
     let announced = "Content-Length: 26\r\n\r\nv=0\nm=audio 0 RTP/AVP 0 ";
-    let track = format!(in alloc; "{name}/trackID=0")?;
     let inward = "Transport: RTP/AVP/TCP;interleaved=0-1;mode=record\r\n";
-    let requests = vec![in alloc;
-        request(alloc, "ANNOUNCE", name, 0, announced)?,
-        request(alloc, "SETUP", track.as_str(), 0, inward)?,
-        request(alloc, "RECORD", name, number, "")?,
-    ]?;
-    Ok(ask_all(&mut client, requests.as_slice())?.then_some(client))
+    Ok(
+        is_granted(client, alloc, "ANNOUNCE", mount.name, 0, announced)?
+            && is_granted(client, alloc, "SETUP", mount.track, 0, inward)?
+            && is_granted(client, alloc, "RECORD", mount.name, number, "")?,
+    )
 }
 
-/// A client that plays a mount in the session of this number, which is the next one.
-fn player_of<R: Net<Stream = TcpStream>>(
+/// Whether a client may play a mount in the session of this number, which is the next one.
+fn plays(client: &mut Client, alloc: Global, mount: Mount, number: u8) -> io::Result<bool> {
+    let outward = "Transport: RTP/AVP/TCP;interleaved=0-1\r\n";
+    Ok(
+        is_granted(client, alloc, "SETUP", mount.track, 0, outward)?
+            && is_granted(client, alloc, "PLAY", mount.name, number, "")?,
+    )
+}
+
+/// Clients that record into the first mount and into the second one, in the first two sessions.
+fn cameras<R: Net<Stream = TcpStream> + Abort>(
     rt: &R,
     alloc: Global,
     addr: SocketAddr,
-    name: &str,
-    number: u8,
-) -> io::Result<Option<Client>> {
-    let mut client = Client::connect(rt, alloc, addr)?;
-    let track = format!(in alloc; "{name}/trackID=0")?;
-    let outward = "Transport: RTP/AVP/TCP;interleaved=0-1\r\n";
-    let requests = vec![in alloc;
-        request(alloc, "SETUP", track.as_str(), 0, outward)?,
-        request(alloc, "PLAY", name, number, "")?,
-    ]?;
-    Ok(ask_all(&mut client, requests.as_slice())?.then_some(client))
+) -> io::Result<[Client; 2]> {
+    let mut first = Client::connect(rt, alloc, addr)?;
+    assert!(rt; records(&mut first, alloc, FIRST, 1)?);
+    let mut second = Client::connect(rt, alloc, addr)?;
+    assert!(rt; records(&mut second, alloc, SECOND, 2)?);
+    Ok([first, second])
+}
+
+/// Clients that play the first mount and the second one, in the next two sessions.
+fn players<R: Net<Stream = TcpStream> + Abort>(
+    rt: &R,
+    alloc: Global,
+    addr: SocketAddr,
+) -> io::Result<[Client; 2]> {
+    let mut first = Client::connect(rt, alloc, addr)?;
+    assert!(rt; plays(&mut first, alloc, FIRST, 3)?);
+    let mut second = Client::connect(rt, alloc, addr)?;
+    assert!(rt; plays(&mut second, alloc, SECOND, 4)?);
+    Ok([first, second])
 }
 
 /// An RTP packet of this number, from this source (RFC 3550, 5.1), as a frame on channel 0.
@@ -78,33 +107,54 @@ fn packet(source: u8, number: u8) -> [u8; 16] {
     frame
 }
 
+/// Each player has the packet of its own mount.
+fn packets_come<R: Abort>(
+    rt: &R,
+    cameras: &mut [Client; 2],
+    players: &mut [Client; 2],
+    number: u8,
+) -> io::Result<()> {
+    cameras[0].say(&packet(1, number))?;
+    cameras[1].say(&packet(2, number))?;
+    assert!(rt; players[0].reads(&packet(1, number))?);
+    assert!(rt; players[1].reads(&packet(2, number))?);
+    Ok(())
+}
+
+/// The second player goes on having packets when the first mount ends.
+fn first_mount_ends<R: Abort>(
+    rt: &R,
+    alloc: Global,
+    cameras: &mut [Client; 2],
+    players: &mut [Client; 2],
+) -> io::Result<()> {
+    assert!(rt; is_granted(&mut cameras[0], alloc, "TEARDOWN", FIRST.name, 1, "")?);
+    cameras[1].say(&packet(2, 20))?;
+    assert!(rt; players[1].reads(&packet(2, 20))?);
+    // Nothing of the other mount came to the first one's player: what it reads next is a reply.
+    assert!(rt; players[0].status_of(OPTIONS)? == 200);
+    Ok(())
+}
+
+fn mounts_stay_apart<R: Net<Stream = TcpStream> + Abort>(
+    rt: &R,
+    alloc: Global,
+    addr: SocketAddr,
+) -> io::Result<()> {
+    let mut cameras = cameras(rt, alloc, addr)?;
+    let mut players = players(rt, alloc, addr)?;
+    for number in 0..20u8 {
+        packets_come(rt, &mut cameras, &mut players, number)?;
+    }
+    first_mount_ends(rt, alloc, &mut cameras, &mut players)
+}
+
 /// Each player has the packets of its own mount alone, and keeps on having them when the other mount ends.
 #[test]
 fn each_mount_has_its_own_packets(rt: HostRuntime) -> Result<(), Fail> {
     let alloc = rt.alloc();
     let server = start(rt, alloc, Set::of(4, 1), OpenGate)?;
-    let first = publisher_of(&rt, alloc, server.addr, "first", 1)?;
-    let second = publisher_of(&rt, alloc, server.addr, "second", 2)?;
-    let of_first = player_of(&rt, alloc, server.addr, "first", 3)?;
-    let of_second = player_of(&rt, alloc, server.addr, "second", 4)?;
-    let (Some(mut first), Some(mut second), Some(mut of_first), Some(mut of_second)) = (
-        first, second, of_first, of_second,
-    ) else {
-        return Err(Fail::new("a request wasn't answered by 200"));
-    };
-    for number in 0..20u8 {
-        first.say(&packet(1, number))?;
-        second.say(&packet(2, number))?;
-        assert!(rt; of_first.bytes(16)?.as_slice() == packet(1, number).as_slice());
-        assert!(rt; of_second.bytes(16)?.as_slice() == packet(2, number).as_slice());
-    }
-    let teardown = request(alloc, "TEARDOWN", "first", 1, "")?;
-    assert!(rt; status(first.ask(teardown.as_bytes())?.as_slice()) == 200);
-    second.say(&packet(2, 20))?;
-    assert!(rt; of_second.bytes(16)?.as_slice() == packet(2, 20).as_slice());
-    // Nothing of the other mount came to the first one's player: what it reads next is a reply.
-    assert!(rt; status(of_first.ask(OPTIONS)?.as_slice()) == 200);
-    drop((first, second, of_first, of_second));
-    let _book = server.end(&rt)?;
+    mounts_stay_apart(&rt, alloc, server.addr)?;
+    server.end(&rt)?;
     Ok(())
 }

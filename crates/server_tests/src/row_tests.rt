@@ -1,6 +1,11 @@
 //! Rows of requests over loopback.
-use crate::loopback::{Client, Set, start, status};
+use crate::loopback::{Client, Set, start};
+use crate::scripted::FRAME;
 use relay_server::OpenGate;
+use std::alloc::Global;
+use std::io;
+use std::net::{Net, SocketAddr, TcpStream};
+use std::process::Abort;
 use std::test::Fail;
 
 /// A request of one of two clients, and the status and the body that it is answered with.
@@ -94,13 +99,41 @@ const BEHIND_THE_END: [Row; 3] = [
     },
 ];
 
-fn is_as(clients: &mut [Client; 2], row: &Row) -> Result<bool, Fail> {
+/// Whether a row's client is answered as the row says.
+fn is_as(clients: &mut [Client; 2], row: &Row) -> io::Result<bool> {
     let Some(client) = clients.get_mut(row.client) else {
         return Ok(false);
     };
-    let head = client.ask(row.request)?;
-    let body = client.bytes(row.body.len())?;
-    Ok(status(head.as_slice()) == row.status && body.as_slice() == row.body)
+    Ok(client.status_of(row.request)? == row.status && client.reads(row.body)?)
+}
+
+fn rows_hold<R: Abort>(rt: &R, clients: &mut [Client; 2], rows: &[Row]) -> io::Result<()> {
+    for row in rows {
+        assert!(rt; is_as(clients, row)?, "{}", row.request.escape_ascii());
+    }
+    Ok(())
+}
+
+/// The track that its owner set up as 1 is the one that its player set up as 0.
+fn is_one_track<R: Abort>(rt: &R, clients: &mut [Client; 2]) -> io::Result<()> {
+    clients[0].say(FRAME)?;
+    let came = clients[1].bytes(16)?;
+    assert!(rt; came.as_slice().starts_with(b"\x24\x08\x00\x0c"));
+    Ok(())
+}
+
+fn owner_and_player_ask<R: Net<Stream = TcpStream> + Abort>(
+    rt: &R,
+    alloc: Global,
+    addr: SocketAddr,
+) -> io::Result<()> {
+    let mut clients = [
+        Client::connect(rt, alloc, addr)?,
+        Client::connect(rt, alloc, addr)?,
+    ];
+    rows_hold(rt, &mut clients, &OWNER_AND_CONTROL_NAMES)?;
+    is_one_track(rt, &mut clients)?;
+    rows_hold(rt, &mut clients, &BEHIND_THE_END)
 }
 
 /// The mount's end leaves its player's connection open, and the player may ask for more.
@@ -112,30 +145,7 @@ fn a_track_has_its_owners_name_and_its_players(rt: HostRuntime) -> Result<(), Fa
         ..Set::of(2, 1)
     };
     let server = start(rt, alloc, set, OpenGate)?;
-    let mut clients = [
-        Client::connect(&rt, alloc, server.addr)?,
-        Client::connect(&rt, alloc, server.addr)?,
-    ];
-    for row in OWNER_AND_CONTROL_NAMES {
-        assert!(rt;
-            is_as(&mut clients, &row)?,
-            "{}",
-            row.request.escape_ascii()
-        );
-    }
-    // The track that its owner set up as 1 is the one that its player set up as 0.
-    let frame = b"\x24\x00\x00\x0c\x80\x60\x00\x07\x00\x00\x23\x28\x00\x00\x00\x00";
-    clients[0].say(frame)?;
-    let came = clients[1].bytes(16)?;
-    assert!(rt; came.as_slice().starts_with(b"\x24\x08\x00\x0c"));
-    for row in BEHIND_THE_END {
-        assert!(rt;
-            is_as(&mut clients, &row)?,
-            "{}",
-            row.request.escape_ascii()
-        );
-    }
-    drop(clients);
-    let _book = server.end(&rt)?;
+    owner_and_player_ask(&rt, alloc, server.addr)?;
+    server.end(&rt)?;
     Ok(())
 }

@@ -57,10 +57,67 @@ pub(crate) fn player<R: Net<Stream = TcpStream>>(
     Ok(client)
 }
 
+/// The status that a request in the session of this number, below ten, is answered by.
+pub(crate) fn status_in(
+    client: &mut Client,
+    alloc: Global,
+    method: &str,
+    number: u8,
+) -> io::Result<u16> {
+    let request = asking(alloc, method, number)?;
+    client.status_of(request.as_bytes())
+}
+
+/// A camera, a player that has the only seat, and another player that has set up.
+#[derive(Drop)]
+pub(crate) struct Peers {
+    pub(crate) camera: Client,
+    pub(crate) first: Client,
+    pub(crate) second: Client,
+}
+
+impl Peers {
+    /// The first three clients of a server.
+    pub(crate) fn connect<R: Net<Stream = TcpStream>>(
+        rt: &R,
+        alloc: Global,
+        addr: SocketAddr,
+    ) -> io::Result<Peers> {
+        let camera = publisher(rt, alloc, addr)?;
+        let first = player(rt, alloc, addr, 2)?;
+        let mut second = Client::connect(rt, alloc, addr)?;
+        second.ask(SETUP_OUT)?;
+        Ok(Peers {
+            camera,
+            first,
+            second,
+        })
+    }
+}
+
+/// Whether the packet of `FRAME` comes next.
+pub(crate) fn has_frame(player: &mut Client) -> io::Result<bool> {
+    Ok(player.bytes(16)?.as_slice().ends_with(&FRAME[4..]))
+}
+
+/// Whether the packet of `FRAME` comes from a camera to a player.
+pub(crate) fn passes_on(camera: &mut Client, player: &mut Client) -> io::Result<bool> {
+    camera.say(FRAME)?;
+    has_frame(player)
+}
+
 /// An RTP packet of 6,000 bytes with this number, as a frame on channel 0.
 pub(crate) fn numbered(alloc: Global, number: u16) -> Result<Vec<u8>, AllocError> {
     let mut frame = Vec::from_elem(alloc, 0, 6004)?;
     frame[..6].copy_from_slice(b"\x24\x00\x17\x70\x80\x60");
     frame[6..8].copy_from_slice(&number.to_be_bytes());
     Ok(frame)
+}
+
+/// Publishes so many packets of 6,000 bytes, with the numbers from this one on.
+pub(crate) fn publish(camera: &mut Client, alloc: Global, from: u16, count: u16) -> io::Result<()> {
+    for place in 0..count {
+        camera.say(numbered(alloc, from.wrapping_add(place))?.as_slice())?;
+    }
+    Ok(())
 }

@@ -2,6 +2,8 @@
 use log::sink::Memory;
 use relay_server::{ConnectionEnd, Counts, Refusal, tell_end};
 use rtsp_message::Fault;
+use std::alloc::{AllocError, Global};
+use std::fmt::Display;
 use std::net::SocketAddr;
 use std::test::Fail;
 
@@ -22,18 +24,23 @@ const ENDS: [(ConnectionEnd, &str); 7] = [
     (ConnectionEnd::NoThread, "no thread for its frames"),
 ];
 
+/// Whether a value is printed so.
+fn is_text<T: Display>(alloc: Global, value: &T, text: &str) -> Result<bool, AllocError> {
+    Ok(format!(in alloc; "{value}")?.as_str() == text)
+}
+
 #[test]
 fn ends_and_refusals_say_why(rt: HostRuntime) -> Result<(), Fail> {
     let alloc = rt.alloc();
     for (end, text) in ENDS {
-        assert!(rt; format!(in alloc; "{end}")?.as_str() == text, "{text}");
+        assert!(rt; is_text(alloc, &end, text)?, "{text}");
     }
     for (refusal, text) in [
         (Refusal::Full, "refused: too many connections"),
         (Refusal::OutOfMemory, "refused: out of memory"),
         (Refusal::NoThread, "refused: no thread"),
     ] {
-        assert!(rt; format!(in alloc; "{refusal}")?.as_str() == text, "{text}");
+        assert!(rt; is_text(alloc, &refusal, text)?, "{text}");
     }
     Ok(())
 }
@@ -62,32 +69,38 @@ const LOSSLESS: Counts = Counts {
     lost: 0,
 };
 
-const COUNTS_TEXT: &str =
-    "published 1, pinned 2, oversize 3, bad RTP 4, strangers 5, unkept 6, taken 7, lost 8";
+/// The line that tells of the counts.
+const COUNTED: &str =
+    "[INFO  relay_server::server] 10.0.0.1:554: published 1, pinned 2, oversize 3, bad RTP 4, strangers 5, unkept 6, taken 7, lost 8";
+
+/// Whether a line warns of an end with this text.
+fn is_warning(line: &str, text: &str) -> bool {
+    line.strip_prefix("[WARN  relay_server::server] 10.0.0.1:554: ") == Some(text)
+}
+
+/// Whether these are the lines that tell of an end with this text: a warning where it isn't the good one, and the counts
+/// where something was lost.
+fn are_told(lines: &[String], end: ConnectionEnd, text: &str, counts: Counts) -> bool {
+    match (lines, end != ConnectionEnd::Done, counts == COUNTS) {
+        ([], false, false) => true,
+        ([warning], true, false) => is_warning(warning.as_str(), text),
+        ([counted], false, true) => counted.as_str() == COUNTED,
+        ([warning, counted], true, true) => {
+            is_warning(warning.as_str(), text) && counted.as_str() == COUNTED
+        }
+        _ => false,
+    }
+}
 
 #[test]
-fn an_end_is_a_line_and_so_are_losses(rt: HostRuntime) -> Result<(), Fail> {
-    let alloc = rt.alloc();
+fn an_end_is_a_line_and_so_are_losses(rt: HostRuntime) {
     let peer = SocketAddr::from(([10, 0, 0, 1], 554));
     for (end, text) in ENDS {
         for counts in [LOSSLESS, COUNTS] {
-            let sink = Memory::new(alloc);
+            let sink = Memory::new(rt.alloc());
             tell_end(&sink, peer, end, &counts);
-            let mut want = Vec::new(alloc);
-            if end != ConnectionEnd::Done {
-                want.push(format!(in alloc; "[WARN  relay_server::server] 10.0.0.1:554: {text}")?)?;
-            }
-            if counts == COUNTS {
-                want.push(format!(in alloc;
-                    "[INFO  relay_server::server] 10.0.0.1:554: {COUNTS_TEXT}"
-                )?)?;
-            }
             let lines = sink.into_lines();
-            assert!(rt; lines.len() == want.len(), "{text}");
-            for (line, want) in lines.as_slice().iter().zip(want.iter()) {
-                assert!(rt; line.as_str() == want.as_str(), "{line}");
-            }
+            assert!(rt; are_told(lines.as_slice(), end, text, counts), "{text}");
         }
     }
-    Ok(())
 }

@@ -1,0 +1,143 @@
+//! Connections over devices in memory, for tests.
+use crate::devices::{Bytes, Flag, Open, Rings, Staged, Written};
+use interleaved::{Reading, Sink, Writing};
+use packet_ring::Pass;
+use relay_server::{
+    ConnectionEnd, Counts, Line, OpenGate, Seat, Shared, SharedBook, run_connection,
+};
+use session_lock::Book;
+use session_state::Words;
+use std::alloc::{AllocError, Global};
+use std::collections::hash_map::RandomState;
+use std::sync::atomic::{AtomicBool, Ordering};
+use std::sync::{Arc, Mutex, Wait};
+use std::thread;
+use std::thread::{JoinHandle, Threads};
+use std::time::Clock;
+
+/// What connections over rings of one seat share.
+pub(crate) type SharedRings<V> = Arc<Shared<Rings, V, OpenGate>, Global>;
+
+/// A book of one seat and of so many connections.
+pub(crate) fn book_of<R: Wait>(
+    rt: &R,
+    alloc: Global,
+    hasher: RandomState,
+    connections: u32,
+) -> Result<SharedBook<Seat<Pass>>, AllocError> {
+    let book = Arc::new(alloc, Mutex::new(Book::new(alloc, 1, hasher)))?;
+    for _ in 0..connections {
+        let _ = book.lock(rt).connect();
+    }
+    Ok(book)
+}
+
+/// What the connections of a book share. This one of their rings is refused memory, counted from 0.
+pub(crate) fn shared_over<V: Words + Drop>(
+    alloc: Global,
+    book: &SharedBook<Seat<Pass>>,
+    refused: Option<u64>,
+    words: V,
+) -> Result<SharedRings<V>, AllocError> {
+    let book = Arc::try_clone(book)?;
+    let maker = Rings::refusing(refused);
+    let shared = Shared::new(alloc, maker, book, words, OpenGate, None)?;
+    Ok(Arc::new(alloc, shared)?)
+}
+
+/// What two connections share, with a book of their own.
+pub(crate) fn shared_by_two<R: Wait, V: Words + Drop>(
+    rt: &R,
+    alloc: Global,
+    hasher: RandomState,
+    refused: Option<u64>,
+    words: V,
+) -> Result<SharedRings<V>, AllocError> {
+    let book = book_of(rt, alloc, hasher, 2)?;
+    shared_over(alloc, &book, refused, words)
+}
+
+/// A line to a peer that takes so many bytes.
+pub(crate) fn line_to<R: Wait + Drop>(
+    rt: R,
+    alloc: Global,
+    bytes: &Bytes,
+    room: usize,
+) -> Result<Line<Writing<Written<R>>>, AllocError> {
+    let bytes = Arc::try_clone(bytes)?;
+    Ok(Line::new(alloc, Writing::new(Written { rt, bytes, room })))
+}
+
+/// What a test and a connection share: what is written to its peer, and the word that lets the peer on.
+#[derive(Drop)]
+pub(crate) struct Watch {
+    pub(crate) written: Bytes,
+    pub(crate) let_on: Flag,
+}
+
+impl Watch {
+    /// Nothing is written, and the peer waits.
+    pub(crate) fn new(alloc: Global) -> Result<Watch, AllocError> {
+        let written = Arc::new(alloc, Mutex::new(Vec::new(alloc)))?;
+        let let_on = Arc::new(alloc, AtomicBool::new(false))?;
+        Ok(Watch { written, let_on })
+    }
+}
+
+/// A connection that is served in a thread of its own.
+#[derive(Drop)]
+pub(crate) struct Serving {
+    pub(crate) watch: Watch,
+    pub(crate) thread: JoinHandle<(ConnectionEnd, Counts)>,
+}
+
+impl Serving {
+    /// Lets the peer on, and waits for the connection's end. How it ended, and what was written.
+    pub(crate) fn end<R: Threads>(self, rt: &R) -> (ConnectionEnd, Counts, Bytes) {
+        let Serving { watch, thread } = self;
+        let Watch { written, let_on } = watch;
+        let_on.store(true, Ordering::SeqCst);
+        let (end, counts) = thread.join(rt);
+        (end, counts, written)
+    }
+}
+
+/// Serves a connection in a thread of its own.
+pub(crate) fn serve_in_thread<R, V, W>(
+    rt: R,
+    alloc: Global,
+    shared: &SharedRings<V>,
+    conn: u64,
+    source: Staged<R>,
+    line: Line<W>,
+) -> Result<JoinHandle<(ConnectionEnd, Counts)>, AllocError>
+where
+    R: Threads + Wait + Clock + Copy + Drop + Send + 'static,
+    V: Words + Drop + Send + 'static,
+    W: Sink + Drop + Send + 'static,
+{
+    let theirs = Arc::try_clone(shared)?;
+    thread::spawn(&rt, move || {
+        run_connection(rt, alloc, theirs, conn, Reading::new(source), line, Open)
+    })
+    .map_err(|_| AllocError)
+}
+
+/// Serves connection 1, whose peer says the one part, and the other once it is let on.
+pub(crate) fn serve_camera<R, V>(
+    rt: R,
+    alloc: Global,
+    shared: &SharedRings<V>,
+    first: Vec<u8>,
+    then: Vec<u8>,
+) -> Result<Serving, AllocError>
+where
+    R: Threads + Wait + Clock + Copy + Drop + Send + 'static,
+    V: Words + Drop + Send + 'static,
+{
+    let watch = Watch::new(alloc)?;
+    let source = Staged::new(rt, first, then, Arc::try_clone(&watch.let_on)?);
+    let line = line_to(rt, alloc, &watch.written, 1000)?;
+    let thread = serve_in_thread(rt, alloc, shared, 1, source, line)?;
+    Ok(Serving { watch, thread })
+}
