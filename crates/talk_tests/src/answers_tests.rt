@@ -1,9 +1,9 @@
 //! Worked exchanges, byte for byte.
+use crate::devices::{Devices, Host, made_host, talks};
 use interleaved::{ListSink, ListSource};
-use relay_talk::{FixedWord, TalkEnd, do_talk, run_talk, talk_end};
+use relay_talk::{FixedWord, TalkEnd, do_talk, talk_end};
 use rtsp_message::Fault;
 use std::alloc::Global;
-use std::collections::hash_map::RandomState;
 use std::process::Abort;
 use std::test::Fail;
 
@@ -11,50 +11,6 @@ const OPTIONS: &[u8] = b"OPTIONS * RTSP/1.0\r\nCSeq: 1\r\n\r\n";
 
 const OPTIONS_REPLY: &[u8] =
     b"RTSP/1.0 200 OK\r\nCSeq: 1\r\nPublic: OPTIONS, DESCRIBE, ANNOUNCE, SETUP, PLAY, PAUSE, RECORD, TEARDOWN, GET_PARAMETER\r\n\r\n";
-
-/// Where a talk is tried.
-#[derive(Clone, Copy)]
-struct Host {
-    alloc: Global,
-    hasher: RandomState,
-}
-
-fn made_host(rt: &HostRuntime) -> Result<Host, Fail> {
-    Ok(Host {
-        alloc: rt.alloc(),
-        hasher: RandomState::new(rt)?,
-    })
-}
-
-/// How the bytes of a talk come and go: at most so many a read, up to a place at which the source fails, into a sink
-/// with this room.
-#[derive(Clone, Copy)]
-struct Wire {
-    piece: usize,
-    fail_at: Option<usize>,
-    room: usize,
-}
-
-/// Whether a talk of this input writes this text, and ends so.
-fn talks(
-    host: Host,
-    input: &[u8],
-    wire: Wire,
-    want: &[u8],
-    want_end: &TalkEnd,
-) -> Result<bool, Fail> {
-    let bytes = Vec::from_slice(host.alloc, input)?;
-    let source = ListSource::new(bytes, wire.piece.max(1), wire.fail_at);
-    let mut sink = ListSink::new(host.alloc, wire.room)?;
-    let (end, _last) = run_talk(
-        host.alloc,
-        host.hasher,
-        source,
-        &mut sink,
-        &mut FixedWord(7),
-    );
-    Ok(sink.bytes() == want && end == *want_end)
-}
 
 /// The answer to an input, whatever the pieces are that it comes in.
 fn expect_answer(
@@ -65,13 +21,13 @@ fn expect_answer(
     want_end: &TalkEnd,
 ) -> Result<(), Fail> {
     for piece in [1, 2, 7, 100_000] {
-        let wire = Wire {
+        let devices = Devices {
             piece,
             fail_at: None,
             room: 1000,
         };
         assert!(rt;
-            talks(host, input, wire, want, want_end)?,
+            talks(host, input, devices, want, want_end)?,
             "{piece} {input:?}"
         );
     }
@@ -80,15 +36,15 @@ fn expect_answer(
 
 #[test]
 fn options_in_any_pieces(rt: HostRuntime) -> Result<(), Fail> {
-    let host = made_host(&rt)?;
+    let host = made_host(&rt, 7)?;
     for piece in 1..40 {
-        let wire = Wire {
+        let devices = Devices {
             piece,
             fail_at: None,
             room: 1000,
         };
         assert!(rt;
-            talks(host, OPTIONS, wire, OPTIONS_REPLY, &TalkEnd::Done)?,
+            talks(host, OPTIONS, devices, OPTIONS_REPLY, &TalkEnd::Done)?,
             "{piece}"
         );
     }
@@ -132,7 +88,7 @@ const ANSWERS: [(&[u8], &[u8]); 9] = [
 
 #[test]
 fn answers_byte_for_byte(rt: HostRuntime) -> Result<(), Fail> {
-    let host = made_host(&rt)?;
+    let host = made_host(&rt, 7)?;
     for (input, want) in ANSWERS {
         expect_answer(&rt, host, input, want, &TalkEnd::Done)?;
     }
@@ -188,7 +144,7 @@ fn expect_fault(
 
 #[test]
 fn each_fault_alone_and_behind_a_reply(rt: HostRuntime) -> Result<(), Fail> {
-    let host = made_host(&rt)?;
+    let host = made_host(&rt, 7)?;
     for (bad, reply, fault) in FAULTS {
         expect_fault(&rt, host, bad, reply, fault)?;
     }
@@ -200,7 +156,7 @@ fn a_head_too_long(rt: HostRuntime) -> Result<(), Fail> {
     let many = Vec::from_elem(rt.alloc(), b'A', 8192)?;
     expect_fault(
         &rt,
-        made_host(&rt)?,
+        made_host(&rt, 7)?,
         many.as_slice(),
         TOO_LARGE,
         Fault::HeadTooLong,
@@ -209,16 +165,16 @@ fn a_head_too_long(rt: HostRuntime) -> Result<(), Fail> {
 
 #[test]
 fn source_fails_at_each_place(rt: HostRuntime) -> Result<(), Fail> {
-    let host = made_host(&rt)?;
+    let host = made_host(&rt, 7)?;
     for place in 0..32 {
         let want = if place < 31 { &[] } else { OPTIONS_REPLY };
-        let wire = Wire {
+        let devices = Devices {
             piece: 5,
             fail_at: Some(place),
             room: 1000,
         };
         assert!(rt;
-            talks(host, OPTIONS, wire, want, &TalkEnd::ReadFailed)?,
+            talks(host, OPTIONS, devices, want, &TalkEnd::ReadFailed)?,
             "{place}"
         );
     }
@@ -227,16 +183,16 @@ fn source_fails_at_each_place(rt: HostRuntime) -> Result<(), Fail> {
 
 #[test]
 fn sink_of_each_room(rt: HostRuntime) -> Result<(), Fail> {
-    let host = made_host(&rt)?;
+    let host = made_host(&rt, 7)?;
     for room in 0..OPTIONS_REPLY.len() {
-        let wire = Wire {
+        let devices = Devices {
             piece: 100,
             fail_at: None,
             room,
         };
         let want = &OPTIONS_REPLY[..room];
         assert!(rt;
-            talks(host, OPTIONS, wire, want, &TalkEnd::WriteFailed)?,
+            talks(host, OPTIONS, devices, want, &TalkEnd::WriteFailed)?,
             "{room}"
         );
     }
@@ -245,13 +201,13 @@ fn sink_of_each_room(rt: HostRuntime) -> Result<(), Fail> {
 
 #[test]
 fn a_sink_with_just_enough_room(rt: HostRuntime) -> Result<(), Fail> {
-    let host = made_host(&rt)?;
-    let wire = Wire {
+    let host = made_host(&rt, 7)?;
+    let devices = Devices {
         piece: 100,
         fail_at: None,
         room: OPTIONS_REPLY.len(),
     };
-    assert!(rt; talks(host, OPTIONS, wire, OPTIONS_REPLY, &TalkEnd::Done)?);
+    assert!(rt; talks(host, OPTIONS, devices, OPTIONS_REPLY, &TalkEnd::Done)?);
     Ok(())
 }
 
@@ -297,7 +253,7 @@ fn told(host: Host, input: &[u8], fail_at: Option<usize>, room: usize) -> Result
         host.hasher,
         source,
         &mut sink,
-        &mut FixedWord(7),
+        &mut FixedWord(host.word),
     )?;
     let output = String::from_utf8_lossy(host.alloc, sink.bytes())?;
     Ok(format!(in host.alloc; "{} {}|{output}", ended.status, ended.line)?)
@@ -323,7 +279,7 @@ const TOLD: [(&[u8], Option<usize>, usize, &str); 4] = [
 
 #[test]
 fn a_talk_ends_with_its_status_and_line(rt: HostRuntime) -> Result<(), Fail> {
-    let host = made_host(&rt)?;
+    let host = made_host(&rt, 7)?;
     for (input, fail_at, room, want) in TOLD {
         assert_eq!(rt; told(host, input, fail_at, room)?.as_str(), want);
     }

@@ -139,13 +139,18 @@ const OTHER_LINES: [(&str, i32); 7] = [
     ("relay serve --help", 0),
 ];
 
+/// The status that tells why a line isn't understood. `None` where it is.
+fn status_of(alloc: Global, line: &str) -> Result<Option<i32>, Fail> {
+    match asked(alloc, line)? {
+        Ok(_) => Ok(None),
+        Err(error) => Ok(Some(error.exit_code())),
+    }
+}
+
 #[test]
 fn another_line_has_its_status(rt: HostRuntime) -> Result<(), Fail> {
     for (line, want) in OTHER_LINES {
-        match asked(rt.alloc(), line)? {
-            Ok(_) => assert!(rt; false, "{line} is accepted"),
-            Err(error) => assert_eq!(rt; error.exit_code(), want, "{line}"),
-        }
+        assert_eq!(rt; status_of(rt.alloc(), line)?, Some(want), "{line}");
     }
     Ok(())
 }
@@ -165,13 +170,18 @@ const TALKS: [(&str, Result<WordSource, NoWords>); 8] = [
     ("relay talk --word=", Err(NoWords::BadWord)),
 ];
 
+/// Where the words of a talk come from that a line asks for, or why it has none. `None` where it asks for none.
+fn words_of(alloc: Global, line: &str) -> Result<Option<Result<WordSource, NoWords>>, Fail> {
+    match asked(alloc, line)? {
+        Ok(Asked::Talk(text)) => Ok(Some(word_source(text.as_deref()))),
+        _ => Ok(None),
+    }
+}
+
 #[test]
 fn a_talk_has_the_words_of_its_line(rt: HostRuntime) -> Result<(), Fail> {
     for (line, want) in TALKS {
-        let Ok(Asked::Talk(text)) = asked(rt.alloc(), line)? else {
-            return Err(Fail::from("a talk"));
-        };
-        assert_eq!(rt; word_source(text.as_deref()), want, "{line}");
+        assert_eq!(rt; words_of(rt.alloc(), line)?, Some(want), "{line}");
     }
     Ok(())
 }
@@ -245,17 +255,19 @@ const HELPS: [(&str, &str); 3] = [
     ("relay steps --help", STEPS_HELP),
 ];
 
+/// What the help says that a line asks for. `None` where it is understood.
+fn help_of(alloc: Global, line: &str) -> Result<Option<String>, Fail> {
+    match asked(alloc, line)? {
+        Ok(_) => Ok(None),
+        Err(error) => Ok(Some(format!(in alloc; "{error}")?)),
+    }
+}
+
 #[test]
 fn the_help_of_a_command_tells_its_options_and_an_example(rt: HostRuntime) -> Result<(), Fail> {
-    let alloc = rt.alloc();
     for (line, want) in HELPS {
-        match asked(alloc, line)? {
-            Ok(_) => assert!(rt; false, "{line} is accepted"),
-            Err(error) => {
-                let help = format!(in alloc; "{error}")?;
-                assert!(rt; help.as_str() == want, "{help}");
-            }
-        }
+        let help = help_of(rt.alloc(), line)?;
+        assert_eq!(rt; help.as_deref(), Some(want), "{line}");
     }
     Ok(())
 }

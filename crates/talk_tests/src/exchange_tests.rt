@@ -1,8 +1,8 @@
 //! A publisher's connection, byte for byte.
 ghost use Rattle.std.specs.Prelude.{◌≡◌};
 
-use interleaved::{ListSink, ListSource};
-use relay_talk::{FixedWord, TalkEnd, Talker, run_talk};
+use crate::devices::{Devices, Host, made_host, outcome_of, talks};
+use relay_talk::{TalkEnd, Talker};
 use session_state::Words;
 use std::collections::hash_map::RandomState;
 use std::test::Fail;
@@ -81,18 +81,30 @@ const RUNS: [Run; 4] = [
     },
 ];
 
+/// Whether a publisher's talk writes what it is to read, with so many bytes a read.
+fn is_answered(host: Host, run: &Run, piece: usize) -> Result<bool, Fail> {
+    let sent = run.sent.concat(host.alloc)?;
+    let read = run.read.concat(host.alloc)?;
+    let devices = Devices {
+        piece,
+        fail_at: None,
+        room: 10_000,
+    };
+    talks(
+        host,
+        sent.as_slice(),
+        devices,
+        read.as_slice(),
+        &TalkEnd::Done,
+    )
+}
+
 #[test]
 fn publishers_are_answered_byte_for_byte(rt: HostRuntime) -> Result<(), Fail> {
-    let alloc = rt.alloc();
+    let host = made_host(&rt, 0xabcd)?;
     for run in &RUNS {
         for piece in [1, 50, 100_000] {
-            let source = ListSource::new(run.sent.concat(alloc)?, piece, None);
-            let mut sink = ListSink::new(alloc, 10_000)?;
-            let mut words = FixedWord(0xabcd);
-            let hasher = RandomState::new(&rt)?;
-            let (end, _last) = run_talk(alloc, hasher, source, &mut sink, &mut words);
-            assert!(rt; end == TalkEnd::Done);
-            assert!(rt; sink.bytes() == run.read.concat(alloc)?.as_slice());
+            assert!(rt; is_answered(host, run, piece)?);
         }
     }
     Ok(())
@@ -112,35 +124,41 @@ impl Words for CountedWords {
     }
 }
 
+/// Three requests and a frame, and a SETUP.
+const FOUR_REQUESTS: &[u8] =
+    b"OPTIONS * RTSP/1.0\n\n$\x00\x00\x00ANNOUNCE rtsp://h/a RTSP/1.0\nCSeq: 2\n\nANNOUNCE rtsp://h/a RTSP/1.0\nCSeq: 3\nContent-Length: 26\n\nv=0\nm=audio 0 RTP/AVP 0  \nSETUP rtsp://h/a/trackID=0 RTSP/1.0\nCSeq: 4\nTransport: RTP/AVP/TCP;mode=record\n\n";
+
+/// How the answer to the SETUP ends, with its word.
+const SET_UP: &[u8] =
+    b"Session: 000000010000000d\r\nTransport: RTP/AVP/TCP;unicast;interleaved=0-1;mode=\"RECORD\"\r\n\r\n";
+
 /// The SETUP is the fourth message: frames are none, and refused requests are.
 #[test]
 fn each_message_has_a_word(rt: HostRuntime) -> Result<(), Fail> {
-    let alloc = rt.alloc();
-    let input =
-        b"OPTIONS * RTSP/1.0\n\n$\x00\x00\x00ANNOUNCE rtsp://h/a RTSP/1.0\nCSeq: 2\n\nANNOUNCE rtsp://h/a RTSP/1.0\nCSeq: 3\nContent-Length: 26\n\nv=0\nm=audio 0 RTP/AVP 0  \nSETUP rtsp://h/a/trackID=0 RTSP/1.0\nCSeq: 4\nTransport: RTP/AVP/TCP;mode=record\n\n";
-    let source = ListSource::new(Vec::from_slice(alloc, input)?, 100, None);
-    let mut sink = ListSink::new(alloc, 10_000)?;
+    let devices = Devices {
+        piece: 100,
+        fail_at: None,
+        room: 10_000,
+    };
     let mut words = CountedWords(10);
-    let (end, _last) = run_talk(alloc, RandomState::new(&rt)?, source, &mut sink, &mut words);
-    assert!(rt; end == TalkEnd::Done);
+    let outcome = outcome_of(made_host(&rt, 0)?, FOUR_REQUESTS, devices, &mut words)?;
+    assert!(rt; outcome.end == TalkEnd::Done);
     assert!(rt; words.0 == 14);
-    assert!(rt;
-        sink.bytes().ends_with(
-            b"Session: 000000010000000d\r\nTransport: RTP/AVP/TCP;unicast;interleaved=0-1;mode=\"RECORD\"\r\n\r\n"
-        )
-    );
+    assert!(rt; outcome.written.ends_with(SET_UP));
     Ok(())
 }
 
 #[test]
 fn no_word_is_asked_for_behind_a_failed_write(rt: HostRuntime) -> Result<(), Fail> {
-    let alloc = rt.alloc();
     let input = b"OPTIONS * RTSP/1.0\nCSeq: 1\n\nOPTIONS * RTSP/1.0\nCSeq: 2\n\n";
-    let source = ListSource::new(Vec::from_slice(alloc, input)?, 100, None);
-    let mut sink = ListSink::new(alloc, 3)?;
+    let devices = Devices {
+        piece: 100,
+        fail_at: None,
+        room: 3,
+    };
     let mut words = CountedWords(10);
-    let (end, _last) = run_talk(alloc, RandomState::new(&rt)?, source, &mut sink, &mut words);
-    assert!(rt; end == TalkEnd::WriteFailed && words.0 == 11);
+    let outcome = outcome_of(made_host(&rt, 0)?, input, devices, &mut words)?;
+    assert!(rt; outcome.end == TalkEnd::WriteFailed && words.0 == 11);
     Ok(())
 }
 
@@ -149,29 +167,35 @@ const MANY: usize = 2000;
 
 #[test]
 fn many_requests_of_one_talk(rt: HostRuntime) -> Result<(), Fail> {
-    let alloc = rt.alloc();
-    let mut input = Vec::new(alloc);
-    for _ in 0..MANY {
-        input.extend_from_slice(b"GET_PARAMETER * RTSP/1.0\nCSeq: 1\n\n")?;
-    }
-    let reply = b"RTSP/1.0 200 OK\r\nCSeq: 1\r\n\r\n";
-    let source = ListSource::new(input, 5000, None);
-    let mut sink = ListSink::new(alloc, 100_000)?;
-    let (end, _last) = run_talk(
-        alloc,
-        RandomState::new(&rt)?,
-        source,
-        &mut sink,
-        &mut CountedWords(10),
-    );
-    assert!(rt; end == TalkEnd::Done);
-    assert!(rt; sink.bytes().len() == MANY * reply.len());
+    let input = b"GET_PARAMETER * RTSP/1.0\nCSeq: 1\n\n".repeat(rt.alloc(), MANY)?;
+    let want = b"RTSP/1.0 200 OK\r\nCSeq: 1\r\n\r\n".repeat(rt.alloc(), MANY)?;
+    let devices = Devices {
+        piece: 5000,
+        fail_at: None,
+        room: 100_000,
+    };
+    let host = made_host(&rt, 10)?;
     assert!(rt;
-        sink.bytes()
-            .chunks(reply.len())
-            .all(|one| one == reply.as_slice())
+        talks(
+            host,
+            input.as_slice(),
+            devices,
+            want.as_slice(),
+            &TalkEnd::Done
+        )?
     );
     Ok(())
+}
+
+/// Whether an open connection leaves its book, in which two entries stand then.
+fn leaves(talker: &mut Talker) -> bool
+    requires { talker.old.book.seats ≡ 1 }
+{
+    if !talker.book.is_open(1) {
+        return false;
+    }
+    talker.leave();
+    !talker.book.is_open(1) && talker.book.kept() == 2
 }
 
 #[test]
@@ -179,8 +203,6 @@ fn a_connection_leaves_its_book(rt: HostRuntime) -> Result<(), Fail> {
     let Ok(mut talker) = Talker::connect(rt.alloc(), RandomState::new(&rt)?) else {
         return Err(Fail::from("it comes"));
     };
-    assert!(rt; talker.book.is_open(1));
-    talker.leave();
-    assert!(rt; !talker.book.is_open(1) && talker.book.kept() == 2);
+    assert!(rt; leaves(&mut talker));
     Ok(())
 }

@@ -9,6 +9,8 @@ mod answers_tests;
 #[cfg(test)]
 mod command_line_tests;
 #[cfg(test)]
+mod devices;
+#[cfg(test)]
 mod exchange_tests;
 #[cfg(test)]
 mod prompt_tests;

@@ -1,5 +1,6 @@
 //! Each answer is written before more is read. No contract says this of the two devices of a talk, so it is tried.
-use interleaved::{ListSink, ListSource, Reading, Source, Writing};
+use crate::devices::{Devices, made_host, outcome_of};
+use interleaved::{Reading, Writing};
 use relay_talk::{FixedWord, TalkEnd, run_talk};
 use rtsp_message::Fault;
 use std::alloc::Global;
@@ -69,38 +70,58 @@ impl Write for Answered<'_> {
     }
 }
 
+/// What comes in, and how its talk ends and how often it reads then.
+struct Row {
+    pieces: [&'static [u8]; 3],
+    end: TalkEnd,
+    reads: usize,
+}
+
+const ROWS: [Row; 4] = [
+    Row {
+        pieces: [OPTIONS, OPTIONS, OPTIONS],
+        end: TalkEnd::Done,
+        reads: 4,
+    },
+    // Each answer is a write of its own, and none waits for the rest of another request.
+    Row {
+        pieces: [TWO, OPTIONS, b""],
+        end: TalkEnd::Done,
+        reads: 3,
+    },
+    Row {
+        pieces: [AND_A_HALF, OTHER_HALF, OPTIONS],
+        end: TalkEnd::Done,
+        reads: 4,
+    },
+    // Behind a fault nothing is read.
+    Row {
+        pieces: [OPTIONS, OPTIONS, b"HELLO\r\n"],
+        end: TalkEnd::StreamFault(Fault::BadLine),
+        reads: 3,
+    },
+];
+
+/// How a talk over a wire ends.
+fn end_over<'a>(alloc: Global, hasher: RandomState, wire: &'a Wire<'a>) -> TalkEnd {
+    let reader = Reading::new(Asking { wire });
+    let mut writer = Writing::new(Answered { wire });
+    let (end, _reader) = run_talk(alloc, hasher, reader, &mut writer, &mut FixedWord(0));
+    end
+}
+
 #[test]
 fn an_answer_is_written_before_more_is_read(rt: HostRuntime) -> Result<(), Fail> {
-    let rows = [
-        ([OPTIONS, OPTIONS, OPTIONS], TalkEnd::Done, 4),
-        // Each answer is a write of its own, and none waits for the rest of another request.
-        ([TWO, OPTIONS, b""], TalkEnd::Done, 3),
-        ([AND_A_HALF, OTHER_HALF, OPTIONS], TalkEnd::Done, 4),
-        (
-            // Behind a fault nothing is read.
-            [OPTIONS, OPTIONS, b"HELLO\r\n"],
-            TalkEnd::StreamFault(Fault::BadLine),
-            3,
-        ),
-    ];
-    for (pieces, want, reads) in rows {
+    let hasher = RandomState::new(&rt)?;
+    for row in &ROWS {
         let wire = Wire {
-            pieces: pieces.as_slice(),
+            pieces: row.pieces.as_slice(),
             reads: Cell::new(0),
             writes: Cell::new(0),
             late: Cell::new(false),
         };
-        let reader = Reading::new(Asking { wire: &wire });
-        let mut writer = Writing::new(Answered { wire: &wire });
-        let (end, _reader) = run_talk(
-            rt.alloc(),
-            RandomState::new(&rt)?,
-            reader,
-            &mut writer,
-            &mut FixedWord(0),
-        );
-        assert!(rt; end == want);
-        assert_eq!(rt; (wire.reads.get(), wire.writes.get()), (reads, 3));
+        assert!(rt; end_over(rt.alloc(), hasher, &wire) == row.end);
+        assert_eq!(rt; (wire.reads.get(), wire.writes.get()), (row.reads, 3));
         assert!(rt; !wire.late.get());
     }
     Ok(())
@@ -108,20 +129,14 @@ fn an_answer_is_written_before_more_is_read(rt: HostRuntime) -> Result<(), Fail>
 
 #[test]
 fn nothing_is_read_behind_a_failed_write(rt: HostRuntime) -> Result<(), Fail> {
-    let alloc = rt.alloc();
-    let mut input = Vec::from_slice(alloc, OPTIONS)?;
-    input.extend_from_slice(OPTIONS)?;
-    let source = ListSource::new(input, OPTIONS.len(), None);
-    let mut sink = ListSink::new(alloc, 0)?;
-    let (end, last) = run_talk(
-        alloc,
-        RandomState::new(&rt)?,
-        source,
-        &mut sink,
-        &mut FixedWord(0),
-    );
-    assert!(rt; end == TalkEnd::WriteFailed);
-    assert_eq!(rt; last.left(), OPTIONS.len() as u64);
+    let devices = Devices {
+        piece: OPTIONS.len(),
+        fail_at: None,
+        room: 0,
+    };
+    let outcome = outcome_of(made_host(&rt, 0)?, TWO, devices, &mut FixedWord(0))?;
+    assert!(rt; outcome.end == TalkEnd::WriteFailed);
+    assert_eq!(rt; outcome.left, OPTIONS.len() as u64);
     Ok(())
 }
 

@@ -1,14 +1,14 @@
 //! What a talk publishes, as a second connection of its book takes it from the ring.
-ghost use Rattle.std.specs.Prelude.{◌≡◌};
+ghost use Rattle.std.specs.Prelude.{◌≡◌, true};
+ghost use Rattle.session_state.specs.Lookups.{is_open};
 
 use base_syntax::Items;
 use cursor::{Taken, Tap};
 use interleaved::ListSource;
-use packet_ring::Subscriber;
+use packet_ring::{Pass, Subscriber};
 use publisher::InStop;
 use relay_talk::Talker;
-use rtsp_message::{Intake, Next, Unit};
-use session_lock::Answer;
+use rtsp_message::{Intake, Next, Request, Unit};
 use session_state::Given;
 use std::alloc::Global;
 use std::collections::hash_map::RandomState;
@@ -26,6 +26,38 @@ const RECORDED: &[u8] =
 const PLAYED: &[u8] =
     b"SETUP rtsp://h/a/trackID=0 RTSP/1.0\nCSeq: 1\nTransport: RTP/AVP/TCP;interleaved=0-1\n\nPLAY rtsp://h/a RTSP/1.0\nCSeq: 2\nSession: 000000020000abcd\n\n";
 
+/// Whether a request is answered with 200.
+fn is_accepted(talker: &mut Talker, request: &Request) -> bool
+    requires open { is_open 1 talker.old.book.history ≡ true }
+    requires seats { talker.old.book.seats ≡ 1 }
+    ensures { talker.new.book.seats ≡ 1 }
+{
+    match talker.reply_bytes(0xabcd, request) {
+        Some(text) => text.starts_with(b"RTSP/1.0 200 "),
+        None => false,
+    }
+}
+
+/// Answers all that comes, and tells how many requests were accepted.
+fn count_accepted(talker: &mut Talker, intake: &mut Intake<ListSource>) -> Result<u64, Fail>
+    requires { talker.old.book.seats ≡ 1 }
+    ensures { talker.new.book.seats ≡ 1 }
+{
+    let mut count = 0u64;
+    for _ in 0..8 {
+        if !talker.book.is_open(1) {
+            return Err(Fail::from("the connection is open"));
+        }
+        let InStop::Message(request) = talker.next_message(intake) else {
+            return Ok(count);
+        };
+        if is_accepted(talker, &request) {
+            count = count.saturating_add(1);
+        }
+    }
+    Err(Fail::from("no more than seven requests"))
+}
+
 /// Answers all that is sent, and tells how many requests were accepted.
 fn accepted(talker: &mut Talker, alloc: Global, sent: &[u8]) -> Result<u64, Fail>
     requires { talker.old.book.seats ≡ 1 }
@@ -33,21 +65,50 @@ fn accepted(talker: &mut Talker, alloc: Global, sent: &[u8]) -> Result<u64, Fail
 {
     let source = ListSource::new(Vec::from_slice(alloc, sent)?, 7, None);
     let mut intake = Intake::new(alloc, source);
-    let mut count = 0u64;
-    for _ in 0..8 {
-        if !talker.book.is_open(1) {
-            return Err(Fail::from("the connection is open"));
-        }
-        let InStop::Message(request) = talker.next_message(&mut intake) else {
-            return Ok(count);
-        };
-        if let Some(text) = talker.reply_bytes(0xabcd, &request) {
-            if text.as_slice().starts_with(b"RTSP/1.0 200 ") {
-                count = count.saturating_add(1);
-            }
-        }
+    count_accepted(talker, &mut intake)
+}
+
+/// The pass that a request of the second connection is handed.
+fn handed_pass(talker: &mut Talker, alloc: Global, request: &Request) -> Result<Option<Pass>, Fail>
+    requires { talker.old.book.seats ≡ 1 }
+    ensures { talker.new.book.seats ≡ 1 }
+{
+    let given = Given {
+        word: 0xabcd,
+        points: Items::empty(alloc),
+    };
+    match talker.book.ask(2, request, &given, None) {
+        Ok(answer) => Ok(answer.pass.flatten()),
+        Err(_) => Err(Fail::from("it is answered")),
     }
-    Err(Fail::from("no more than seven requests"))
+}
+
+/// The pass that the next request of the second connection is handed.
+fn next_pass(
+    talker: &mut Talker,
+    alloc: Global,
+    intake: &mut Intake<ListSource>,
+) -> Result<Option<Pass>, Fail>
+    requires { talker.old.book.seats ≡ 1 }
+    ensures { talker.new.book.seats ≡ 1 }
+{
+    match intake.next() {
+        Next::Unit(Unit::Message(request)) => handed_pass(talker, alloc, &request),
+        _ => Err(Fail::from("two requests")),
+    }
+}
+
+/// The pass of the seat that a second connection plays from.
+fn played(talker: &mut Talker, alloc: Global) -> Result<Option<Pass>, Fail>
+    requires { talker.old.book.seats ≡ 1 }
+    ensures { talker.new.book.seats ≡ 1 }
+{
+    let source = ListSource::new(Vec::from_slice(alloc, PLAYED)?, 100, None);
+    let mut intake = Intake::new(alloc, source);
+    match next_pass(talker, alloc, &mut intake) {
+        Ok(None) => next_pass(talker, alloc, &mut intake),
+        early => early,
+    }
 }
 
 /// The seat of a second connection, which plays the mount.
@@ -58,66 +119,69 @@ fn joined(talker: &mut Talker, alloc: Global) -> Result<Subscriber, Fail>
     if talker.book.connect() != Ok(2) {
         return Err(Fail::from("it comes second"));
     }
-    let source = ListSource::new(Vec::from_slice(alloc, PLAYED)?, 100, None);
-    let mut intake = Intake::new(alloc, source);
-    for _ in 0..2 {
-        let Next::Unit(Unit::Message(request)) = intake.next() else {
-            return Err(Fail::from("two requests"));
-        };
-        let given = Given {
-            word: 0xabcd,
-            points: Items::empty(alloc),
-        };
-        let Ok(answer) = talker.book.ask(2, &request, &given, None) else {
-            return Err(Fail::from("it is answered"));
-        };
-        let Answer {
-            reply: _,
-            act: _,
-            pass,
-            back: _,
-        } = answer;
-        if let Some(Some(pass)) = pass {
-            return Ok(pass.attach());
-        }
+    match played(talker, alloc)? {
+        Some(pass) => Ok(pass.attach()),
+        None => Err(Fail::from("it gets a seat")),
     }
-    Err(Fail::from("it gets a seat"))
+}
+
+/// Adds the tag and the last byte of the next packet, or a full stop where more may come. Whether there was a packet.
+fn take_next(alloc: Global, seat: &mut Subscriber, bytes: &mut Vec<u8>) -> Result<bool, Fail> {
+    let mut buf = Vec::from_elem(alloc, 0, seat.packet_bytes())?;
+    match seat.take(buf.as_mut_slice()) {
+        Taken::Packet { tag, len, .. } => {
+            let last = buf.get(len.saturating_sub(1)).copied().unwrap_or(0);
+            bytes.extend_from_slice(&[tag, last])?;
+            Ok(true)
+        }
+        Taken::Empty => {
+            bytes.push(b'.')?;
+            Ok(false)
+        }
+        Taken::Ended | Taken::Lost(_) => Ok(false),
+    }
 }
 
 /// The tag and the last byte of each packet that there is, and a full stop where more may come.
 fn taken(alloc: Global, seat: &mut Subscriber) -> Result<Vec<u8>, Fail> {
     let mut bytes = Vec::new(alloc);
     for _ in 0..8 {
-        let mut buf = Vec::from_elem(alloc, 0, seat.packet_bytes())?;
-        match seat.take(buf.as_mut_slice()) {
-            Taken::Packet { tag, len, .. } => {
-                bytes.push(tag)?;
-                bytes.push(buf.get(len.saturating_sub(1)).copied().unwrap_or(0))?;
-            }
-            Taken::Empty => {
-                bytes.push(b'.')?;
-                return Ok(bytes);
-            }
-            Taken::Ended | Taken::Lost(_) => return Ok(bytes),
+        if !take_next(alloc, seat, &mut bytes)? {
+            break;
         }
     }
     Ok(bytes)
 }
 
+/// Whether a seat takes what comes while the session records, and nothing behind the connection's end.
+fn are_taken(talker: &mut Talker, alloc: Global, seat: &mut Subscriber) -> Result<bool, Fail>
+    requires { talker.old.book.seats ≡ 1 }
+{
+    let recorded = accepted(talker, alloc, RECORDED)?;
+    let live = taken(alloc, seat)?;
+    if !talker.book.is_open(1) {
+        return Ok(false);
+    }
+    talker.leave();
+    let rest = taken(alloc, seat)?;
+    Ok(recorded == 3 && live.as_slice() == [0, 2, 1, 4, b'.'].as_slice() && rest.is_empty())
+}
+
+/// Whether what is announced and recorded is published.
+fn publishes(talker: &mut Talker, alloc: Global) -> Result<bool, Fail>
+    requires { talker.old.book.seats ≡ 1 }
+{
+    let announced = accepted(talker, alloc, ANNOUNCED)?;
+    let mut seat = joined(talker, alloc)?;
+    let are_taken = are_taken(talker, alloc, &mut seat)?;
+    Ok(announced == 2 && are_taken)
+}
+
 #[test]
 fn frames_are_published_while_the_session_records(rt: HostRuntime) -> Result<(), Fail> {
-    let alloc = rt.alloc();
-    let Ok(mut talker) = Talker::connect(alloc, RandomState::new(&rt)?) else {
+    let Ok(mut talker) = Talker::connect(rt.alloc(), RandomState::new(&rt)?) else {
         return Err(Fail::from("it comes"));
     };
-    let announced = accepted(&mut talker, alloc, ANNOUNCED)?;
-    let mut seat = joined(&mut talker, alloc)?;
-    let recorded = accepted(&mut talker, alloc, RECORDED)?;
-    let live = taken(alloc, &mut seat)?;
-    assert!(rt; talker.book.is_open(1));
-    talker.leave();
-    let rest = taken(alloc, &mut seat)?;
-    assert!(rt; announced == 2 && recorded == 3);
-    assert!(rt; live.as_slice() == [0, 2, 1, 4, b'.'].as_slice() && rest.is_empty());
+    assert!(rt; publishes(&mut talker, rt.alloc())?);
     Ok(())
 }

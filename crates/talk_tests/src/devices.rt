@@ -1,0 +1,73 @@
+//! Talks over devices in memory.
+use interleaved::{ListSink, ListSource, Source};
+use relay_talk::{FixedWord, TalkEnd, run_talk};
+use session_state::Words;
+use std::alloc::Global;
+use std::collections::hash_map::RandomState;
+use std::test::Fail;
+
+/// Where a talk is tried.
+#[derive(Clone, Copy)]
+pub(crate) struct Host {
+    pub alloc: Global,
+    pub hasher: RandomState,
+    /// The word of each session identifier.
+    pub word: u32,
+}
+
+pub(crate) fn made_host(rt: &HostRuntime, word: u32) -> Result<Host, Fail> {
+    Ok(Host {
+        alloc: rt.alloc(),
+        hasher: RandomState::new(rt)?,
+        word,
+    })
+}
+
+/// How the bytes of a talk come and go: at most so many a read, up to a place at which the source fails, into a sink
+/// with this room.
+#[derive(Clone, Copy)]
+pub(crate) struct Devices {
+    pub piece: usize,
+    pub fail_at: Option<usize>,
+    pub room: usize,
+}
+
+/// What a talk came to.
+#[derive(Drop)]
+pub(crate) struct Outcome {
+    pub end: TalkEnd,
+    /// What it wrote.
+    pub written: Vec<u8>,
+    /// How many bytes it left unread.
+    pub left: u64,
+}
+
+/// What a talk of this input comes to, with these words.
+pub(crate) fn outcome_of<V: Words>(
+    host: Host,
+    input: &[u8],
+    devices: Devices,
+    words: &mut V,
+) -> Result<Outcome, Fail> {
+    let bytes = Vec::from_slice(host.alloc, input)?;
+    let source = ListSource::new(bytes, devices.piece.max(1), devices.fail_at);
+    let mut sink = ListSink::new(host.alloc, devices.room)?;
+    let (end, last) = run_talk(host.alloc, host.hasher, source, &mut sink, words);
+    Ok(Outcome {
+        end,
+        written: sink.into_vec(),
+        left: last.left(),
+    })
+}
+
+/// Whether a talk of this input writes this text, and ends so.
+pub(crate) fn talks(
+    host: Host,
+    input: &[u8],
+    devices: Devices,
+    want: &[u8],
+    want_end: &TalkEnd,
+) -> Result<bool, Fail> {
+    let outcome = outcome_of(host, input, devices, &mut FixedWord(host.word))?;
+    Ok(outcome.written.as_slice() == want && outcome.end == *want_end)
+}
