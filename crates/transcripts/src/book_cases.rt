@@ -81,28 +81,38 @@ impl BookCase {
         told: &mut Told,
     ) -> Result<(), Fault> {
         match word {
-            b"open" => {
+            b"open" | b"mount" | b"state" => {
                 let conn = u64::from(arguments.number()?);
+                Ok(self.tell_connection(word, conn, told)?)
+            }
+            _ => Err(Fault::UnknownWord),
+        }
+    }
+
+    /// Tells what a word asks of a connection.
+    fn tell_connection(&self, word: &[u8], conn: u64, told: &mut Told) -> Result<(), AllocError> {
+        let agrees = match word {
+            b"open" => {
                 let is_open = self.book.is_open(conn);
                 told.truth(is_open)?;
-                tell_agreement(is_open == self.world.is_open(conn), told)?;
+                is_open == self.world.is_open(conn)
             }
             b"mount" => {
-                let conn = u64::from(arguments.number()?);
                 let mount = self.book.mount_of(conn);
                 told.number(mount)?;
-                tell_agreement(mount == self.world.mount_of(conn), told)?;
+                mount == self.world.mount_of(conn)
             }
-            b"state" => {
-                let conn = u64::from(arguments.number()?);
-                let of_book = state_text(self.alloc, self.book.session_of(conn))?;
-                let of_world = state_text(self.alloc, self.world.session_of(conn))?;
-                told.fact(of_world.as_bytes())?;
-                tell_agreement(of_book.as_str() == of_world.as_str(), told)?;
-            }
-            _ => return Err(Fault::UnknownWord),
-        }
-        Ok(())
+            _ => self.tell_state(conn, told)?,
+        };
+        tell_agreement(agrees, told)
+    }
+
+    /// Tells the state of a connection's session. Whether it is the same in the book.
+    fn tell_state(&self, conn: u64, told: &mut Told) -> Result<bool, AllocError> {
+        let of_book = state_text(self.alloc, self.book.session_of(conn))?;
+        let of_world = state_text(self.alloc, self.world.session_of(conn))?;
+        told.fact(of_world.as_bytes())?;
+        Ok(of_book.as_str() == of_world.as_str())
     }
 
     /// Begins anew, with so many seats a mount.
@@ -171,23 +181,33 @@ impl BookCase {
     /// Asks what a text of one request says, for a connection.
     pub fn ask(&mut self, conn: u64, bytes: &[u8], told: &mut Told) -> Result<(), Fault> {
         let request = read_request(self.alloc, bytes)?;
-        let offer = self.next_offer(&request)?;
+        self.ask_request(conn, &request, told)
+    }
+
+    /// Asks what a request says, for a connection.
+    fn ask_request(&mut self, conn: u64, request: &Request, told: &mut Told) -> Result<(), Fault> {
+        let offer = self.next_offer(request)?;
         let kept = self.book.kept();
-        match self.book.ask(conn, &request, &self.given, offer) {
-            Ok(answer) => {
-                put_reply(&mut told.text, &answer.reply)?;
-                let act = answer_text(self.alloc, &answer)?;
-                told.fact(act.as_bytes())?;
-                let agrees = self.world_agrees(conn, &request, &answer, &told.text)?;
-                tell_agreement(agrees, told)?;
-                self.tell_rise(kept, 1, told)
-            }
-            Err(fault) => {
-                let text = refusal_text(self.alloc, &fault)?;
-                told.fact(text.as_bytes())?;
-                self.tell_rise(kept, 0, told)
-            }
-        }
+        let (rise, is_told) = match self.book.ask(conn, request, &self.given, offer) {
+            Ok(answer) => (1, self.tell_answer(conn, request, &answer, told)),
+            Err(fault) => (0, tell_refusal(self.alloc, &fault, told)),
+        };
+        is_told?;
+        self.tell_rise(kept, rise, told)
+    }
+
+    /// Tells what the book answers to a request, and where the world answers it otherwise.
+    fn tell_answer(
+        &mut self,
+        conn: u64,
+        request: &Request,
+        answer: &Answer<u16>,
+        told: &mut Told,
+    ) -> Result<(), Fault> {
+        put_reply(&mut told.text, &answer.reply)?;
+        told.fact(answer_text(self.alloc, answer)?.as_bytes())?;
+        let agrees = self.world_agrees(conn, request, answer.act, &told.text)?;
+        Ok(tell_agreement(agrees, told)?)
     }
 
     /// The passes that the next request offers: as many as was told, or else one for each seat with ANNOUNCE.
@@ -206,22 +226,22 @@ impl BookCase {
         Ok(Some(passes))
     }
 
-    /// Whether the world answers a request so, and tells the same reply before.
+    /// Whether the world does this act for a request and replies so, and tells the same reply before.
     fn world_agrees(
         &mut self,
         conn: u64,
         request: &Request,
-        answer: &Answer<u16>,
+        wanted: Act,
         text: &[u8],
     ) -> Result<bool, AllocError> {
         if !self.world.is_open(conn) {
             return Ok(false);
         }
         let foreseen = self.world.reply_of(self.alloc, conn, request, &self.given)?;
+        let is_foreseen = is_written(self.alloc, foreseen, text)?;
         let (reply, act) = self.world.decide(self.alloc, conn, request, &self.given)?;
-        let foreseen = reply_text(self.alloc, &foreseen)?;
-        let reply = reply_text(self.alloc, &reply)?;
-        Ok(act == answer.act && foreseen.as_slice() == text && reply.as_slice() == text)
+        let is_replied = is_written(self.alloc, reply, text)?;
+        Ok(act == wanted && is_foreseen && is_replied)
     }
 
     /// Tells how many entries the book keeps, unless they are so many more than before.
@@ -255,10 +275,12 @@ fn connected(came: Result<u64, ConnectFault>) -> Result<Option<u64>, Fault> {
 
 /// The one request that bytes are.
 fn read_request(alloc: Global, bytes: &[u8]) -> Result<Request, Fault> {
-    let fed = Reader::new(alloc).feed(bytes)?;
-    let mut units = fed.units;
-    match (units.pop(), units.is_empty()) {
-        (Some(Unit::Message(request)), true) => Ok(request),
+    let mut units = Reader::new(alloc).feed(bytes)?.units;
+    if units.len() != 1 {
+        return Err(Fault::NoMessage);
+    }
+    match units.pop() {
+        Some(Unit::Message(request)) => Ok(request),
         _ => Err(Fault::NoMessage),
     }
 }
@@ -278,10 +300,11 @@ fn read_point(word: &[u8]) -> Result<Option<Point>, Fault> {
     }))
 }
 
-fn reply_text(alloc: Global, reply: &Reply) -> Result<Vec<u8>, AllocError> {
-    let mut text = Vec::new(alloc);
-    put_reply(&mut text, reply)?;
-    Ok(text)
+/// Whether a reply is written as this text.
+fn is_written(alloc: Global, reply: Reply, text: &[u8]) -> Result<bool, AllocError> {
+    let mut written = Vec::new(alloc);
+    put_reply(&mut written, &reply)?;
+    Ok(written.as_slice() == text)
 }
 
 fn act_text(alloc: Global, act: Act) -> Result<String, AllocError> {
@@ -303,6 +326,12 @@ fn answer_text(alloc: Global, answer: &Answer<u16>) -> Result<String, AllocError
     }
     push_back(&mut text, alloc, &answer.back)?;
     Ok(text)
+}
+
+/// Tells why a request isn't answered.
+fn tell_refusal(alloc: Global, fault: &AskFault<u16>, told: &mut Told) -> Result<(), Fault> {
+    let text = refusal_text(alloc, fault)?;
+    Ok(told.fact(text.as_bytes())?)
 }
 
 /// Why a request isn't answered, and how many passes came back.

@@ -34,25 +34,32 @@ impl HeaderCase {
         arguments: &mut Arguments<'_>,
         told: &mut Told,
     ) -> Result<(), Fault> {
-        let alloc = told.alloc();
         match word {
-            b"used" => self.set_used(&arguments.words(alloc)?),
-            b"free" => {
-                let pair = pair_text(alloc, self.used.least_free_pair())?;
-                Ok(told.fact(pair.as_bytes())?)
+            b"used" => self.set_used(&arguments.words(told.alloc())?),
+            b"free" => Ok(self.tell_free(told)?),
+            b"read" | b"choose" | b"session" => {
+                let text = arguments.text(told.alloc())?;
+                self.tell_text(word, &text, told)
             }
-            b"read" => tell_specs(&arguments.text(alloc)?, told),
-            b"choose" => self.tell_choice(&arguments.text(alloc)?, told),
             b"transport" => tell_transport(arguments, told),
-            b"session" => Ok(told.fact(read_session(&arguments.text(alloc)?))?),
-            b"identifier" => {
-                let number = arguments.number()?;
-                let mut out = Vec::new(alloc);
-                put_session(&mut out, number, arguments.hex()?)?;
-                Ok(told.fact(&out)?)
-            }
+            b"identifier" => tell_identifier(arguments, told),
             b"rtp-info" => tell_rtp_info(arguments, told),
             _ => call_tracks(&mut self.tracks, word, arguments, told),
+        }
+    }
+
+    /// Tells the least pair of channels that is free.
+    fn tell_free(&self, told: &mut Told) -> Result<(), AllocError> {
+        let pair = pair_text(told.alloc(), self.used.least_free_pair())?;
+        told.fact(pair.as_bytes())
+    }
+
+    /// Tells what a word asks of the text of a header.
+    fn tell_text(&self, word: &[u8], text: &[u8], told: &mut Told) -> Result<(), Fault> {
+        match word {
+            b"read" => tell_specs(text, told),
+            b"choose" => self.tell_choice(text, told),
+            _ => Ok(told.fact(read_session(text))?),
         }
     }
 
@@ -72,8 +79,7 @@ impl HeaderCase {
     /// Tells what is chosen of a Transport header, and how that is answered.
     fn tell_choice(&self, text: &[u8], told: &mut Told) -> Result<(), Fault> {
         let alloc = told.alloc();
-        let specs = read_transport(alloc, text)?;
-        let Some(chosen) = choose(&specs, &self.used) else {
+        let Some(chosen) = choose(&read_transport(alloc, text)?, &self.used) else {
             return Ok(told.fact(b"refused")?);
         };
         let Chosen { rtp, rtcp, .. } = chosen;
@@ -116,6 +122,14 @@ fn tell_spec(spec: &Spec, told: &mut Told) -> Result<(), AllocError> {
         Mode::Play => b" play",
         Mode::Record => b" record",
     })
+}
+
+/// `identifier NUMBER HEX8`.
+fn tell_identifier(arguments: &mut Arguments<'_>, told: &mut Told) -> Result<(), Fault> {
+    let number = arguments.number()?;
+    let word = arguments.hex()?;
+    put_session(&mut told.facts, number, word)?;
+    Ok(told.fact(b"")?)
 }
 
 /// `transport A B play` or `transport A B record`.

@@ -25,22 +25,35 @@ impl LogCase {
         arguments: &mut Arguments<'_>,
         told: &mut Told,
     ) -> Result<(), Fault> {
-        if word == b"log".as_slice() {
-            let keep = u64::from(arguments.number()?);
-            let seats = arguments.short()?;
-            let packet_bytes = arguments.number_to(65_535)? as usize;
-            self.log = Some(PlainLog::new(told.alloc(), keep, seats, packet_bytes)?);
-            return Ok(());
+        match word {
+            b"log" => self.make(told.alloc(), arguments),
+            b"pump" => self.pump(arguments, told),
+            _ => match &mut self.log {
+                Some(log) => call_log(log, word, arguments, told),
+                None => Err(Fault::NoLog),
+            },
         }
-        let mut log = self.log.take().ok_or(Fault::NoLog)?;
-        if word == b"pump".as_slice() {
-            let seat = arguments.short()?;
-            let takes = u64::from(arguments.number()?);
+    }
+
+    /// Makes a log.
+    fn make(&mut self, alloc: Global, arguments: &mut Arguments<'_>) -> Result<(), Fault> {
+        let keep = u64::from(arguments.number()?);
+        let seats = arguments.short()?;
+        let packet_bytes = arguments.number_to(65_535)? as usize;
+        self.log = Some(PlainLog::new(alloc, keep, seats, packet_bytes)?);
+        Ok(())
+    }
+
+    /// Pumps a seat of the log.
+    fn pump(&mut self, arguments: &mut Arguments<'_>, told: &mut Told) -> Result<(), Fault> {
+        if self.log.is_none() {
+            return Err(Fault::NoLog);
+        }
+        let seat = arguments.short()?;
+        let takes = u64::from(arguments.number()?);
+        if let Some(log) = self.log.take() {
             self.log = Some(pumped(log, seat, takes, told)?);
-            return Ok(());
         }
-        call_log(&mut log, word, arguments, told)?;
-        self.log = Some(log);
         Ok(())
     }
 }
@@ -59,30 +72,39 @@ fn call_log(
         }
         b"close" => Ok(close(log, told)?),
         b"closed" => Ok(told.truth(log.is_closed())?),
-        b"attached" | b"free" | b"attach" | b"take" | b"detach" | b"cursor" | b"account" => {
-            call_seat(log, word, arguments.short()?, told)
-        }
+        _ if is_of_seat(word) => call_seat(log, word, arguments.short()?, told),
         _ => Err(Fault::UnknownWord),
     }
 }
 
+/// Whether a word calls something over a seat.
+fn is_of_seat(word: &[u8]) -> bool {
+    matches!(
+        word,
+        b"attached" | b"free" | b"attach" | b"take" | b"detach" | b"cursor" | b"account"
+    )
+}
+
 /// A call over a seat.
 fn call_seat(log: &mut PlainLog, word: &[u8], seat: u16, told: &mut Told) -> Result<(), Fault> {
-    match word {
-        b"attached" => Ok(told.truth(log.is_attached(seat))?),
-        b"free" => Ok(told.truth(log.is_free(seat))?),
-        b"attach" => Ok(attach(log, seat, told)?),
-        _ if !log.is_attached(seat) => Ok(told.fact(b"no")?),
-        b"take" => Ok(take(log, seat, told)?),
-        b"detach" => {
-            let Left { taken, lost, left } = log.detach(seat);
-            let text = format!(in told.alloc(); "taken {taken} lost {lost} left {left}")?;
-            Ok(told.fact(text.as_bytes())?)
-        }
-        b"cursor" => Ok(told.number(Some(log.account(seat).cursor()))?),
-        b"account" => Ok(tell_account(log.account(seat), told)?),
-        _ => Err(Fault::UnknownWord),
-    }
+    let is_told = match word {
+        b"attached" => told.truth(log.is_attached(seat)),
+        b"free" => told.truth(log.is_free(seat)),
+        b"attach" => attach(log, seat, told),
+        _ if !log.is_attached(seat) => told.fact(b"no"),
+        b"take" => take(log, seat, told),
+        b"detach" => tell_left(log.detach(seat), told),
+        b"cursor" => told.number(Some(log.account(seat).cursor())),
+        b"account" => tell_account(log.account(seat), told),
+        _ => return Err(Fault::UnknownWord),
+    };
+    Ok(is_told?)
+}
+
+fn tell_left(left: Left, told: &mut Told) -> Result<(), AllocError> {
+    let Left { taken, lost, left } = left;
+    let text = format!(in told.alloc(); "taken {taken} lost {lost} left {left}")?;
+    told.fact(text.as_bytes())
 }
 
 /// Publishes a packet so many times, and tells what the last time was answered.
@@ -162,16 +184,25 @@ fn pumped(log: PlainLog, seat: u16, takes: u64, told: &mut Told) -> Result<Plain
         return Ok(log);
     }
     let mut tap = PlainTap::new(log, seat);
+    tell_pumped(&mut tap, takes, told)?;
+    Ok(tap.into_log())
+}
+
+/// Pumps at most so many takes of a tap, and tells the packets and the account.
+fn tell_pumped(tap: &mut PlainTap, takes: u64, told: &mut Told) -> Result<(), AllocError> {
     let mut packets = Vec::new(told.alloc());
-    let account = match pump(told.alloc(), &mut tap, takes, &mut packets) {
-        Ok(account) => account,
-        Err(_) => return Err(Fault::OutOfMemory),
+    let Ok(account) = pump(told.alloc(), tap, takes, &mut packets) else {
+        return Err(AllocError);
     };
-    for packet in &packets {
+    tell_packets(&packets, told)?;
+    tell_account(account, told)
+}
+
+fn tell_packets(packets: &[Packet], told: &mut Told) -> Result<(), AllocError> {
+    for packet in packets {
         tell_packet(packet, told)?;
     }
-    tell_account(account, told)?;
-    Ok(tap.into_log())
+    Ok(())
 }
 
 fn tell_packet(packet: &Packet, told: &mut Told) -> Result<(), AllocError> {

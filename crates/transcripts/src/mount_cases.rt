@@ -5,9 +5,9 @@ use crate::fault::Fault;
 use crate::told::Told;
 use crate::uri_cases::call_uris;
 use mounts::{
-    MAX_SEATS, Mount, Mounts, Uri, UriFault, ends_in_track, is_name, read_uri, rest_after,
+    MAX_SEATS, Mount, Mounts, Target, Uri, UriFault, ends_in_track, is_name, read_uri, rest_after,
 };
-use sdp::SdpFault;
+use sdp::{Description, SdpFault};
 use std::alloc::{AllocError, Global};
 use std::collections::hash_map::RandomState;
 
@@ -53,28 +53,49 @@ impl MountCase {
                 self.mounts = Mounts::new(self.alloc, seats, self.hasher);
                 Ok(())
             }
-            b"announce" => {
-                let owner = u64::from(arguments.number()?);
-                let name = arguments.text(self.alloc)?;
-                self.announce(owner, &name, told)
-            }
-            b"end-mount" => {
-                self.mounts.end(u64::from(arguments.number()?));
-                Ok(())
-            }
-            b"take" => {
+            b"announce" => self.call_announce(arguments, told),
+            b"end-mount" | b"take" | b"back" | b"back-all" => {
                 let number = u64::from(arguments.number()?);
+                self.call_mount(word, number, arguments, told)
+            }
+            _ => self.look_up(word, arguments, told),
+        }
+    }
+
+    /// Calls what a word names, of the mount with this number.
+    fn call_mount(
+        &mut self,
+        word: &[u8],
+        number: u64,
+        arguments: &mut Arguments<'_>,
+        told: &mut Told,
+    ) -> Result<(), Fault> {
+        match word {
+            b"take" => {
                 let times = arguments.number_or(1)?;
                 Ok(self.take_seats(number, times, told)?)
             }
             b"back" => {
-                let number = u64::from(arguments.number()?);
                 let seat = arguments.number()? as usize;
                 Ok(told.truth(self.mounts.give_back(number, seat))?)
             }
-            b"back-all" => Ok(self.give_all_back(u64::from(arguments.number()?), told)?),
-            _ => self.look_up(word, arguments, told),
+            b"back-all" => Ok(self.give_all_back(number, told)?),
+            _ => {
+                self.mounts.end(number);
+                Ok(())
+            }
         }
+    }
+
+    /// `announce OWNER NAME`.
+    fn call_announce(
+        &mut self,
+        arguments: &mut Arguments<'_>,
+        told: &mut Told,
+    ) -> Result<(), Fault> {
+        let owner = u64::from(arguments.number()?);
+        let name = arguments.text(self.alloc)?;
+        self.announce(owner, &name, told)
     }
 
     /// Looks something up, which changes nothing.
@@ -86,49 +107,69 @@ impl MountCase {
     ) -> Result<(), Fault> {
         match word {
             b"find" => Ok(self.find(&arguments.text(self.alloc)?, told)?),
-            b"owned" => {
-                let mount = self.mounts.owned_by(u64::from(arguments.number()?));
-                Ok(told.number(mount.map(|mount| mount.number))?)
+            b"owned" | b"numbered" | b"seats-of" => {
+                let number = u64::from(arguments.number()?);
+                Ok(self.tell_numbered(word, number, told)?)
             }
-            b"numbered" => match self.mounts.numbered(u64::from(arguments.number()?)) {
-                Some(mount) => Ok(told.fact(mount.name.as_slice())?),
-                None => Ok(told.fact(b"none")?),
-            },
             b"live" => Ok(self.tell_live(told)?),
             b"room" => Ok(told.truth(self.mounts.has_room())?),
-            b"seats-of" => match self.mounts.numbered(u64::from(arguments.number()?)) {
-                Some(mount) => Ok(tell_seats(mount, told)?),
-                None => Ok(told.fact(b"none")?),
-            },
-            b"track" => {
-                let mount = self.mounts.numbered(u64::from(arguments.number()?));
-                let text = arguments.text(self.alloc)?;
-                match mount {
-                    Some(mount) => tell_track(mount, &text, told),
-                    None => Ok(told.fact(b"none")?),
-                }
-            }
+            b"track" => self.call_track(arguments, told),
             _ => call_uris(word, arguments, told),
+        }
+    }
+
+    /// Tells what a word asks of the mount of an owner, or of a mount with this number.
+    fn tell_numbered(&self, word: &[u8], number: u64, told: &mut Told) -> Result<(), AllocError> {
+        if word == b"owned".as_slice() {
+            let mount = self.mounts.owned_by(number);
+            return told.number(mount.map(|mount| mount.number));
+        }
+        match self.mounts.numbered(number) {
+            Some(mount) if word == b"seats-of".as_slice() => tell_seats(mount, told),
+            Some(mount) => told.fact(mount.name.as_slice()),
+            None => told.fact(b"none"),
+        }
+    }
+
+    /// `track NUMBER URI`.
+    fn call_track(&self, arguments: &mut Arguments<'_>, told: &mut Told) -> Result<(), Fault> {
+        let number = u64::from(arguments.number()?);
+        let text = arguments.text(self.alloc)?;
+        match self.mounts.numbered(number) {
+            Some(mount) => tell_track(mount, &text, told),
+            None => Ok(told.fact(b"none")?),
         }
     }
 
     /// Announces a mount, where that may be done, and tells its number.
     fn announce(&mut self, owner: u64, name: &[u8], told: &mut Told) -> Result<(), Fault> {
-        let description = match sdp::read(self.alloc, &self.description) {
-            Ok(description) => description,
+        let number = match sdp::read(self.alloc, &self.description) {
+            Ok(description) => self.announced(owner, name, description)?,
             Err(SdpFault::OutOfMemory) => return Err(Fault::OutOfMemory),
-            Err(_) => return Ok(told.fact(b"refused")?),
+            Err(_) => None,
         };
+        match number {
+            Some(number) => Ok(told.number(Some(number))?),
+            None => Ok(told.fact(b"refused")?),
+        }
+    }
+
+    /// The number of a mount that is announced. `None` where that may not be done.
+    fn announced(
+        &mut self,
+        owner: u64,
+        name: &[u8],
+        description: Description,
+    ) -> Result<Option<u64>, AllocError> {
         if self.mounts.has_room()
             && is_name(name)
             && !ends_in_track(name)
             && self.mounts.named(name).is_none()
             && self.mounts.owned_by(owner).is_none()
         {
-            let number = self.mounts.announce(owner, name, description)?;
-            Ok(told.number(Some(number))?)
+            Ok(Some(self.mounts.announce(owner, name, description)?))
         } else {
-            Ok(told.fact(b"refused")?)
+            Ok(None)
         }
     }
 
@@ -192,20 +233,24 @@ fn tell_seats(mount: &Mount, told: &mut Told) -> Result<(), AllocError> {
 
 /// Tells which track a mount's owner and a player name by a URI.
 fn tell_track(mount: &Mount, text: &[u8], told: &mut Told) -> Result<(), Fault> {
+    match read_uri(told.alloc(), text) {
+        Ok(Uri::At(target)) => Ok(tell_track_at(mount, &target, told)?),
+        Ok(Uri::Star) | Err(UriFault::BadUri) => Ok(told.fact(b"no rest")?),
+        Err(UriFault::OutOfMemory) => Err(Fault::OutOfMemory),
+    }
+}
+
+/// Tells which track a mount's owner and a player name by what a URI is at.
+fn tell_track_at(mount: &Mount, target: &Target, told: &mut Told) -> Result<(), AllocError> {
     let alloc = told.alloc();
-    let target = match read_uri(alloc, text) {
-        Ok(Uri::At(target)) => target,
-        Err(UriFault::OutOfMemory) => return Err(Fault::OutOfMemory),
-        Ok(Uri::Star) | Err(UriFault::BadUri) => return Ok(told.fact(b"no rest")?),
-    };
     let Some(Some(rest)) = rest_after(target.path.as_slice(), mount.name.as_slice()) else {
-        return Ok(told.fact(b"no rest")?);
+        return told.fact(b"no rest");
     };
-    let by_owner = mount.track(alloc, mount.owner, &target, rest)?;
+    let by_owner = mount.track(alloc, mount.owner, target, rest)?;
     let by_player = mount.track_for_player(rest);
     let by_owner = track_text(alloc, by_owner)?;
     let by_player = track_text(alloc, by_player)?;
-    Ok(told.fact(format!(in alloc; "owner {by_owner} player {by_player}")?.as_bytes())?)
+    told.fact(format!(in alloc; "owner {by_owner} player {by_player}")?.as_bytes())
 }
 
 fn track_text(alloc: Global, track: Option<usize>) -> Result<String, AllocError> {

@@ -81,16 +81,21 @@ impl Run {
         match read_line(line)? {
             Line::Nothing => Ok(()),
             Line::Case { kind, title } => self.begin_case(kind, title),
-            line => {
-                let Some(mut case) = self.case.take() else {
-                    return Err(Fault::NoCase);
-                };
-                if self.go_on(&mut case, line)? {
-                    self.case = Some(case);
-                }
-                Ok(())
-            }
+            line => match self.case.take() {
+                Some(case) => self.read_in(case, line),
+                None => Err(Fault::NoCase),
+            },
         }
+    }
+
+    /// Reads the next line of a case.
+    fn read_in(&mut self, mut case: Case, line: Line<'_>) -> Result<(), Fault> {
+        let goes_on = self.go_on(&mut case, line);
+        self.case = Some(case);
+        if !goes_on? {
+            self.case = None;
+        }
+        Ok(())
     }
 
     fn begin_case(&mut self, kind: &[u8], title: &[u8]) -> Result<(), Fault> {
@@ -144,31 +149,31 @@ impl Run {
 
     /// Runs the step that is not run yet, and tells where it differs.
     fn finish_step(&mut self, case: &mut Case) -> Result<(), Fault> {
-        let Some(step) = case.take_step() else {
+        let Some(mut step) = case.take_step() else {
             return Ok(());
         };
         let line = self.line;
         self.line = step.line;
-        self.run_step(case, step)?;
+        self.run_step(case, &mut step)?;
         self.line = line;
         Ok(())
     }
 
-    fn run_step(&mut self, case: &mut Case, mut step: Step) -> Result<(), Fault> {
+    fn run_step(&mut self, case: &mut Case, step: &mut Step) -> Result<(), Fault> {
         step.expect_no_act()?;
         let mut came = Told::nothing(self.alloc);
         case.subject.run(&step.input, &mut came)?;
-        if !step.holds(&came) {
-            self.differs = true;
-            tell_difference(
-                &mut self.report,
-                &case.title,
-                step.line,
-                &came,
-                step.expected(),
-            )?;
+        Ok(self.compare(&case.title, step, &came)?)
+    }
+
+    /// Tells what came out of a step, where that isn't what had to.
+    fn compare(&mut self, title: &[u8], step: &Step, came: &Told) -> Result<(), AllocError> {
+        if step.holds(came) {
+            return Ok(());
         }
-        Ok(())
+        self.differs = true;
+        let report = &mut self.report;
+        tell_difference(report, title, step.line, came, step.expected())
     }
 
     fn count(&mut self, kind: Kind) {

@@ -17,11 +17,16 @@ pub fn tell_steps(bytes: &[u8], told: &mut Told) -> Result<(), AllocError> {
     let mut source = ListSource::new(Vec::from_slice(alloc, bytes)?, PIECE, None);
     let mut sink = ListSink::new(alloc, MOST_WRITTEN)?;
     let end = run_steps(alloc, &mut source, &mut sink);
-    if end == StepsEnd::OutOfMemory {
+    told.text.extend_from_slice(sink.bytes())?;
+    tell_end(&end, told)
+}
+
+/// Tells how a run ended where it wasn't done.
+fn tell_end(end: &StepsEnd, told: &mut Told) -> Result<(), AllocError> {
+    if *end == StepsEnd::OutOfMemory {
         return Err(AllocError);
     }
-    told.text.extend_from_slice(sink.bytes())?;
-    let (_, line) = steps_end(alloc, &end)?;
+    let (_, line) = steps_end(told.alloc(), end)?;
     if line.is_empty() {
         return Ok(());
     }

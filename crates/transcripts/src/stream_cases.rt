@@ -3,7 +3,7 @@ ghost use Rattle.std.specs.Prelude.{◌≤◌};
 
 use crate::told::Told;
 use interleaved::ListSource;
-use rtsp_message::{Fault, Intake, Next, Reader, Request, Unit};
+use rtsp_message::{Fault, Header, Intake, Next, Reader, Request, Unit};
 use std::alloc::{AllocError, Global};
 
 /// A stream of at most so many bytes is read again in other pieces.
@@ -38,20 +38,23 @@ impl StreamCase {
 
     /// Feeds the next piece, and tells the units that it brings, and the fault.
     pub fn feed(&mut self, piece: &[u8], told: &mut Told) -> Result<(), AllocError> {
+        self.bytes.extend_from_slice(piece)?;
         let fed = self.reader.feed(piece)?;
-        for unit in &fed.units {
+        self.read.fault = fed.fault;
+        self.tell_units(&fed.units, told)?;
+        match fed.fault {
+            Some(fault) => tell_fault(fault, told),
+            None => Ok(()),
+        }
+    }
+
+    /// Tells units that were read.
+    fn tell_units(&mut self, units: &[Unit], told: &mut Told) -> Result<(), AllocError> {
+        for unit in units {
             self.read.add(unit)?;
             tell_unit(unit, told)?;
         }
-        self.read.fault = fed.fault;
-        self.bytes.extend_from_slice(piece)?;
-        match fed.fault {
-            Some(fault) => {
-                let number = fault.number();
-                told.fact(format!(in self.alloc; "fault {number}")?.as_bytes())
-            }
-            None => Ok(()),
-        }
+        Ok(())
     }
 
     /// Reads all pieces again, cut in other ways, and tells where that gives anything else.
@@ -84,15 +87,20 @@ impl StreamCase {
     fn first_bad_cut(&self) -> Result<Option<usize>, AllocError> {
         for place in 0..=self.bytes.len() {
             let (front, back) = self.bytes.split_at(place);
-            let mut reader = Reader::new(self.alloc);
-            let mut read = Readout::empty(self.alloc);
-            read.feed(&mut reader, front)?;
-            read.feed(&mut reader, back)?;
-            if !read.is(&self.read) {
+            if !self.is_read_cut(front, back)? {
                 return Ok(Some(place));
             }
         }
         Ok(None)
+    }
+
+    /// Whether two pieces read the same.
+    fn is_read_cut(&self, front: &[u8], back: &[u8]) -> Result<bool, AllocError> {
+        let mut reader = Reader::new(self.alloc);
+        let mut read = Readout::empty(self.alloc);
+        read.feed(&mut reader, front)?;
+        read.feed(&mut reader, back)?;
+        Ok(read.is(&self.read))
     }
 
     /// Whether an intake reads the same from a source that gives so many bytes at a time.
@@ -103,17 +111,7 @@ impl StreamCase {
         let mut intake = Intake::new(self.alloc, ListSource::new(bytes, piece, None));
         let mut read = Readout::empty(self.alloc);
         // Each unit has a byte at least.
-        for _ in 0..=self.bytes.len() {
-            match intake.next() {
-                Next::Unit(unit) => read.add(&unit)?,
-                Next::Fault(fault) => {
-                    read.fault = Some(fault);
-                    break;
-                }
-                Next::End | Next::ReadFailed => break,
-                Next::OutOfMemory => return Err(AllocError),
-            }
-        }
+        read.take_in(&mut intake, self.bytes.len().saturating_add(1))?;
         Ok(read.is(&self.read))
     }
 }
@@ -137,6 +135,30 @@ impl Readout {
         Ok(())
     }
 
+    /// Takes in what an intake answers to at most so many calls.
+    fn take_in(&mut self, intake: &mut Intake<ListSource>, calls: usize) -> Result<(), AllocError> {
+        for _ in 0..calls {
+            if !self.take_next(intake.next())? {
+                break;
+            }
+        }
+        Ok(())
+    }
+
+    /// Takes in an answer of an intake. Whether more may come.
+    fn take_next(&mut self, next: Next) -> Result<bool, AllocError> {
+        match next {
+            Next::Unit(unit) => {
+                self.add(&unit)?;
+                return Ok(true);
+            }
+            Next::Fault(fault) => self.fault = Some(fault),
+            Next::End | Next::ReadFailed => {}
+            Next::OutOfMemory => return Err(AllocError),
+        }
+        Ok(false)
+    }
+
     fn add(&mut self, unit: &Unit) -> Result<(), AllocError> {
         tell_unit(unit, &mut self.units)
     }
@@ -144,6 +166,11 @@ impl Readout {
     fn is(&self, other: &Readout) -> bool {
         self.fault == other.fault && self.units.facts.as_slice() == other.units.facts.as_slice()
     }
+}
+
+fn tell_fault(fault: Fault, told: &mut Told) -> Result<(), AllocError> {
+    let number = fault.number();
+    told.fact(format!(in told.alloc(); "fault {number}")?.as_bytes())
 }
 
 fn tell_unit(unit: &Unit, told: &mut Told) -> Result<(), AllocError> {
@@ -157,19 +184,21 @@ fn tell_unit(unit: &Unit, told: &mut Told) -> Result<(), AllocError> {
     }
 }
 
+fn tell_header(header: &Header, told: &mut Told) -> Result<(), AllocError> {
+    told.facts.extend_from_slice(header.name.as_slice())?;
+    told.word(b":")?;
+    told.fact(header.value.as_slice())
+}
+
 fn tell_request(request: &Request, told: &mut Told) -> Result<(), AllocError> {
-    told.facts.extend_from_slice(request.method.as_slice())?;
-    told.facts.push(b' ')?;
-    told.facts.extend_from_slice(request.uri.as_slice())?;
-    told.facts.push(b' ')?;
+    told.word(request.method.as_slice())?;
+    told.word(request.uri.as_slice())?;
     told.fact(request.version.as_slice())?;
     if let Some(number) = request.cseq {
         told.fact(format!(in told.alloc(); "CSeq {number}")?.as_bytes())?;
     }
     for header in request.headers.as_slice() {
-        told.facts.extend_from_slice(header.name.as_slice())?;
-        told.facts.extend_from_slice(b": ")?;
-        told.fact(header.value.as_slice())?;
+        tell_header(header, told)?;
     }
     if request.body.is_empty() {
         return Ok(());

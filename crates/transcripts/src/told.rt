@@ -23,6 +23,13 @@ impl Told {
         *self.text.allocator()
     }
 
+    /// Begins a fact with a word and a space.
+    pub fn word(&mut self, word: &[u8]) -> Result<(), AllocError> {
+        self.facts.extend_from_slice(word)?;
+        self.facts.push(b' ')?;
+        Ok(())
+    }
+
     /// Tells one more fact.
     pub fn fact(&mut self, fact: &[u8]) -> Result<(), AllocError> {
         self.facts.extend_from_slice(fact)?;

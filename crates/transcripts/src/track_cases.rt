@@ -23,23 +23,44 @@ pub fn call_tracks(
             }
             Ok(())
         }
-        b"channel" => {
-            let tag = arguments.byte()?;
-            Ok(told.number(tracks.channel_of(tag).map(u64::from))?)
+        b"channel" | b"tag" => {
+            let byte = arguments.byte()?;
+            Ok(tell_byte(tracks, word, byte, told)?)
         }
-        b"tag" => {
-            let channel = arguments.byte()?;
-            Ok(told.number(tracks.tag_on(channel).map(u64::from))?)
-        }
-        b"pair" => {
+        b"pair" | b"others" => {
             let track = arguments.number()? as usize;
-            Ok(tell_pair(tracks.pair_of(track), told)?)
-        }
-        b"others" => {
-            let track = arguments.number()? as usize;
-            Ok(tell_channels(&tracks.others(track), told)?)
+            Ok(tell_track(tracks, word, track, told)?)
         }
         _ => Err(Fault::UnknownWord),
+    }
+}
+
+/// Tells the channel of a tag, or the tag on a channel.
+fn tell_byte(
+    tracks: &TrackChannels,
+    word: &[u8],
+    byte: u8,
+    told: &mut Told,
+) -> Result<(), AllocError> {
+    let found = if word == b"tag".as_slice() {
+        tracks.tag_on(byte)
+    } else {
+        tracks.channel_of(byte)
+    };
+    told.number(found.map(u64::from))
+}
+
+/// Tells the channels of a track, or those of all others.
+fn tell_track(
+    tracks: &TrackChannels,
+    word: &[u8],
+    track: usize,
+    told: &mut Told,
+) -> Result<(), AllocError> {
+    if word == b"pair".as_slice() {
+        tell_pair(tracks.pair_of(track), told)
+    } else {
+        tell_channels(&tracks.others(track), told)
     }
 }
 

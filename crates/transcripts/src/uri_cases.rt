@@ -10,23 +10,40 @@ use mounts::{
 
 /// Calls what a word names, of URIs, paths and names.
 pub fn call_uris(word: &[u8], arguments: &mut Arguments<'_>, told: &mut Told) -> Result<(), Fault> {
-    let alloc = told.alloc();
     match word {
-        b"uri" => tell_uri(&arguments.text(alloc)?, told),
-        b"base" => tell_base(&arguments.text(alloc)?, told),
-        b"name" => Ok(told.truth(is_name(&arguments.text(alloc)?))?),
-        b"ends-in-track" => Ok(told.truth(ends_in_track(&arguments.text(alloc)?))?),
-        b"rest" => {
-            let name = resolved(alloc, arguments.word().unwrap_or(b""))?;
-            tell_rest(&arguments.text(alloc)?, &name, told)
+        b"uri" | b"base" | b"name" | b"ends-in-track" => {
+            let text = arguments.text(told.alloc())?;
+            tell_text(word, &text, told)
         }
-        b"track-number" => {
-            let count = arguments.number_to(16)? as usize;
-            let number = track_number(&arguments.text(alloc)?, count);
-            Ok(told.number(number.map(|number| number as u64))?)
-        }
+        b"rest" => call_rest(arguments, told),
+        b"track-number" => call_track_number(arguments, told),
         _ => Err(Fault::UnknownWord),
     }
+}
+
+/// Tells what a word asks of a text.
+fn tell_text(word: &[u8], text: &[u8], told: &mut Told) -> Result<(), Fault> {
+    let holds = match word {
+        b"uri" => return tell_uri(text, told),
+        b"base" => return tell_base(text, told),
+        b"name" => is_name(text),
+        _ => ends_in_track(text),
+    };
+    Ok(told.truth(holds)?)
+}
+
+/// `rest NAME PATH`.
+fn call_rest(arguments: &mut Arguments<'_>, told: &mut Told) -> Result<(), Fault> {
+    let name = resolved(told.alloc(), arguments.word().unwrap_or(b""))?;
+    let path = arguments.text(told.alloc())?;
+    tell_rest(&path, &name, told)
+}
+
+/// `track-number COUNT TEXT`.
+fn call_track_number(arguments: &mut Arguments<'_>, told: &mut Told) -> Result<(), Fault> {
+    let count = arguments.number_to(16)? as usize;
+    let number = track_number(&arguments.text(told.alloc())?, count);
+    Ok(told.number(number.map(|number| number as u64))?)
 }
 
 /// Tells the path and the query of a URI.
