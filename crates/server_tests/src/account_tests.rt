@@ -2,16 +2,16 @@
 use crate::connection_tests::{ANNOUNCE, SETUP};
 use crate::devices::{Bytes, Flag, Held, Staged, has_come, joined};
 use crate::scripted::FRAME;
-use crate::serving::{Serving, SharedRings, Watch, serve_camera, serve_in_thread, shared_by_two};
+use crate::serving::{
+    Serving, SharedRings, Watch, book_of, serve_camera, serve_in_thread, shared_over,
+};
 use crate::words::CountedWords;
 use interleaved::Writing;
 use relay_server::{ConnectionEnd, Line};
 use std::alloc::{AllocError, Global};
-use std::collections::hash_map::RandomState;
 use std::process::Abort;
 use std::sync::atomic::{AtomicBool, Ordering};
 use std::sync::{Arc, Wait};
-use std::test::Fail;
 use std::thread::Threads;
 use std::time::Clock;
 
@@ -47,67 +47,62 @@ fn packets(alloc: Global) -> Result<Vec<u8>, AllocError> {
 }
 
 /// A player that closes once it is let on.
-fn player<R: Drop>(rt: R, alloc: Global, watch: &Watch) -> Result<Staged<R>, AllocError> {
-    let said = joined(alloc, &[SETUP_OUT, PLAY])?;
-    let let_on = Arc::try_clone(&watch.let_on)?;
-    Ok(Staged::new(rt, said, Vec::new(alloc), let_on))
+fn player<R: Abort + Drop>(rt: R, alloc: Global, let_on: &Flag) -> Staged<R> {
+    let said = joined(&rt, alloc, &[SETUP_OUT, PLAY]);
+    let let_on = Arc::try_clone(let_on).expect(&rt, "a count of its users");
+    Staged::new(rt, said, Vec::new(alloc), let_on)
 }
 
 /// A line of a player that reads nothing behind the reply to its PLAY until it is let on.
-fn stalled_line<R: Wait + Clock + Drop>(
+fn stalled_line<R: Wait + Clock + Abort + Drop>(
     rt: R,
     alloc: Global,
     bytes: &Bytes,
     let_on: &Flag,
-) -> Result<Line<Writing<Held<R>>>, AllocError> {
+) -> Line<Writing<Held<R>>> {
+    let bytes = Arc::try_clone(bytes).expect(&rt, "a count of its users");
+    let let_on = Arc::try_clone(let_on).expect(&rt, "a count of its users");
     let sink = Held {
         rt,
-        bytes: Arc::try_clone(bytes)?,
+        bytes,
         free: SET_UP,
-        let_on: Arc::try_clone(let_on)?,
+        let_on,
     };
-    Ok(Line::new(alloc, Writing::new(sink)))
+    Line::new(alloc, Writing::new(sink))
 }
 
 /// Connection 1, which records. Once it is let on it sends its packets, and then closes.
-fn recording<R>(
-    rt: R,
-    alloc: Global,
-    shared: &SharedRings<CountedWords>,
-) -> Result<Serving, AllocError>
+fn recording<R>(rt: R, alloc: Global, shared: &SharedRings<CountedWords>) -> Serving
 where
     R: Threads + Wait + Clock + Abort + Copy + Drop + Send + 'static,
 {
-    let first = joined(alloc, &[ANNOUNCE, SETUP, RECORD])?;
-    let camera = serve_camera(rt, alloc, shared, first, packets(alloc)?)?;
+    let first = joined(&rt, alloc, &[ANNOUNCE, SETUP, RECORD]);
+    let then = packets(alloc).expect(&rt, "memory");
+    let camera = serve_camera(rt, alloc, shared, first, then);
     assert!(rt; has_come(&rt, &camera.watch.written, 0, RECORDING));
     assert!(rt; shared.recorded(&rt) == 1);
-    Ok(camera)
+    camera
 }
 
 /// Connection 2, which plays, and reads nothing more until `read` is set. Once it is let on it closes.
-fn playing<R>(
-    rt: R,
-    alloc: Global,
-    shared: &SharedRings<CountedWords>,
-    read: &Flag,
-) -> Result<Serving, AllocError>
+fn playing<R>(rt: R, alloc: Global, shared: &SharedRings<CountedWords>, read: &Flag) -> Serving
 where
     R: Threads + Wait + Clock + Abort + Copy + Drop + Send + 'static,
 {
-    let watch = Watch::new(alloc)?;
-    let source = player(rt, alloc, &watch)?;
-    let line = stalled_line(rt, alloc, &watch.written, read)?;
-    let thread = serve_in_thread(rt, alloc, shared, 2, source, line)?;
+    let watch = Watch::new(&rt, alloc);
+    let source = player(rt, alloc, &watch.let_on);
+    let line = stalled_line(rt, alloc, &watch.written, read);
+    let thread = serve_in_thread(rt, alloc, shared, 2, source, line);
     assert!(rt; has_come(&rt, &watch.written, SET_UP, b"\r\n\r\n"));
-    Ok(Serving { watch, thread })
+    Serving { watch, thread }
 }
 
 /// How many packets a publisher has published up to its end, behind which its mount isn't recorded.
-fn published<R>(rt: &R, shared: &SharedRings<CountedWords>, camera: Serving) -> u64
-where
-    R: Threads + Wait + Abort,
-{
+fn published<R: Threads + Wait + Abort>(
+    rt: &R,
+    shared: &SharedRings<CountedWords>,
+    camera: Serving,
+) -> u64 {
     let (end, came, _written) = camera.end(rt);
     assert!(rt; end == ConnectionEnd::Done && came.published > 30);
     assert!(rt; shared.recorded(rt) == 0);
@@ -115,10 +110,7 @@ where
 }
 
 /// What a player has taken was written behind so many bytes of replies, and the rest of what was published is lost.
-fn adds_up<R>(rt: &R, player: Serving, replies: usize, published: u64)
-where
-    R: Threads + Wait + Abort,
-{
+fn adds_up<R: Threads + Wait + Abort>(rt: &R, player: Serving, replies: usize, published: u64) {
     let (end, counts, written) = player.end(rt);
     assert!(rt; end == ConnectionEnd::Done && counts.lost > 0);
     assert!(rt; counts.taken.checked_add(counts.lost) == Some(published));
@@ -126,32 +118,19 @@ where
     assert!(rt; frames as u64 == counts.taken);
 }
 
-/// Connection 1 publishes while connection 2 reads nothing; then 2 reads to the end of the mount, and closes.
-fn publish_and_play<R>(
-    rt: R,
-    alloc: Global,
-    shared: &SharedRings<CountedWords>,
-) -> Result<(), AllocError>
-where
-    R: Threads + Wait + Clock + Abort + Copy + Drop + Send + 'static,
-{
-    let camera = recording(rt, alloc, shared)?;
-    let read = Arc::new(alloc, AtomicBool::new(false))?;
-    let player = playing(rt, alloc, shared, &read)?;
+/// Connection 1 publishes while connection 2 reads nothing; then 2 reads to the end of the mount, and closes. Each
+/// packet was taken and written, or is counted as lost; each request had a word of its own; and the mount that has ended
+/// isn't among those that are recorded.
+#[test]
+fn a_slow_players_account_adds_up(rt: HostRuntime) {
+    let alloc = rt.alloc();
+    let shared = shared_over(&rt, alloc, book_of(&rt, alloc, 2), None, CountedWords(1));
+    let camera = recording(rt, alloc, &shared);
+    let read = Arc::new(alloc, AtomicBool::new(false)).expect(&rt, "memory");
+    let player = playing(rt, alloc, &shared, &read);
     let replies = player.watch.written.lock(&rt).len();
-    let published = published(&rt, shared, camera);
+    let published = published(&rt, &shared, camera);
     read.store(true, Ordering::SeqCst);
     assert!(rt; has_come(&rt, &player.watch.written, replies, LAST));
     adds_up(&rt, player, replies, published);
-    Ok(())
-}
-
-/// Each packet was taken and written, or is counted as lost; each request had a word of its own; and the mount that has
-/// ended isn't among those that are recorded.
-#[test]
-fn a_slow_players_account_adds_up(rt: HostRuntime) -> Result<(), Fail> {
-    let alloc = rt.alloc();
-    let shared = shared_by_two(&rt, alloc, RandomState::new(&rt)?, None, CountedWords(1))?;
-    publish_and_play(rt, alloc, &shared)?;
-    Ok(())
 }

@@ -1,15 +1,14 @@
 //! A connection over devices in memory.
 use crate::devices::{Open, joined};
-use crate::serving::{SharedRings, book_of, line_to, shared_over};
+use crate::serving::{book_of, line_to, shared_over};
 use crate::words::OneWord;
 use interleaved::ListSource;
 use relay_server::{ConnectionEnd, Counts, run_connection};
 use rtsp_message::Fault;
-use std::alloc::{AllocError, Global};
-use std::collections::hash_map::RandomState;
+use std::alloc::Global;
 use std::process::Abort;
+use std::random::RandomSource;
 use std::sync::{Arc, Mutex, Wait};
-use std::test::Fail;
 use std::thread::Threads;
 use std::time::Clock;
 
@@ -36,18 +35,16 @@ struct Served {
     is_open: bool,
 }
 
-/// Serves a connection over what it shares. How it ended, and what was written.
-fn run<R>(
-    rt: R,
-    alloc: Global,
-    shared: SharedRings<OneWord>,
-    peer: Peer,
-) -> Result<(ConnectionEnd, Counts, Vec<u8>), AllocError>
+/// Serves a connection over a ring of one seat that keeps four packets of at most 16 bytes.
+fn serve<R>(rt: R, alloc: Global, peer: Peer) -> Served
 where
-    R: Threads + Wait + Clock + Copy + Drop + Send + 'static,
+    R: Threads + Wait + Clock + RandomSource + Abort + Copy + Drop + Send + 'static,
 {
-    let bytes = Arc::new(alloc, Mutex::new(Vec::new(alloc)))?;
-    let line = line_to(rt, alloc, &bytes, peer.room)?;
+    let book = book_of(&rt, alloc, 1);
+    let theirs = Arc::try_clone(&book).expect(&rt, "a count of its users");
+    let shared = shared_over(&rt, alloc, theirs, peer.refused, OneWord);
+    let bytes = Arc::new(alloc, Mutex::new(Vec::new(alloc))).expect(&rt, "memory");
+    let line = line_to(rt, alloc, &bytes, peer.room);
     let fail_at = if peer.read_fails {
         Some(peer.said.len())
     } else {
@@ -55,26 +52,15 @@ where
     };
     let source = ListSource::new(peer.said, 7, fail_at);
     let (end, counts) = run_connection(rt, alloc, shared, 1, source, line, Open);
-    let written = Vec::from_slice(alloc, bytes.lock(&rt).as_slice())?;
-    Ok((end, counts, written))
-}
-
-/// Serves a connection over a ring of one seat that keeps four packets of at most 16 bytes.
-fn serve<R>(rt: R, alloc: Global, hasher: RandomState, peer: Peer) -> Result<Served, AllocError>
-where
-    R: Threads + Wait + Clock + Copy + Drop + Send + 'static,
-{
-    let book = book_of(&rt, alloc, hasher, 1)?;
-    let shared = shared_over(alloc, &book, peer.refused, OneWord)?;
-    let (end, counts, written) = run(rt, alloc, shared, peer)?;
+    let written = Vec::from_slice(alloc, bytes.lock(&rt).as_slice()).expect(&rt, "memory");
     let book = book.lock(&rt);
-    Ok(Served {
+    Served {
         end,
         counts,
         written,
         kept: book.kept(),
         is_open: book.is_open(1),
-    })
+    }
 }
 
 /// A publisher's connection: a frame before it records is a stranger; then come one that is published, one that is too
@@ -83,15 +69,15 @@ const INPUT: &[u8] =
     b"ANNOUNCE rtsp://h/a RTSP/1.0\nCSeq: 1\nContent-Length: 26\n\nv=0\nm=audio 0 RTP/AVP 0  \nSETUP rtsp://h/a/trackID=0 RTSP/1.0\nCSeq: 2\nTransport: RTP/AVP/TCP;interleaved=0-1;mode=record\n\n$\x00\x00\x01\x80RECORD rtsp://h/a RTSP/1.0\nCSeq: 3\nSession: 000000010000abcd\n\n$\x00\x00\x0c\x80\x60\x00\x07\x00\x00\x23\x28\x00\x00\x00\x00$\x00\x00\x02\x80\x60$\x07\x00\x01\x80$\x01\x00\x11aaaaaaaaaaaaaaaaaPAUSE rtsp://h/a RTSP/1.0\nCSeq: 4\nSession: 000000010000abcd\n\n$\x00\x00\x0c\x80\x60\x00\x07\x00\x00\x23\x28\x00\x00\x00\x00";
 
 #[test]
-fn each_frame_of_a_connection_is_counted(rt: HostRuntime) -> Result<(), Fail> {
+fn each_frame_of_a_connection_is_counted(rt: HostRuntime) {
     let alloc = rt.alloc();
     let peer = Peer {
-        said: Vec::from_slice(alloc, INPUT)?,
+        said: Vec::from_slice(alloc, INPUT).expect(&rt, "memory"),
         read_fails: false,
         room: 1000,
         refused: None,
     };
-    let served = serve(rt, alloc, RandomState::new(&rt)?, peer)?;
+    let served = serve(rt, alloc, peer);
     assert!(rt; served.end == ConnectionEnd::Done);
     let want = Counts {
         published: 1,
@@ -106,7 +92,6 @@ fn each_frame_of_a_connection_is_counted(rt: HostRuntime) -> Result<(), Fail> {
     assert!(rt; served.counts == want && served.counts.has_losses());
     // Its coming, four requests and its hang-up.
     assert!(rt; served.kept == 6);
-    Ok(())
 }
 
 pub(crate) const ANNOUNCE: &[u8] =
@@ -249,30 +234,23 @@ const ROWS: [Row; 10] = [
     },
 ];
 
-/// The peer of a row, which is answered by so many bytes.
-fn peer_of(alloc: Global, row: &Row, answered: usize) -> Result<Peer, AllocError> {
-    Ok(Peer {
-        said: joined(alloc, row.said)?,
-        read_fails: row.read_fails,
-        room: if row.write_fails { answered } else { 1000 },
-        refused: row.refused,
-    })
-}
-
 /// A row's connection is answered as the row says, and ends so.
-fn row_holds<R>(
-    rt: R,
-    alloc: Global,
-    hasher: RandomState,
-    place: usize,
-    row: &Row,
-) -> Result<(), AllocError>
+fn row_holds<R>(rt: R, alloc: Global, place: usize, row: &Row)
 where
-    R: Threads + Wait + Clock + Abort + Copy + Drop + Send + 'static,
+    R: Threads + Wait + Clock + RandomSource + Abort + Copy + Drop + Send + 'static,
 {
-    let answered = joined(alloc, row.answered)?;
-    let peer = peer_of(alloc, row, answered.len())?;
-    let served = serve(rt, alloc, hasher, peer)?;
+    let answered = joined(&rt, alloc, row.answered);
+    let peer = Peer {
+        said: joined(&rt, alloc, row.said),
+        read_fails: row.read_fails,
+        room: if row.write_fails {
+            answered.len()
+        } else {
+            1000
+        },
+        refused: row.refused,
+    };
+    let served = serve(rt, alloc, peer);
     assert!(rt;
         served.written.as_slice() == answered.as_slice(),
         "row {place}: {}",
@@ -281,15 +259,11 @@ where
     assert!(rt; served.end == row.end, "row {place}: {}", served.end);
     assert!(rt; served.counts.strangers == row.strangers, "row {place}");
     assert!(rt; !served.is_open, "row {place}");
-    Ok(())
 }
 
 #[test]
-fn connections_end_as_their_peers_do(rt: HostRuntime) -> Result<(), Fail> {
-    let alloc = rt.alloc();
-    let hasher = RandomState::new(&rt)?;
+fn connections_end_as_their_peers_do(rt: HostRuntime) {
     for (place, row) in ROWS.iter().enumerate() {
-        row_holds(rt, alloc, hasher, place, row)?;
+        row_holds(rt, rt.alloc(), place, row);
     }
-    Ok(())
 }

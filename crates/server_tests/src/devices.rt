@@ -4,6 +4,7 @@ use packet_ring::{Pass, Publisher, Subscriber};
 use relay_server::{HangUp, Maker, RingMaker};
 use std::alloc::{AllocError, Global};
 use std::io::{Read, Write};
+use std::process::Abort;
 use std::sync::atomic::{AtomicBool, AtomicU64, Ordering};
 use std::sync::{Arc, Mutex, Wait};
 use std::time::{Clock, Duration};
@@ -178,12 +179,12 @@ impl<R: Clock> Read for Staged<R> {
 }
 
 /// These, one behind another.
-pub(crate) fn joined(alloc: Global, parts: &[&[u8]]) -> Result<Vec<u8>, AllocError> {
+pub(crate) fn joined(rt: &impl Abort, alloc: Global, parts: &[&[u8]]) -> Vec<u8> {
     let mut all = Vec::new(alloc);
     for part in parts {
-        all.extend_from_slice(part)?;
+        all.extend_from_slice(part).expect(rt, "memory");
     }
-    Ok(all)
+    all
 }
 
 /// Waits until at least so many bytes were written and this is the end of them, for at most 10,000 turns of a

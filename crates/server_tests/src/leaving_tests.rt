@@ -7,210 +7,177 @@ use relay_server::OpenGate;
 use std::alloc::Global;
 use std::net::{Net, SocketAddr, TcpStream};
 use std::process::Abort;
-use std::test::Fail;
+use std::thread;
 use std::time::{Clock, Duration};
-use std::{io, thread};
 
 const DESCRIBE: &[u8] = b"DESCRIBE rtsp://127.0.0.1:8554/cam RTSP/1.0\r\nCSeq: 2\r\n\r\n";
 
 /// Asks to play until a seat is free, up to a thousand times. The status that is answered last.
-fn plays_at_last<R: Clock>(rt: &R, client: &mut Client, number: u8) -> io::Result<u16> {
+fn plays_at_last<R: Clock + Abort>(rt: &R, client: &mut Client, number: u8) -> u16 {
     let mut answered = 0;
     for _ in 0..1000 {
-        answered = client.status_of(&play(number))?;
+        answered = client.status_of(rt, &play(number));
         if answered != 453 {
             break;
         }
         thread::sleep(rt, Duration::from_millis(10));
     }
-    Ok(answered)
+    answered
 }
 
-/// While a mount lives its player has its packets, and another client is served.
-fn mount_lives<R: Abort>(
-    rt: &R,
-    camera: &mut Client,
-    player: &mut Client,
-    other: &mut Client,
-) -> io::Result<()> {
-    assert!(rt; passes_on(camera, player)?);
-    assert!(rt; other.status_of(OPTIONS)? == 200);
-    Ok(())
-}
-
-fn mount_ends<R: Net<Stream = TcpStream> + Abort>(
-    rt: &R,
-    alloc: Global,
-    addr: SocketAddr,
-) -> io::Result<()> {
-    let mut camera = publisher(rt, alloc, addr)?;
-    let mut player = player(rt, alloc, addr, 2)?;
-    let mut other = Client::connect(rt, alloc, addr)?;
-    mount_lives(rt, &mut camera, &mut player, &mut other)?;
+/// While a mount lives its player has its packets, and another client is served; then its camera closes.
+fn mount_ends<R: Net<Stream = TcpStream> + Abort>(rt: &R, alloc: Global, addr: SocketAddr) {
+    let mut camera = publisher(rt, alloc, addr);
+    let mut player = player(rt, alloc, addr, 2);
+    let mut other = Client::connect(rt, alloc, addr);
+    assert!(rt; passes_on(rt, &mut camera, &mut player));
+    assert!(rt; other.status_of(rt, OPTIONS) == 200);
     drop(camera);
-    assert!(rt; player.is_hung_up()?);
-    assert!(rt; other.status_of(DESCRIBE)? == 404);
-    Ok(())
+    assert!(rt; player.is_hung_up(rt));
+    assert!(rt; other.status_of(rt, DESCRIBE) == 404);
 }
 
 /// Its player sees the end, and nobody finds the mount.
 #[test]
-fn a_mount_ends_where_its_publisher_just_closes(rt: HostRuntime) -> Result<(), Fail> {
+fn a_mount_ends_where_its_publisher_just_closes(rt: HostRuntime) {
     let alloc = rt.alloc();
     let set = Set {
         after_end: Some(10_000),
         ..Set::of(3, 1)
     };
-    let server = start(rt, alloc, set, OpenGate)?;
-    mount_ends(&rt, alloc, server.addr)?;
-    let ended = server.end(&rt)?;
+    let server = start(rt, alloc, set, OpenGate);
+    mount_ends(&rt, alloc, server.addr);
+    let ended = server.end(&rt);
     assert!(rt; !ended.open[0]);
-    Ok(())
 }
 
 /// The second player has the seat as soon as the first one has closed, and then what is published.
-fn seat_is_handed_on<R: Clock + Abort>(rt: &R, peers: Peers) -> io::Result<()> {
+fn seat_is_handed_on<R: Clock + Abort>(rt: &R, peers: Peers) {
     let Peers {
         mut camera,
         first,
         mut second,
     } = peers;
-    assert!(rt; second.status_of(&play(3))? == 453);
+    assert!(rt; second.status_of(rt, &play(3)) == 453);
     drop(first);
-    assert!(rt; plays_at_last(rt, &mut second, 3)? == 200);
-    assert!(rt; passes_on(&mut camera, &mut second)?);
-    Ok(())
+    assert!(rt; plays_at_last(rt, &mut second, 3) == 200);
+    assert!(rt; passes_on(rt, &mut camera, &mut second));
 }
 
 #[test]
-fn a_seat_is_free_again_where_its_player_just_closes(rt: HostRuntime) -> Result<(), Fail> {
+fn a_seat_is_free_again_where_its_player_just_closes(rt: HostRuntime) {
     let alloc = rt.alloc();
-    let server = start(rt, alloc, Set::of(3, 1), OpenGate)?;
-    let peers = Peers::connect(&rt, alloc, server.addr)?;
-    seat_is_handed_on(&rt, peers)?;
-    server.end(&rt)?;
-    Ok(())
+    let server = start(rt, alloc, Set::of(3, 1), OpenGate);
+    let peers = Peers::connect(&rt, alloc, server.addr);
+    seat_is_handed_on(&rt, peers);
+    server.end(&rt);
 }
 
 /// A player to which a packet was published before its mount ended.
-fn player_behind_the_end<R: Net<Stream = TcpStream>>(
+fn player_behind_the_end<R: Net<Stream = TcpStream> + Abort>(
     rt: &R,
     alloc: Global,
     addr: SocketAddr,
-) -> io::Result<Client> {
-    let mut camera = publisher(rt, alloc, addr)?;
-    let player = player(rt, alloc, addr, 2)?;
-    camera.say(FRAME)?;
-    status_in(&mut camera, alloc, "TEARDOWN", 1)?;
-    Ok(player)
+) -> Client {
+    let mut camera = publisher(rt, alloc, addr);
+    let player = player(rt, alloc, addr, 2);
+    camera.say(rt, FRAME);
+    status_in(rt, alloc, &mut camera, "TEARDOWN", 1);
+    player
 }
 
 /// A player that neither speaks nor closes is hung up behind its mount's end: the server ends while it is still there.
 #[test]
-fn a_silent_player_is_hung_up_behind_the_end(rt: HostRuntime) -> Result<(), Fail> {
+fn a_silent_player_is_hung_up_behind_the_end(rt: HostRuntime) {
     let alloc = rt.alloc();
     let set = Set {
         after_end: Some(100),
         ..Set::of(2, 1)
     };
-    let server = start(rt, alloc, set, OpenGate)?;
-    let mut silent = player_behind_the_end(&rt, alloc, server.addr)?;
-    server.end(&rt)?;
-    assert!(rt; silent.bytes(17)?.len() == 16);
-    Ok(())
+    let server = start(rt, alloc, set, OpenGate);
+    let mut silent = player_behind_the_end(&rt, alloc, server.addr);
+    server.end(&rt);
+    assert!(rt; silent.bytes(&rt, 17).len() == 16);
 }
 
 /// A player sees that its mount has ended, and closes.
-fn player_closes<R: Net<Stream = TcpStream> + Abort>(
-    rt: &R,
-    alloc: Global,
-    addr: SocketAddr,
-) -> io::Result<()> {
-    let mut camera = publisher(rt, alloc, addr)?;
-    let mut player = player(rt, alloc, addr, 2)?;
-    status_in(&mut camera, alloc, "TEARDOWN", 1)?;
-    assert!(rt; player.is_hung_up()?);
-    Ok(())
+fn player_closes<R: Net<Stream = TcpStream> + Abort>(rt: &R, alloc: Global, addr: SocketAddr) {
+    let mut camera = publisher(rt, alloc, addr);
+    let mut player = player(rt, alloc, addr, 2);
+    status_in(rt, alloc, &mut camera, "TEARDOWN", 1);
+    assert!(rt; player.is_hung_up(rt));
 }
 
 /// The wait behind the end is longer than a test may last.
 #[test]
-fn a_player_that_closes_behind_the_end_is_not_waited_for(rt: HostRuntime) -> Result<(), Fail> {
+fn a_player_that_closes_behind_the_end_is_not_waited_for(rt: HostRuntime) {
     let alloc = rt.alloc();
     let set = Set {
         after_end: Some(600_000),
         ..Set::of(2, 1)
     };
-    let server = start(rt, alloc, set, OpenGate)?;
-    player_closes(&rt, alloc, server.addr)?;
-    server.end(&rt)?;
-    Ok(())
+    let server = start(rt, alloc, set, OpenGate);
+    player_closes(&rt, alloc, server.addr);
+    server.end(&rt);
 }
 
 /// Asks for the mount until it isn't found, up to a thousand times, and once more. The status that is answered last.
-fn asks_for_the_mount<R: Clock>(rt: &R, player: &mut Client) -> io::Result<u16> {
+fn asks_for_the_mount<R: Clock + Abort>(rt: &R, player: &mut Client) -> u16 {
     for _ in 0..1000 {
-        if player.status_of(DESCRIBE)? == 404 {
+        if player.status_of(rt, DESCRIBE) == 404 {
             break;
         }
         // The description of a mount that lives comes behind its head.
-        player.bytes(149)?;
+        player.bytes(rt, 149);
         thread::sleep(rt, Duration::from_millis(10));
     }
-    player.status_of(DESCRIBE)
+    player.status_of(rt, DESCRIBE)
 }
 
 /// A player whose camera has published and closed.
-fn player_of_a_closed_camera<R: Net<Stream = TcpStream>>(
+fn player_of_a_closed_camera<R: Net<Stream = TcpStream> + Abort>(
     rt: &R,
     alloc: Global,
     addr: SocketAddr,
-) -> io::Result<Client> {
-    let mut camera = publisher(rt, alloc, addr)?;
-    let player = player(rt, alloc, addr, 2)?;
-    camera.say(FRAME)?;
-    Ok(player)
+) -> Client {
+    let mut camera = publisher(rt, alloc, addr);
+    let player = player(rt, alloc, addr, 2);
+    camera.say(rt, FRAME);
+    player
 }
 
 fn player_stays<R: Net<Stream = TcpStream> + Clock + Abort>(
     rt: &R,
     alloc: Global,
     addr: SocketAddr,
-) -> io::Result<()> {
-    let mut player = player_of_a_closed_camera(rt, alloc, addr)?;
-    assert!(rt; has_frame(&mut player)?);
-    assert!(rt; asks_for_the_mount(rt, &mut player)? == 404);
-    assert!(rt; status_in(&mut player, alloc, "TEARDOWN", 2)? == 200);
-    assert!(rt; status_in(&mut player, alloc, "TEARDOWN", 2)? == 454);
-    Ok(())
+) {
+    let mut player = player_of_a_closed_camera(rt, alloc, addr);
+    assert!(rt; has_frame(rt, &mut player));
+    assert!(rt; asks_for_the_mount(rt, &mut player) == 404);
+    assert!(rt; status_in(rt, alloc, &mut player, "TEARDOWN", 2) == 200);
+    assert!(rt; status_in(rt, alloc, &mut player, "TEARDOWN", 2) == 454);
 }
 
 /// Without `after_end` the player's connection stays, and its session can be ended.
 #[test]
-fn a_player_may_stay_behind_the_end(rt: HostRuntime) -> Result<(), Fail> {
+fn a_player_may_stay_behind_the_end(rt: HostRuntime) {
     let alloc = rt.alloc();
-    let server = start(rt, alloc, Set::of(2, 1), OpenGate)?;
-    player_stays(&rt, alloc, server.addr)?;
-    server.end(&rt)?;
-    Ok(())
+    let server = start(rt, alloc, Set::of(2, 1), OpenGate);
+    player_stays(&rt, alloc, server.addr);
+    server.end(&rt);
 }
 
 /// How many packets of 6,000 bytes are published to a player that reads nothing: more than a system's buffers mostly hold.
 const STALLING: u16 = 2_000;
 
 /// The second player has the seat as soon as it is free, and doesn't have it before the first one says this.
-fn seat_is_freed<R: Clock + Abort>(
-    rt: &R,
-    peers: &mut Peers,
-    said: Option<&[u8]>,
-) -> io::Result<()> {
-    assert!(rt; peers.second.status_of(&play(3))? == 453);
+fn seat_is_freed<R: Clock + Abort>(rt: &R, peers: &mut Peers, said: Option<&[u8]>) {
+    assert!(rt; peers.second.status_of(rt, &play(3)) == 453);
     match said {
-        Some(bytes) => peers.first.say(bytes)?,
-        None => peers.first.fall_silent()?,
+        Some(bytes) => peers.first.say(rt, bytes),
+        None => peers.first.fall_silent(rt),
     }
-    assert!(rt; plays_at_last(rt, &mut peers.second, 3)? == 200);
-    Ok(())
+    assert!(rt; plays_at_last(rt, &mut peers.second, 3) == 200);
 }
 
 /// A player that stopped reading amid what its camera published, and whose seat was freed as it said this, or fell
@@ -220,31 +187,29 @@ fn freed<R: Net<Stream = TcpStream> + Clock + Abort>(
     alloc: Global,
     addr: SocketAddr,
     said: Option<&[u8]>,
-) -> io::Result<Client> {
-    let mut peers = Peers::connect(rt, alloc, addr)?;
-    publish(&mut peers.camera, alloc, 0, STALLING)?;
+) -> Client {
+    let mut peers = Peers::connect(rt, alloc, addr);
+    publish(rt, alloc, &mut peers.camera, 0, STALLING);
     // The server has read them all.
-    peers.camera.ask(OPTIONS)?;
-    seat_is_freed(rt, &mut peers, said)?;
-    Ok(peers.first)
+    peers.camera.ask(rt, OPTIONS);
+    seat_is_freed(rt, &mut peers, said);
+    peers.first
 }
 
 #[test]
-fn a_stalled_player_that_sends_a_fault_is_freed(rt: HostRuntime) -> Result<(), Fail> {
+fn a_stalled_player_that_sends_a_fault_is_freed(rt: HostRuntime) {
     let alloc = rt.alloc();
-    let server = start(rt, alloc, Set::of(3, 1), OpenGate)?;
-    let _first = freed(&rt, alloc, server.addr, Some(b"HELLO\r\n"))?;
-    server.end(&rt)?;
-    Ok(())
+    let server = start(rt, alloc, Set::of(3, 1), OpenGate);
+    let _first = freed(&rt, alloc, server.addr, Some(b"HELLO\r\n"));
+    server.end(&rt);
 }
 
 #[test]
-fn a_stalled_player_that_falls_silent_is_freed(rt: HostRuntime) -> Result<(), Fail> {
+fn a_stalled_player_that_falls_silent_is_freed(rt: HostRuntime) {
     let alloc = rt.alloc();
-    let server = start(rt, alloc, Set::of(3, 1), OpenGate)?;
-    freed(&rt, alloc, server.addr, None)?;
-    server.end(&rt)?;
-    Ok(())
+    let server = start(rt, alloc, Set::of(3, 1), OpenGate);
+    freed(&rt, alloc, server.addr, None);
+    server.end(&rt);
 }
 
 /// In the session of the first player.
@@ -252,40 +217,33 @@ const TEARDOWN: &[u8] =
     b"TEARDOWN rtsp://127.0.0.1:8554/cam RTSP/1.0\r\nCSeq: 7\r\nSession: 000000020000abcd\r\n\r\n";
 
 #[test]
-fn a_stalled_player_that_tears_down_is_freed(rt: HostRuntime) -> Result<(), Fail> {
+fn a_stalled_player_that_tears_down_is_freed(rt: HostRuntime) {
     let alloc = rt.alloc();
-    let server = start(rt, alloc, Set::of(3, 1), OpenGate)?;
-    freed(&rt, alloc, server.addr, Some(TEARDOWN))?;
-    server.end(&rt)?;
-    Ok(())
+    let server = start(rt, alloc, Set::of(3, 1), OpenGate);
+    freed(&rt, alloc, server.addr, Some(TEARDOWN));
+    server.end(&rt);
 }
 
 /// Twenty clients, one behind another, for which there is no connection.
-fn each_reads_why<R: Net<Stream = TcpStream> + Abort>(
-    rt: &R,
-    alloc: Global,
-    addr: SocketAddr,
-) -> io::Result<()> {
+fn each_reads_why<R: Net<Stream = TcpStream> + Abort>(rt: &R, alloc: Global, addr: SocketAddr) {
     for place in 0..20u32 {
-        let mut late = Client::connect(rt, alloc, addr)?;
-        late.say(OPTIONS)?;
+        let mut late = Client::connect(rt, alloc, addr);
+        late.say(rt, OPTIONS);
         assert!(rt;
-            late.reads(b"RTSP/1.0 503 Service Unavailable\r\n\r\n")?,
+            late.reads(rt, b"RTSP/1.0 503 Service Unavailable\r\n\r\n"),
             "peer {place}"
         );
-        late.fall_silent()?;
-        assert!(rt; late.is_hung_up()?, "peer {place}");
+        late.fall_silent(rt);
+        assert!(rt; late.is_hung_up(rt), "peer {place}");
     }
-    Ok(())
 }
 
 /// What a refused peer had said already doesn't reset its connection before it has read why.
 #[test]
-fn a_refused_peer_reads_why(rt: HostRuntime) -> Result<(), Fail> {
+fn a_refused_peer_reads_why(rt: HostRuntime) {
     let alloc = rt.alloc();
-    let server = start(rt, alloc, Set::of(20, 1), OpenGate)?;
+    let server = start(rt, alloc, Set::of(20, 1), OpenGate);
     server.fill(&rt);
-    each_reads_why(&rt, alloc, server.addr)?;
-    server.end(&rt)?;
-    Ok(())
+    each_reads_why(&rt, alloc, server.addr);
+    server.end(&rt);
 }

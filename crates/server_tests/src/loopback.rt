@@ -8,6 +8,7 @@ use std::alloc::{AllocError, Global};
 use std::collections::hash_map::RandomState;
 use std::io::{Read, Write};
 use std::net::{Net, Shutdown, SocketAddr, TcpListener, TcpStream};
+use std::process::Abort;
 use std::random::RandomSource;
 use std::sync::{Arc, Mutex, Wait};
 use std::thread::{JoinHandle, Threads};
@@ -30,22 +31,24 @@ pub(crate) struct Client {
 }
 
 impl Client {
-    pub(crate) fn connect<R: Net<Stream = TcpStream>>(
+    pub(crate) fn connect<R: Net<Stream = TcpStream> + Abort>(
         rt: &R,
         alloc: Global,
         addr: SocketAddr,
-    ) -> io::Result<Client> {
-        let stream = TcpStream::connect(rt, addr)?;
-        stream.set_read_timeout(Some(Duration::from_secs(30)))?;
-        Ok(Client {
+    ) -> Client {
+        let stream = TcpStream::connect(rt, addr).expect(rt, "a connection");
+        stream
+            .set_read_timeout(Some(Duration::from_secs(30)))
+            .expect(rt, "a limit to reads");
+        Client {
             stream,
             alloc,
             rest: Vec::new(alloc),
-        })
+        }
     }
 
-    pub(crate) fn say(&mut self, bytes: &[u8]) -> io::Result<()> {
-        self.stream.write_all(bytes)
+    pub(crate) fn say(&mut self, rt: &impl Abort, bytes: &[u8]) {
+        self.stream.write_all(bytes).expect(rt, "a write");
     }
 
     /// Reads a piece more. `false` at the end.
@@ -57,25 +60,25 @@ impl Client {
     }
 
     /// The first so many bytes of what was read.
-    fn take(&mut self, count: usize) -> io::Result<Vec<u8>> {
+    fn take(&mut self, rt: &impl Abort, count: usize) -> Vec<u8> {
         let count = count.min(self.rest.len());
-        let taken = Vec::from_slice(self.alloc, &self.rest[..count])?;
-        self.rest = Vec::from_slice(self.alloc, &self.rest[count..])?;
-        Ok(taken)
+        let taken = Vec::from_slice(self.alloc, &self.rest[..count]).expect(rt, "memory");
+        self.rest = Vec::from_slice(self.alloc, &self.rest[count..]).expect(rt, "memory");
+        taken
     }
 
     /// The next so many bytes, or fewer where there are no more.
-    pub(crate) fn bytes(&mut self, count: usize) -> io::Result<Vec<u8>> {
+    pub(crate) fn bytes(&mut self, rt: &impl Abort, count: usize) -> Vec<u8> {
         for _ in 0..100_000u32 {
-            if self.rest.len() >= count || !self.read_more()? {
+            if self.rest.len() >= count || !self.read_more().expect(rt, "a read") {
                 break;
             }
         }
-        self.take(count)
+        self.take(rt, count)
     }
 
     /// The next bytes up to an empty line, or up to the end.
-    pub(crate) fn head(&mut self) -> io::Result<Vec<u8>> {
+    pub(crate) fn head(&mut self, rt: &impl Abort) -> Vec<u8> {
         for _ in 0..100_000u32 {
             let end = self
                 .rest
@@ -83,40 +86,41 @@ impl Client {
                 .windows(4)
                 .position(|four| four == b"\r\n\r\n".as_slice());
             if let Some(place) = end {
-                return self.take(place.saturating_add(4));
+                return self.take(rt, place.saturating_add(4));
             }
-            if !self.read_more()? {
+            if !self.read_more().expect(rt, "a read") {
                 break;
             }
         }
-        self.take(usize::MAX)
+        self.take(rt, usize::MAX)
     }
 
     /// Says nothing more.
-    pub(crate) fn fall_silent(&self) -> io::Result<()> {
-        self.stream.shutdown(Shutdown::Write)
+    pub(crate) fn fall_silent(&self, rt: &impl Abort) {
+        self.stream
+            .shutdown(Shutdown::Write)
+            .expect(rt, "an end of writes");
     }
 
     /// Asks, and answers the head of the reply.
-    pub(crate) fn ask(&mut self, request: &[u8]) -> io::Result<Vec<u8>> {
-        self.say(request)?;
-        self.head()
+    pub(crate) fn ask(&mut self, rt: &impl Abort, request: &[u8]) -> Vec<u8> {
+        self.say(rt, request);
+        self.head(rt)
     }
 
     /// Asks, and answers the status of the reply.
-    pub(crate) fn status_of(&mut self, request: &[u8]) -> io::Result<u16> {
-        let head = self.ask(request)?;
-        Ok(status(head.as_slice()))
+    pub(crate) fn status_of(&mut self, rt: &impl Abort, request: &[u8]) -> u16 {
+        status(self.ask(rt, request).as_slice())
     }
 
     /// Whether just these bytes come next.
-    pub(crate) fn reads(&mut self, wanted: &[u8]) -> io::Result<bool> {
-        Ok(self.bytes(wanted.len())?.as_slice() == wanted)
+    pub(crate) fn reads(&mut self, rt: &impl Abort, wanted: &[u8]) -> bool {
+        self.bytes(rt, wanted.len()).as_slice() == wanted
     }
 
     /// Whether nothing comes any more.
-    pub(crate) fn is_hung_up(&mut self) -> io::Result<bool> {
-        Ok(self.bytes(1)?.is_empty())
+    pub(crate) fn is_hung_up(&mut self, rt: &impl Abort) -> bool {
+        self.bytes(rt, 1).is_empty()
     }
 }
 
@@ -157,18 +161,18 @@ impl Running {
     }
 
     /// Waits until the server has ended.
-    pub(crate) fn end<R: Threads + Wait>(self, rt: &R) -> Result<Ended, AllocError> {
+    pub(crate) fn end<R: Threads + Wait + Abort>(self, rt: &R) -> Ended {
         let Running {
             addr: _,
             book,
             thread,
         } = self;
-        thread.join(rt)?;
+        thread.join(rt).expect(rt, "the server's memory");
         let book = book.lock(rt);
-        Ok(Ended {
+        Ended {
             kept: book.kept(),
             open: [book.is_open(1), book.is_open(2)],
-        })
+        }
     }
 }
 
@@ -196,13 +200,14 @@ impl Set {
 }
 
 /// Starts a server whose rings keep 512 packets of at most 16,384 bytes.
-pub(crate) fn start<R, G>(rt: R, alloc: Global, set: Set, gate: G) -> io::Result<Running>
+pub(crate) fn start<R, G>(rt: R, alloc: Global, set: Set, gate: G) -> Running
 where
     R: Threads
         + Wait
         + Clock
         + Log
         + RandomSource
+        + Abort
         + Net<Listener = TcpListener, Stream = TcpStream>
         + Copy
         + Send
@@ -210,12 +215,13 @@ where
         + 'static,
     G: Gate + Drop + Send + Sync + 'static,
 {
-    let listener = TcpListener::bind(&rt, "127.0.0.1:0")?;
-    let addr = listener.local_addr()?;
+    let listener = TcpListener::bind(&rt, "127.0.0.1:0").expect(&rt, "a listener");
+    let addr = listener.local_addr().expect(&rt, "its address");
     let seats = set.seats.min(1024);
-    let hasher = RandomState::new(&rt)?;
-    let book = Arc::new(alloc, Mutex::new(Book::new(alloc, seats, hasher)))?;
-    let theirs = Arc::try_clone(&book)?;
+    let hasher = RandomState::new(&rt).expect(&rt, "random bytes");
+    let book = Book::new(alloc, seats, hasher);
+    let book = Arc::new(alloc, Mutex::new(book)).expect(&rt, "memory");
+    let theirs = Arc::try_clone(&book).expect(&rt, "a count of the book's users");
     let options = Options {
         accept: Some(set.accept),
         gather: set.gather,
@@ -225,6 +231,6 @@ where
     let thread = thread::spawn(&rt, move || {
         run_server(rt, alloc, &listener, options, maker, theirs, OneWord, gate)
     })
-    .map_err(|_| AllocError)?;
-    Ok(Running { addr, book, thread })
+    .expect(&rt, "a thread");
+    Running { addr, book, thread }
 }

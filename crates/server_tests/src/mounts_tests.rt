@@ -2,10 +2,8 @@
 use crate::loopback::{Client, OPTIONS, Set, start};
 use relay_server::OpenGate;
 use std::alloc::{AllocError, Global};
-use std::io;
 use std::net::{Net, SocketAddr, TcpStream};
 use std::process::Abort;
-use std::test::Fail;
 
 /// A request for this mount, in the session of this number where that isn't 0, with these further lines.
 fn request(
@@ -42,35 +40,32 @@ const SECOND: Mount = Mount {
 
 /// Whether a request for this mount is answered by 200.
 fn is_granted(
-    client: &mut Client,
+    rt: &impl Abort,
     alloc: Global,
+    client: &mut Client,
     method: &str,
     path: &str,
     number: u8,
     more: &str,
-) -> io::Result<bool> {
-    let request = request(alloc, method, path, number, more)?;
-    Ok(client.status_of(request.as_bytes())? == 200)
+) -> bool {
+    let request = request(alloc, method, path, number, more).expect(rt, "memory");
+    client.status_of(rt, request.as_bytes()) == 200
 }
 
 /// Whether a client may record into a mount in the session of this number, which is the next one.
-fn records(client: &mut Client, alloc: Global, mount: Mount, number: u8) -> io::Result<bool> {
+fn records(rt: &impl Abort, alloc: Global, client: &mut Client, mount: Mount, number: u8) -> bool {
     let announced = "Content-Length: 26\r\n\r\nv=0\nm=audio 0 RTP/AVP 0 ";
     let inward = "Transport: RTP/AVP/TCP;interleaved=0-1;mode=record\r\n";
-    Ok(
-        is_granted(client, alloc, "ANNOUNCE", mount.name, 0, announced)?
-            && is_granted(client, alloc, "SETUP", mount.track, 0, inward)?
-            && is_granted(client, alloc, "RECORD", mount.name, number, "")?,
-    )
+    is_granted(rt, alloc, client, "ANNOUNCE", mount.name, 0, announced)
+        && is_granted(rt, alloc, client, "SETUP", mount.track, 0, inward)
+        && is_granted(rt, alloc, client, "RECORD", mount.name, number, "")
 }
 
 /// Whether a client may play a mount in the session of this number, which is the next one.
-fn plays(client: &mut Client, alloc: Global, mount: Mount, number: u8) -> io::Result<bool> {
+fn plays(rt: &impl Abort, alloc: Global, client: &mut Client, mount: Mount, number: u8) -> bool {
     let outward = "Transport: RTP/AVP/TCP;interleaved=0-1\r\n";
-    Ok(
-        is_granted(client, alloc, "SETUP", mount.track, 0, outward)?
-            && is_granted(client, alloc, "PLAY", mount.name, number, "")?,
-    )
+    is_granted(rt, alloc, client, "SETUP", mount.track, 0, outward)
+        && is_granted(rt, alloc, client, "PLAY", mount.name, number, "")
 }
 
 /// Clients that record into the first mount and into the second one, in the first two sessions.
@@ -78,12 +73,12 @@ fn cameras<R: Net<Stream = TcpStream> + Abort>(
     rt: &R,
     alloc: Global,
     addr: SocketAddr,
-) -> io::Result<[Client; 2]> {
-    let mut first = Client::connect(rt, alloc, addr)?;
-    assert!(rt; records(&mut first, alloc, FIRST, 1)?);
-    let mut second = Client::connect(rt, alloc, addr)?;
-    assert!(rt; records(&mut second, alloc, SECOND, 2)?);
-    Ok([first, second])
+) -> [Client; 2] {
+    let mut first = Client::connect(rt, alloc, addr);
+    assert!(rt; records(rt, alloc, &mut first, FIRST, 1));
+    let mut second = Client::connect(rt, alloc, addr);
+    assert!(rt; records(rt, alloc, &mut second, SECOND, 2));
+    [first, second]
 }
 
 /// Clients that play the first mount and the second one, in the next two sessions.
@@ -91,12 +86,12 @@ fn players<R: Net<Stream = TcpStream> + Abort>(
     rt: &R,
     alloc: Global,
     addr: SocketAddr,
-) -> io::Result<[Client; 2]> {
-    let mut first = Client::connect(rt, alloc, addr)?;
-    assert!(rt; plays(&mut first, alloc, FIRST, 3)?);
-    let mut second = Client::connect(rt, alloc, addr)?;
-    assert!(rt; plays(&mut second, alloc, SECOND, 4)?);
-    Ok([first, second])
+) -> [Client; 2] {
+    let mut first = Client::connect(rt, alloc, addr);
+    assert!(rt; plays(rt, alloc, &mut first, FIRST, 3));
+    let mut second = Client::connect(rt, alloc, addr);
+    assert!(rt; plays(rt, alloc, &mut second, SECOND, 4));
+    [first, second]
 }
 
 /// An RTP packet of this number, from this source (RFC 3550, 5.1), as a frame on channel 0.
@@ -113,12 +108,11 @@ fn packets_come<R: Abort>(
     cameras: &mut [Client; 2],
     players: &mut [Client; 2],
     number: u8,
-) -> io::Result<()> {
-    cameras[0].say(&packet(1, number))?;
-    cameras[1].say(&packet(2, number))?;
-    assert!(rt; players[0].reads(&packet(1, number))?);
-    assert!(rt; players[1].reads(&packet(2, number))?);
-    Ok(())
+) {
+    cameras[0].say(rt, &packet(1, number));
+    cameras[1].say(rt, &packet(2, number));
+    assert!(rt; players[0].reads(rt, &packet(1, number)));
+    assert!(rt; players[1].reads(rt, &packet(2, number)));
 }
 
 /// The second player goes on having packets when the first mount ends.
@@ -127,34 +121,28 @@ fn first_mount_ends<R: Abort>(
     alloc: Global,
     cameras: &mut [Client; 2],
     players: &mut [Client; 2],
-) -> io::Result<()> {
-    assert!(rt; is_granted(&mut cameras[0], alloc, "TEARDOWN", FIRST.name, 1, "")?);
-    cameras[1].say(&packet(2, 20))?;
-    assert!(rt; players[1].reads(&packet(2, 20))?);
+) {
+    assert!(rt; is_granted(rt, alloc, &mut cameras[0], "TEARDOWN", FIRST.name, 1, ""));
+    cameras[1].say(rt, &packet(2, 20));
+    assert!(rt; players[1].reads(rt, &packet(2, 20)));
     // Nothing of the other mount came to the first one's player: what it reads next is a reply.
-    assert!(rt; players[0].status_of(OPTIONS)? == 200);
-    Ok(())
+    assert!(rt; players[0].status_of(rt, OPTIONS) == 200);
 }
 
-fn mounts_stay_apart<R: Net<Stream = TcpStream> + Abort>(
-    rt: &R,
-    alloc: Global,
-    addr: SocketAddr,
-) -> io::Result<()> {
-    let mut cameras = cameras(rt, alloc, addr)?;
-    let mut players = players(rt, alloc, addr)?;
+fn mounts_stay_apart<R: Net<Stream = TcpStream> + Abort>(rt: &R, alloc: Global, addr: SocketAddr) {
+    let mut cameras = cameras(rt, alloc, addr);
+    let mut players = players(rt, alloc, addr);
     for number in 0..20u8 {
-        packets_come(rt, &mut cameras, &mut players, number)?;
+        packets_come(rt, &mut cameras, &mut players, number);
     }
     first_mount_ends(rt, alloc, &mut cameras, &mut players)
 }
 
 /// Each player has the packets of its own mount alone, and keeps on having them when the other mount ends.
 #[test]
-fn each_mount_has_its_own_packets(rt: HostRuntime) -> Result<(), Fail> {
+fn each_mount_has_its_own_packets(rt: HostRuntime) {
     let alloc = rt.alloc();
-    let server = start(rt, alloc, Set::of(4, 1), OpenGate)?;
-    mounts_stay_apart(&rt, alloc, server.addr)?;
-    server.end(&rt)?;
-    Ok(())
+    let server = start(rt, alloc, Set::of(4, 1), OpenGate);
+    mounts_stay_apart(&rt, alloc, server.addr);
+    server.end(&rt);
 }

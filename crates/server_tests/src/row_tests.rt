@@ -3,10 +3,8 @@ use crate::loopback::{Client, Set, start};
 use crate::scripted::FRAME;
 use relay_server::OpenGate;
 use std::alloc::Global;
-use std::io;
 use std::net::{Net, SocketAddr, TcpStream};
 use std::process::Abort;
-use std::test::Fail;
 
 /// A request of one of two clients, and the status and the body that it is answered with.
 #[derive(Clone, Copy)]
@@ -100,52 +98,45 @@ const BEHIND_THE_END: [Row; 3] = [
 ];
 
 /// Whether a row's client is answered as the row says.
-fn is_as(clients: &mut [Client; 2], row: &Row) -> io::Result<bool> {
+fn is_as(rt: &impl Abort, clients: &mut [Client; 2], row: &Row) -> bool {
     let Some(client) = clients.get_mut(row.client) else {
-        return Ok(false);
+        return false;
     };
-    Ok(client.status_of(row.request)? == row.status && client.reads(row.body)?)
+    client.status_of(rt, row.request) == row.status && client.reads(rt, row.body)
 }
 
-fn rows_hold<R: Abort>(rt: &R, clients: &mut [Client; 2], rows: &[Row]) -> io::Result<()> {
+fn rows_hold<R: Abort>(rt: &R, clients: &mut [Client; 2], rows: &[Row]) {
     for row in rows {
-        assert!(rt; is_as(clients, row)?, "{}", row.request.escape_ascii());
+        assert!(rt; is_as(rt, clients, row), "{}", row.request.escape_ascii());
     }
-    Ok(())
-}
-
-/// The track that its owner set up as 1 is the one that its player set up as 0.
-fn is_one_track<R: Abort>(rt: &R, clients: &mut [Client; 2]) -> io::Result<()> {
-    clients[0].say(FRAME)?;
-    let came = clients[1].bytes(16)?;
-    assert!(rt; came.as_slice().starts_with(b"\x24\x08\x00\x0c"));
-    Ok(())
 }
 
 fn owner_and_player_ask<R: Net<Stream = TcpStream> + Abort>(
     rt: &R,
     alloc: Global,
     addr: SocketAddr,
-) -> io::Result<()> {
+) {
     let mut clients = [
-        Client::connect(rt, alloc, addr)?,
-        Client::connect(rt, alloc, addr)?,
+        Client::connect(rt, alloc, addr),
+        Client::connect(rt, alloc, addr),
     ];
-    rows_hold(rt, &mut clients, &OWNER_AND_CONTROL_NAMES)?;
-    is_one_track(rt, &mut clients)?;
+    rows_hold(rt, &mut clients, &OWNER_AND_CONTROL_NAMES);
+    // The track that its owner set up as 1 is the one that its player set up as 0.
+    clients[0].say(rt, FRAME);
+    let came = clients[1].bytes(rt, 16);
+    assert!(rt; came.as_slice().starts_with(b"\x24\x08\x00\x0c"));
     rows_hold(rt, &mut clients, &BEHIND_THE_END)
 }
 
 /// The mount's end leaves its player's connection open, and the player may ask for more.
 #[test]
-fn a_track_has_its_owners_name_and_its_players(rt: HostRuntime) -> Result<(), Fail> {
+fn a_track_has_its_owners_name_and_its_players(rt: HostRuntime) {
     let alloc = rt.alloc();
     let set = Set {
         gather: 0,
         ..Set::of(2, 1)
     };
-    let server = start(rt, alloc, set, OpenGate)?;
-    owner_and_player_ask(&rt, alloc, server.addr)?;
-    server.end(&rt)?;
-    Ok(())
+    let server = start(rt, alloc, set, OpenGate);
+    owner_and_player_ask(&rt, alloc, server.addr);
+    server.end(&rt);
 }

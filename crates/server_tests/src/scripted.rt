@@ -1,8 +1,8 @@
 //! Requests and packets of clients, for tests.
 use crate::loopback::{ANNOUNCE, Client};
 use std::alloc::{AllocError, Global};
-use std::io;
 use std::net::{Net, SocketAddr, TcpStream};
+use std::process::Abort;
 
 pub(crate) const SETUP_IN: &[u8] =
     b"SETUP rtsp://127.0.0.1:8554/cam/streamid=0 RTSP/1.0\r\nCSeq: 3\r\nTransport: RTP/AVP/TCP;unicast;interleaved=0-1;mode=record\r\n\r\n";
@@ -17,16 +17,16 @@ pub(crate) const SETUP_OUT: &[u8] =
 pub(crate) const FRAME: &[u8] = b"\x24\x00\x00\x0c\x80\x60\x00\x07\x00\x00\x23\x28\x00\x00\x00\x00";
 
 /// A client that has announced `cam` and records into it.
-pub(crate) fn publisher<R: Net<Stream = TcpStream>>(
+pub(crate) fn publisher<R: Net<Stream = TcpStream> + Abort>(
     rt: &R,
     alloc: Global,
     addr: SocketAddr,
-) -> io::Result<Client> {
-    let mut client = Client::connect(rt, alloc, addr)?;
+) -> Client {
+    let mut client = Client::connect(rt, alloc, addr);
     for request in [ANNOUNCE.as_bytes(), SETUP_IN, RECORD] {
-        client.ask(request)?;
+        client.ask(rt, request);
     }
-    Ok(client)
+    client
 }
 
 /// A PLAY in the session of this number, below ten.
@@ -45,27 +45,28 @@ pub(crate) fn asking(alloc: Global, method: &str, number: u8) -> Result<String, 
 }
 
 /// A client that plays `cam` in the session of this number, which is the next one.
-pub(crate) fn player<R: Net<Stream = TcpStream>>(
+pub(crate) fn player<R: Net<Stream = TcpStream> + Abort>(
     rt: &R,
     alloc: Global,
     addr: SocketAddr,
     number: u8,
-) -> io::Result<Client> {
-    let mut client = Client::connect(rt, alloc, addr)?;
-    client.ask(SETUP_OUT)?;
-    client.ask(&play(number))?;
-    Ok(client)
+) -> Client {
+    let mut client = Client::connect(rt, alloc, addr);
+    client.ask(rt, SETUP_OUT);
+    client.ask(rt, &play(number));
+    client
 }
 
 /// The status that a request in the session of this number, below ten, is answered by.
 pub(crate) fn status_in(
-    client: &mut Client,
+    rt: &impl Abort,
     alloc: Global,
+    client: &mut Client,
     method: &str,
     number: u8,
-) -> io::Result<u16> {
-    let request = asking(alloc, method, number)?;
-    client.status_of(request.as_bytes())
+) -> u16 {
+    let request = asking(alloc, method, number).expect(rt, "memory");
+    client.status_of(rt, request.as_bytes())
 }
 
 /// A camera, a player that has the only seat, and another player that has set up.
@@ -78,32 +79,32 @@ pub(crate) struct Peers {
 
 impl Peers {
     /// The first three clients of a server.
-    pub(crate) fn connect<R: Net<Stream = TcpStream>>(
+    pub(crate) fn connect<R: Net<Stream = TcpStream> + Abort>(
         rt: &R,
         alloc: Global,
         addr: SocketAddr,
-    ) -> io::Result<Peers> {
-        let camera = publisher(rt, alloc, addr)?;
-        let first = player(rt, alloc, addr, 2)?;
-        let mut second = Client::connect(rt, alloc, addr)?;
-        second.ask(SETUP_OUT)?;
-        Ok(Peers {
+    ) -> Peers {
+        let camera = publisher(rt, alloc, addr);
+        let first = player(rt, alloc, addr, 2);
+        let mut second = Client::connect(rt, alloc, addr);
+        second.ask(rt, SETUP_OUT);
+        Peers {
             camera,
             first,
             second,
-        })
+        }
     }
 }
 
 /// Whether the packet of `FRAME` comes next.
-pub(crate) fn has_frame(player: &mut Client) -> io::Result<bool> {
-    Ok(player.bytes(16)?.as_slice().ends_with(&FRAME[4..]))
+pub(crate) fn has_frame(rt: &impl Abort, player: &mut Client) -> bool {
+    player.bytes(rt, 16).as_slice().ends_with(&FRAME[4..])
 }
 
 /// Whether the packet of `FRAME` comes from a camera to a player.
-pub(crate) fn passes_on(camera: &mut Client, player: &mut Client) -> io::Result<bool> {
-    camera.say(FRAME)?;
-    has_frame(player)
+pub(crate) fn passes_on(rt: &impl Abort, camera: &mut Client, player: &mut Client) -> bool {
+    camera.say(rt, FRAME);
+    has_frame(rt, player)
 }
 
 /// An RTP packet of 6,000 bytes with this number, as a frame on channel 0.
@@ -115,9 +116,9 @@ pub(crate) fn numbered(alloc: Global, number: u16) -> Result<Vec<u8>, AllocError
 }
 
 /// Publishes so many packets of 6,000 bytes, with the numbers from this one on.
-pub(crate) fn publish(camera: &mut Client, alloc: Global, from: u16, count: u16) -> io::Result<()> {
+pub(crate) fn publish(rt: &impl Abort, alloc: Global, camera: &mut Client, from: u16, count: u16) {
     for place in 0..count {
-        camera.say(numbered(alloc, from.wrapping_add(place))?.as_slice())?;
+        let packet = numbered(alloc, from.wrapping_add(place)).expect(rt, "memory");
+        camera.say(rt, packet.as_slice());
     }
-    Ok(())
 }

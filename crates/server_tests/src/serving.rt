@@ -7,8 +7,10 @@ use relay_server::{
 };
 use session_lock::Book;
 use session_state::Words;
-use std::alloc::{AllocError, Global};
+use std::alloc::Global;
 use std::collections::hash_map::RandomState;
+use std::process::Abort;
+use std::random::RandomSource;
 use std::sync::atomic::{AtomicBool, Ordering};
 use std::sync::{Arc, Mutex, Wait};
 use std::thread;
@@ -19,53 +21,42 @@ use std::time::Clock;
 pub(crate) type SharedRings<V> = Arc<Shared<Rings, V, OpenGate>, Global>;
 
 /// A book of one seat and of so many connections.
-pub(crate) fn book_of<R: Wait>(
+pub(crate) fn book_of<R: RandomSource + Wait + Abort>(
     rt: &R,
     alloc: Global,
-    hasher: RandomState,
     connections: u32,
-) -> Result<SharedBook<Seat<Pass>>, AllocError> {
-    let book = Arc::new(alloc, Mutex::new(Book::new(alloc, 1, hasher)))?;
+) -> SharedBook<Seat<Pass>> {
+    let hasher = RandomState::new(rt).expect(rt, "random bytes");
+    let book = Mutex::new(Book::new(alloc, 1, hasher));
+    let book = Arc::new(alloc, book).expect(rt, "memory");
     for _ in 0..connections {
         let _ = book.lock(rt).connect();
     }
-    Ok(book)
+    book
 }
 
 /// What the connections of a book share. This one of their rings is refused memory, counted from 0.
 pub(crate) fn shared_over<V: Words + Drop>(
+    rt: &impl Abort,
     alloc: Global,
-    book: &SharedBook<Seat<Pass>>,
+    book: SharedBook<Seat<Pass>>,
     refused: Option<u64>,
     words: V,
-) -> Result<SharedRings<V>, AllocError> {
-    let book = Arc::try_clone(book)?;
+) -> SharedRings<V> {
     let maker = Rings::refusing(refused);
-    let shared = Shared::new(alloc, maker, book, words, OpenGate, None)?;
-    Ok(Arc::new(alloc, shared)?)
-}
-
-/// What two connections share, with a book of their own.
-pub(crate) fn shared_by_two<R: Wait, V: Words + Drop>(
-    rt: &R,
-    alloc: Global,
-    hasher: RandomState,
-    refused: Option<u64>,
-    words: V,
-) -> Result<SharedRings<V>, AllocError> {
-    let book = book_of(rt, alloc, hasher, 2)?;
-    shared_over(alloc, &book, refused, words)
+    let shared = Shared::new(alloc, maker, book, words, OpenGate, None).expect(rt, "memory");
+    Arc::new(alloc, shared).expect(rt, "memory")
 }
 
 /// A line to a peer that takes so many bytes.
-pub(crate) fn line_to<R: Wait + Drop>(
+pub(crate) fn line_to<R: Wait + Abort + Drop>(
     rt: R,
     alloc: Global,
     bytes: &Bytes,
     room: usize,
-) -> Result<Line<Writing<Written<R>>>, AllocError> {
-    let bytes = Arc::try_clone(bytes)?;
-    Ok(Line::new(alloc, Writing::new(Written { rt, bytes, room })))
+) -> Line<Writing<Written<R>>> {
+    let bytes = Arc::try_clone(bytes).expect(&rt, "a count of its users");
+    Line::new(alloc, Writing::new(Written { rt, bytes, room }))
 }
 
 /// What a test and a connection share: what is written to its peer, and the word that lets the peer on.
@@ -77,10 +68,10 @@ pub(crate) struct Watch {
 
 impl Watch {
     /// Nothing is written, and the peer waits.
-    pub(crate) fn new(alloc: Global) -> Result<Watch, AllocError> {
-        let written = Arc::new(alloc, Mutex::new(Vec::new(alloc)))?;
-        let let_on = Arc::new(alloc, AtomicBool::new(false))?;
-        Ok(Watch { written, let_on })
+    pub(crate) fn new(rt: &impl Abort, alloc: Global) -> Watch {
+        let written = Arc::new(alloc, Mutex::new(Vec::new(alloc))).expect(rt, "memory");
+        let let_on = Arc::new(alloc, AtomicBool::new(false)).expect(rt, "memory");
+        Watch { written, let_on }
     }
 }
 
@@ -110,17 +101,17 @@ pub(crate) fn serve_in_thread<R, V, W>(
     conn: u64,
     source: Staged<R>,
     line: Line<W>,
-) -> Result<JoinHandle<(ConnectionEnd, Counts)>, AllocError>
+) -> JoinHandle<(ConnectionEnd, Counts)>
 where
-    R: Threads + Wait + Clock + Copy + Drop + Send + 'static,
+    R: Threads + Wait + Clock + Abort + Copy + Drop + Send + 'static,
     V: Words + Drop + Send + 'static,
     W: Sink + Drop + Send + 'static,
 {
-    let theirs = Arc::try_clone(shared)?;
+    let theirs = Arc::try_clone(shared).expect(&rt, "a count of its users");
     thread::spawn(&rt, move || {
         run_connection(rt, alloc, theirs, conn, Reading::new(source), line, Open)
     })
-    .map_err(|_| AllocError)
+    .expect(&rt, "a thread")
 }
 
 /// Serves connection 1, whose peer says the one part, and the other once it is let on.
@@ -130,14 +121,15 @@ pub(crate) fn serve_camera<R, V>(
     shared: &SharedRings<V>,
     first: Vec<u8>,
     then: Vec<u8>,
-) -> Result<Serving, AllocError>
+) -> Serving
 where
-    R: Threads + Wait + Clock + Copy + Drop + Send + 'static,
+    R: Threads + Wait + Clock + Abort + Copy + Drop + Send + 'static,
     V: Words + Drop + Send + 'static,
 {
-    let watch = Watch::new(alloc)?;
-    let source = Staged::new(rt, first, then, Arc::try_clone(&watch.let_on)?);
-    let line = line_to(rt, alloc, &watch.written, 1000)?;
-    let thread = serve_in_thread(rt, alloc, shared, 1, source, line)?;
-    Ok(Serving { watch, thread })
+    let watch = Watch::new(&rt, alloc);
+    let let_on = Arc::try_clone(&watch.let_on).expect(&rt, "a count of its users");
+    let source = Staged::new(rt, first, then, let_on);
+    let line = line_to(rt, alloc, &watch.written, 1000);
+    let thread = serve_in_thread(rt, alloc, shared, 1, source, line);
+    Serving { watch, thread }
 }

@@ -2,10 +2,10 @@
 use log::sink::Memory;
 use relay_server::{ConnectionEnd, Counts, Refusal, tell_end};
 use rtsp_message::Fault;
-use std::alloc::{AllocError, Global};
+use std::alloc::Global;
 use std::fmt::Display;
 use std::net::SocketAddr;
-use std::test::Fail;
+use std::process::Abort;
 
 /// Each end, and its text. All but the first are warned of.
 const ENDS: [(ConnectionEnd, &str); 7] = [
@@ -25,24 +25,23 @@ const ENDS: [(ConnectionEnd, &str); 7] = [
 ];
 
 /// Whether a value is printed so.
-fn is_text<T: Display>(alloc: Global, value: &T, text: &str) -> Result<bool, AllocError> {
-    Ok(format!(in alloc; "{value}")?.as_str() == text)
+fn is_text<T: Display>(rt: &impl Abort, alloc: Global, value: &T, text: &str) -> bool {
+    format!(in alloc; "{value}").expect(rt, "memory").as_str() == text
 }
 
 #[test]
-fn ends_and_refusals_say_why(rt: HostRuntime) -> Result<(), Fail> {
+fn ends_and_refusals_say_why(rt: HostRuntime) {
     let alloc = rt.alloc();
     for (end, text) in ENDS {
-        assert!(rt; is_text(alloc, &end, text)?, "{text}");
+        assert!(rt; is_text(&rt, alloc, &end, text), "{text}");
     }
     for (refusal, text) in [
         (Refusal::Full, "refused: too many connections"),
         (Refusal::OutOfMemory, "refused: out of memory"),
         (Refusal::NoThread, "refused: no thread"),
     ] {
-        assert!(rt; is_text(alloc, &refusal, text)?, "{text}");
+        assert!(rt; is_text(&rt, alloc, &refusal, text), "{text}");
     }
-    Ok(())
 }
 
 /// Each count is another number.
