@@ -1,5 +1,5 @@
 //! Worked exchanges, byte for byte.
-use crate::devices::{Devices, Host, made_host, talks};
+use crate::devices::{Devices, Host, expect_talk, in_pieces, made_host};
 use interleaved::{ListSink, ListSource};
 use relay_talk::{FixedWord, TalkEnd, do_talk, talk_end};
 use rtsp_message::Fault;
@@ -21,15 +21,7 @@ fn expect_answer(
     want_end: &TalkEnd,
 ) -> Result<(), Fail> {
     for piece in [1, 2, 7, 100_000] {
-        let devices = Devices {
-            piece,
-            fail_at: None,
-            room: 1000,
-        };
-        assert!(rt;
-            talks(host, input, devices, want, want_end)?,
-            "{piece} {input:?}"
-        );
+        expect_talk(rt, host, input, in_pieces(piece), want, want_end)?;
     }
     Ok(())
 }
@@ -38,15 +30,14 @@ fn expect_answer(
 fn options_in_any_pieces(rt: HostRuntime) -> Result<(), Fail> {
     let host = made_host(&rt, 7)?;
     for piece in 1..40 {
-        let devices = Devices {
-            piece,
-            fail_at: None,
-            room: 1000,
-        };
-        assert!(rt;
-            talks(host, OPTIONS, devices, OPTIONS_REPLY, &TalkEnd::Done)?,
-            "{piece}"
-        );
+        expect_talk(
+            &rt,
+            host,
+            OPTIONS,
+            in_pieces(piece),
+            OPTIONS_REPLY,
+            &TalkEnd::Done,
+        )?;
     }
     Ok(())
 }
@@ -89,7 +80,7 @@ const ANSWERS: [(&[u8], &[u8]); 9] = [
 #[test]
 fn answers_byte_for_byte(rt: HostRuntime) -> Result<(), Fail> {
     let host = made_host(&rt, 7)?;
-    for (input, want) in ANSWERS {
+    for (input, want) in &ANSWERS {
         expect_answer(&rt, host, input, want, &TalkEnd::Done)?;
     }
     Ok(())
@@ -145,8 +136,8 @@ fn expect_fault(
 #[test]
 fn each_fault_alone_and_behind_a_reply(rt: HostRuntime) -> Result<(), Fail> {
     let host = made_host(&rt, 7)?;
-    for (bad, reply, fault) in FAULTS {
-        expect_fault(&rt, host, bad, reply, fault)?;
+    for (bad, reply, fault) in &FAULTS {
+        expect_fault(&rt, host, bad, reply, *fault)?;
     }
     Ok(())
 }
@@ -169,32 +160,35 @@ fn source_fails_at_each_place(rt: HostRuntime) -> Result<(), Fail> {
     for place in 0..32 {
         let want = if place < 31 { &[] } else { OPTIONS_REPLY };
         let devices = Devices {
-            piece: 5,
             fail_at: Some(place),
-            room: 1000,
+            ..in_pieces(5)
         };
-        assert!(rt;
-            talks(host, OPTIONS, devices, want, &TalkEnd::ReadFailed)?,
-            "{place}"
-        );
+        expect_talk(&rt, host, OPTIONS, devices, want, &TalkEnd::ReadFailed)?;
     }
     Ok(())
+}
+
+/// Devices with this room for what is written.
+fn with_room(room: usize) -> Devices {
+    Devices {
+        room,
+        ..in_pieces(100)
+    }
 }
 
 #[test]
 fn sink_of_each_room(rt: HostRuntime) -> Result<(), Fail> {
     let host = made_host(&rt, 7)?;
     for room in 0..OPTIONS_REPLY.len() {
-        let devices = Devices {
-            piece: 100,
-            fail_at: None,
-            room,
-        };
         let want = &OPTIONS_REPLY[..room];
-        assert!(rt;
-            talks(host, OPTIONS, devices, want, &TalkEnd::WriteFailed)?,
-            "{room}"
-        );
+        expect_talk(
+            &rt,
+            host,
+            OPTIONS,
+            with_room(room),
+            want,
+            &TalkEnd::WriteFailed,
+        )?;
     }
     Ok(())
 }
@@ -202,13 +196,8 @@ fn sink_of_each_room(rt: HostRuntime) -> Result<(), Fail> {
 #[test]
 fn a_sink_with_just_enough_room(rt: HostRuntime) -> Result<(), Fail> {
     let host = made_host(&rt, 7)?;
-    let devices = Devices {
-        piece: 100,
-        fail_at: None,
-        room: OPTIONS_REPLY.len(),
-    };
-    assert!(rt; talks(host, OPTIONS, devices, OPTIONS_REPLY, &TalkEnd::Done)?);
-    Ok(())
+    let devices = with_room(OPTIONS_REPLY.len());
+    expect_talk(&rt, host, OPTIONS, devices, OPTIONS_REPLY, &TalkEnd::Done)
 }
 
 /// Ends of a talk, with the exit status and the line on standard error.
@@ -234,20 +223,25 @@ const ENDS: [(TalkEnd, u8, &str); 7] = [
     (TalkEnd::OutOfMemory, 1, "relay: out of memory"),
 ];
 
+/// Whether an end is told by this status and this line.
+fn is_reported(alloc: Global, end: &TalkEnd, status: u8, text: &str) -> Result<bool, Fail> {
+    let (told, line) = talk_end(alloc, end)?;
+    Ok(told == status && line.as_str() == text)
+}
+
 #[test]
 fn ends_are_reported(rt: HostRuntime) -> Result<(), Fail> {
-    for (end, want, text) in ENDS {
-        let (status, line) = talk_end(rt.alloc(), &end)?;
-        assert_eq!(rt; (status, line.as_str()), (want, text));
+    for (end, status, text) in &ENDS {
+        assert!(rt; is_reported(rt.alloc(), end, *status, text)?);
     }
     Ok(())
 }
 
-/// What a talk tells from a source that fails at a place into a sink with this room: the status, the line for standard
-/// error and the output.
-fn told(host: Host, input: &[u8], fail_at: Option<usize>, room: usize) -> Result<String, Fail> {
-    let source = ListSource::new(Vec::from_slice(host.alloc, input)?, 100, fail_at);
-    let mut sink = ListSink::new(host.alloc, room)?;
+/// What a talk tells: the status, the line for standard error and the output.
+fn told(host: Host, input: &[u8], devices: Devices) -> Result<String, Fail> {
+    let bytes = Vec::from_slice(host.alloc, input)?;
+    let source = ListSource::new(bytes, devices.piece.max(1), devices.fail_at);
+    let mut sink = ListSink::new(host.alloc, devices.room)?;
     let ended = do_talk(
         host.alloc,
         host.hasher,
@@ -280,8 +274,13 @@ const TOLD: [(&[u8], Option<usize>, usize, &str); 4] = [
 #[test]
 fn a_talk_ends_with_its_status_and_line(rt: HostRuntime) -> Result<(), Fail> {
     let host = made_host(&rt, 7)?;
-    for (input, fail_at, room, want) in TOLD {
-        assert_eq!(rt; told(host, input, fail_at, room)?.as_str(), want);
+    for (input, fail_at, room, want) in &TOLD {
+        let devices = Devices {
+            piece: 100,
+            fail_at: *fail_at,
+            room: *room,
+        };
+        assert!(rt; told(host, input, devices)?.as_str() == *want);
     }
     Ok(())
 }

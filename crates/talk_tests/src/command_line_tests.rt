@@ -3,7 +3,7 @@ use clap::Error;
 use relay_command::{Asked, Settings, Task, exit_code, read_words, task_named};
 use relay_talk::{NoWords, WordSource, word_source};
 use std::alloc::Global;
-use std::process::ExitCode;
+use std::process::{Abort, ExitCode};
 use std::test::Fail;
 
 /// What `serve` is to do without options.
@@ -15,6 +15,11 @@ const DEFAULTS: Settings = Settings {
     gather: 5,
     hang_up_ended: false,
 };
+
+/// What is said of a line has to hold.
+fn expect(rt: &impl Abort, line: &str, holds: bool) {
+    assert!(rt; holds, "{line}");
+}
 
 /// What a line asks for, or its error.
 fn asked(alloc: Global, line: &str) -> Result<Result<Asked, Error>, Fail> {
@@ -94,8 +99,8 @@ const ACCEPTED: [(&str, Settings); 8] = [
 
 #[test]
 fn a_server_does_what_its_line_says(rt: HostRuntime) -> Result<(), Fail> {
-    for (line, want) in ACCEPTED {
-        assert_eq!(rt; settings(rt.alloc(), line)?, Some(want), "{line}");
+    for (line, want) in &ACCEPTED {
+        expect(&rt, line, settings(rt.alloc(), line)? == Some(*want));
     }
     Ok(())
 }
@@ -122,8 +127,8 @@ const REFUSED: [&str; 16] = [
 
 #[test]
 fn a_line_out_of_range_is_refused(rt: HostRuntime) -> Result<(), Fail> {
-    for line in REFUSED {
-        assert_eq!(rt; settings(rt.alloc(), line)?, None, "{line}");
+    for line in &REFUSED {
+        expect(&rt, line, settings(rt.alloc(), line)?.is_none());
     }
     Ok(())
 }
@@ -149,8 +154,8 @@ fn status_of(alloc: Global, line: &str) -> Result<Option<i32>, Fail> {
 
 #[test]
 fn another_line_has_its_status(rt: HostRuntime) -> Result<(), Fail> {
-    for (line, want) in OTHER_LINES {
-        assert_eq!(rt; status_of(rt.alloc(), line)?, Some(want), "{line}");
+    for (line, want) in &OTHER_LINES {
+        expect(&rt, line, status_of(rt.alloc(), line)? == Some(*want));
     }
     Ok(())
 }
@@ -180,8 +185,8 @@ fn words_of(alloc: Global, line: &str) -> Result<Option<Result<WordSource, NoWor
 
 #[test]
 fn a_talk_has_the_words_of_its_line(rt: HostRuntime) -> Result<(), Fail> {
-    for (line, want) in TALKS {
-        assert_eq!(rt; words_of(rt.alloc(), line)?, Some(want), "{line}");
+    for (line, want) in &TALKS {
+        expect(&rt, line, words_of(rt.alloc(), line)? == Some(*want));
     }
     Ok(())
 }
@@ -194,9 +199,8 @@ const WORDLESS: [(NoWords, u8, &str); 2] = [
 
 #[test]
 fn a_talk_without_words_is_told(rt: HostRuntime) -> Result<(), Fail> {
-    for (why, status, line) in WORDLESS {
-        assert_eq!(rt; why.status(), status, "{line}");
-        assert_eq!(rt; why.line(), line);
+    for (why, status, line) in &WORDLESS {
+        expect(&rt, line, why.status() == *status && why.line() == *line);
     }
     Ok(())
 }
@@ -255,29 +259,35 @@ const HELPS: [(&str, &str); 3] = [
     ("relay steps --help", STEPS_HELP),
 ];
 
-/// What the help says that a line asks for. `None` where it is understood.
-fn help_of(alloc: Global, line: &str) -> Result<Option<String>, Fail> {
+/// Whether a line asks for this help.
+fn is_helped(alloc: Global, line: &str, help: &str) -> Result<bool, Fail> {
     match asked(alloc, line)? {
-        Ok(_) => Ok(None),
-        Err(error) => Ok(Some(format!(in alloc; "{error}")?)),
+        Ok(_) => Ok(false),
+        Err(error) => Ok(format!(in alloc; "{error}")?.as_str() == help),
     }
 }
 
 #[test]
 fn the_help_of_a_command_tells_its_options_and_an_example(rt: HostRuntime) -> Result<(), Fail> {
-    for (line, want) in HELPS {
-        let help = help_of(rt.alloc(), line)?;
-        assert_eq!(rt; help.as_deref(), Some(want), "{line}");
+    for (line, want) in &HELPS {
+        expect(&rt, line, is_helped(rt.alloc(), line, want)?);
     }
     Ok(())
 }
 
+/// Names, and their commands.
+const NAMES: [(&str, Option<Task>); 4] = [
+    ("talk", Some(Task::Talk)),
+    ("steps", Some(Task::Steps)),
+    ("serve", Some(Task::Serve)),
+    ("play", None),
+];
+
 #[test]
 fn a_command_is_known_by_its_name(rt: HostRuntime) {
-    assert_eq!(rt; task_named("talk"), Some(Task::Talk));
-    assert_eq!(rt; task_named("steps"), Some(Task::Steps));
-    assert_eq!(rt; task_named("serve"), Some(Task::Serve));
-    assert_eq!(rt; task_named("play"), None);
+    for (name, want) in &NAMES {
+        expect(&rt, name, task_named(name) == *want);
+    }
     assert!(rt; exit_code(1) == ExitCode::FAILURE);
     assert!(rt; exit_code(2) == ExitCode::from(2));
 }

@@ -4,6 +4,7 @@ use relay_talk::{FixedWord, TalkEnd, run_talk};
 use session_state::Words;
 use std::alloc::Global;
 use std::collections::hash_map::RandomState;
+use std::process::Abort;
 use std::test::Fail;
 
 /// Where a talk is tried.
@@ -25,11 +26,20 @@ pub(crate) fn made_host(rt: &HostRuntime, word: u32) -> Result<Host, Fail> {
 
 /// How the bytes of a talk come and go: at most so many a read, up to a place at which the source fails, into a sink
 /// with this room.
-#[derive(Clone, Copy)]
+#[derive(Clone, Copy, Debug)]
 pub(crate) struct Devices {
     pub piece: usize,
     pub fail_at: Option<usize>,
     pub room: usize,
+}
+
+/// Devices that don't fail.
+pub(crate) fn in_pieces(piece: usize) -> Devices {
+    Devices {
+        piece,
+        fail_at: None,
+        room: 100_000,
+    }
 }
 
 /// What a talk came to.
@@ -60,14 +70,19 @@ pub(crate) fn outcome_of<V: Words>(
     })
 }
 
-/// Whether a talk of this input writes this text, and ends so.
-pub(crate) fn talks(
+/// A talk of this input has to write this text, and to end so.
+pub(crate) fn expect_talk(
+    rt: &impl Abort,
     host: Host,
     input: &[u8],
     devices: Devices,
     want: &[u8],
     want_end: &TalkEnd,
-) -> Result<bool, Fail> {
+) -> Result<(), Fail> {
     let outcome = outcome_of(host, input, devices, &mut FixedWord(host.word))?;
-    Ok(outcome.written.as_slice() == want && outcome.end == *want_end)
+    assert!(rt;
+        outcome.written.as_slice() == want && outcome.end == *want_end,
+        "{devices:?} {input:?}"
+    );
+    Ok(())
 }

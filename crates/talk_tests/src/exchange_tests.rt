@@ -1,10 +1,10 @@
 //! A publisher's connection, byte for byte.
 ghost use Rattle.std.specs.Prelude.{◌≡◌};
 
-use crate::devices::{Devices, Host, made_host, outcome_of, talks};
+use crate::devices::{Devices, Host, expect_talk, in_pieces, made_host, outcome_of};
 use relay_talk::{TalkEnd, Talker};
 use session_state::Words;
-use std::collections::hash_map::RandomState;
+use std::process::Abort;
 use std::test::Fail;
 
 /// What a publisher sends, and what it reads.
@@ -81,30 +81,19 @@ const RUNS: [Run; 4] = [
     },
 ];
 
-/// Whether a publisher's talk writes what it is to read, with so many bytes a read.
-fn is_answered(host: Host, run: &Run, piece: usize) -> Result<bool, Fail> {
+/// A publisher's talk has to write what it reads, with so many bytes a read.
+fn expect_run(rt: &impl Abort, host: Host, run: &Run, piece: usize) -> Result<(), Fail> {
     let sent = run.sent.concat(host.alloc)?;
     let read = run.read.concat(host.alloc)?;
-    let devices = Devices {
-        piece,
-        fail_at: None,
-        room: 10_000,
-    };
-    talks(
-        host,
-        sent.as_slice(),
-        devices,
-        read.as_slice(),
-        &TalkEnd::Done,
-    )
+    expect_talk(rt, host, &sent, in_pieces(piece), &read, &TalkEnd::Done)
 }
 
 #[test]
 fn publishers_are_answered_byte_for_byte(rt: HostRuntime) -> Result<(), Fail> {
     let host = made_host(&rt, 0xabcd)?;
     for run in &RUNS {
-        for piece in [1, 50, 100_000] {
-            assert!(rt; is_answered(host, run, piece)?);
+        for piece in &[1, 50, 100_000] {
+            expect_run(&rt, host, run, *piece)?;
         }
     }
     Ok(())
@@ -135,15 +124,10 @@ const SET_UP: &[u8] =
 /// The SETUP is the fourth message: frames are none, and refused requests are.
 #[test]
 fn each_message_has_a_word(rt: HostRuntime) -> Result<(), Fail> {
-    let devices = Devices {
-        piece: 100,
-        fail_at: None,
-        room: 10_000,
-    };
+    let host = made_host(&rt, 0)?;
     let mut words = CountedWords(10);
-    let outcome = outcome_of(made_host(&rt, 0)?, FOUR_REQUESTS, devices, &mut words)?;
-    assert!(rt; outcome.end == TalkEnd::Done);
-    assert!(rt; words.0 == 14);
+    let outcome = outcome_of(host, FOUR_REQUESTS, in_pieces(100), &mut words)?;
+    assert!(rt; outcome.end == TalkEnd::Done && words.0 == 14);
     assert!(rt; outcome.written.ends_with(SET_UP));
     Ok(())
 }
@@ -152,9 +136,8 @@ fn each_message_has_a_word(rt: HostRuntime) -> Result<(), Fail> {
 fn no_word_is_asked_for_behind_a_failed_write(rt: HostRuntime) -> Result<(), Fail> {
     let input = b"OPTIONS * RTSP/1.0\nCSeq: 1\n\nOPTIONS * RTSP/1.0\nCSeq: 2\n\n";
     let devices = Devices {
-        piece: 100,
-        fail_at: None,
         room: 3,
+        ..in_pieces(100)
     };
     let mut words = CountedWords(10);
     let outcome = outcome_of(made_host(&rt, 0)?, input, devices, &mut words)?;
@@ -167,24 +150,10 @@ const MANY: usize = 2000;
 
 #[test]
 fn many_requests_of_one_talk(rt: HostRuntime) -> Result<(), Fail> {
-    let input = b"GET_PARAMETER * RTSP/1.0\nCSeq: 1\n\n".repeat(rt.alloc(), MANY)?;
-    let want = b"RTSP/1.0 200 OK\r\nCSeq: 1\r\n\r\n".repeat(rt.alloc(), MANY)?;
-    let devices = Devices {
-        piece: 5000,
-        fail_at: None,
-        room: 100_000,
-    };
     let host = made_host(&rt, 10)?;
-    assert!(rt;
-        talks(
-            host,
-            input.as_slice(),
-            devices,
-            want.as_slice(),
-            &TalkEnd::Done
-        )?
-    );
-    Ok(())
+    let input = b"GET_PARAMETER * RTSP/1.0\nCSeq: 1\n\n".repeat(host.alloc, MANY)?;
+    let want = b"RTSP/1.0 200 OK\r\nCSeq: 1\r\n\r\n".repeat(host.alloc, MANY)?;
+    expect_talk(&rt, host, &input, in_pieces(5000), &want, &TalkEnd::Done)
 }
 
 /// Whether an open connection leaves its book, in which two entries stand then.
@@ -198,11 +167,16 @@ fn leaves(talker: &mut Talker) -> bool
     !talker.book.is_open(1) && talker.book.kept() == 2
 }
 
+/// Whether a connection comes, and leaves its book.
+fn comes_and_leaves(host: Host) -> bool {
+    match Talker::connect(host.alloc, host.hasher) {
+        Ok(mut talker) => leaves(&mut talker),
+        Err(_) => false,
+    }
+}
+
 #[test]
 fn a_connection_leaves_its_book(rt: HostRuntime) -> Result<(), Fail> {
-    let Ok(mut talker) = Talker::connect(rt.alloc(), RandomState::new(&rt)?) else {
-        return Err(Fail::from("it comes"));
-    };
-    assert!(rt; leaves(&mut talker));
+    assert!(rt; comes_and_leaves(made_host(&rt, 0)?));
     Ok(())
 }

@@ -1,11 +1,10 @@
 //! Each answer is written before more is read. No contract says this of the two devices of a talk, so it is tried.
-use crate::devices::{Devices, made_host, outcome_of};
+use crate::devices::{Devices, Host, in_pieces, made_host, outcome_of};
 use interleaved::{Reading, Writing};
 use relay_talk::{FixedWord, TalkEnd, run_talk};
 use rtsp_message::Fault;
 use std::alloc::Global;
 use std::cell::Cell;
-use std::collections::hash_map::RandomState;
 use std::io;
 use std::io::{Read, Write};
 use std::test::Fail;
@@ -103,26 +102,37 @@ const ROWS: [Row; 4] = [
 ];
 
 /// How a talk over a wire ends.
-fn end_over<'a>(alloc: Global, hasher: RandomState, wire: &'a Wire<'a>) -> TalkEnd {
+fn end_over<'a>(host: Host, wire: &'a Wire<'a>) -> TalkEnd {
     let reader = Reading::new(Asking { wire });
     let mut writer = Writing::new(Answered { wire });
-    let (end, _reader) = run_talk(alloc, hasher, reader, &mut writer, &mut FixedWord(0));
+    let (end, _reader) = run_talk(
+        host.alloc,
+        host.hasher,
+        reader,
+        &mut writer,
+        &mut FixedWord(0),
+    );
     end
+}
+
+/// Whether each answer of a talk is written before more is read, and the talk ends as it should.
+fn answers_in_time(host: Host, row: &Row) -> bool {
+    let wire = Wire {
+        pieces: row.pieces.as_slice(),
+        reads: Cell::new(0),
+        writes: Cell::new(0),
+        late: Cell::new(false),
+    };
+    let end = end_over(host, &wire);
+    let counts = (wire.reads.get(), wire.writes.get());
+    end == row.end && counts == (row.reads, 3) && !wire.late.get()
 }
 
 #[test]
 fn an_answer_is_written_before_more_is_read(rt: HostRuntime) -> Result<(), Fail> {
-    let hasher = RandomState::new(&rt)?;
+    let host = made_host(&rt, 0)?;
     for row in &ROWS {
-        let wire = Wire {
-            pieces: row.pieces.as_slice(),
-            reads: Cell::new(0),
-            writes: Cell::new(0),
-            late: Cell::new(false),
-        };
-        assert!(rt; end_over(rt.alloc(), hasher, &wire) == row.end);
-        assert_eq!(rt; (wire.reads.get(), wire.writes.get()), (row.reads, 3));
-        assert!(rt; !wire.late.get());
+        assert!(rt; answers_in_time(host, row));
     }
     Ok(())
 }
@@ -130,13 +140,11 @@ fn an_answer_is_written_before_more_is_read(rt: HostRuntime) -> Result<(), Fail>
 #[test]
 fn nothing_is_read_behind_a_failed_write(rt: HostRuntime) -> Result<(), Fail> {
     let devices = Devices {
-        piece: OPTIONS.len(),
-        fail_at: None,
         room: 0,
+        ..in_pieces(OPTIONS.len())
     };
     let outcome = outcome_of(made_host(&rt, 0)?, TWO, devices, &mut FixedWord(0))?;
-    assert!(rt; outcome.end == TalkEnd::WriteFailed);
-    assert_eq!(rt; outcome.left, OPTIONS.len() as u64);
+    assert!(rt; outcome.end == TalkEnd::WriteFailed && outcome.left == OPTIONS.len() as u64);
     Ok(())
 }
 
@@ -153,37 +161,33 @@ fn long_request(alloc: Global) -> Result<Vec<u8>, Fail> {
 }
 
 /// Whether a talk ends well, and with an answer to OPTIONS.
-fn is_answered<R: Read + Drop>(alloc: Global, hasher: RandomState, reader: R) -> bool {
-    let mut out = Vec::new(alloc);
+fn is_answered<R: Read + Drop>(host: Host, reader: R) -> bool {
+    let mut out = Vec::new(host.alloc);
     let mut writer = Writing::new(&mut out);
     let (end, _reader) = run_talk(
-        alloc,
-        hasher,
+        host.alloc,
+        host.hasher,
         Reading::new(reader),
         &mut writer,
         &mut FixedWord(0),
     );
-    end == TalkEnd::Done
-        && out
-            .as_slice()
-            .starts_with(b"RTSP/1.0 200 OK\r\nCSeq: 1\r\nPublic: ")
+    end == TalkEnd::Done && out.starts_with(b"RTSP/1.0 200 OK\r\nCSeq: 1\r\nPublic: ")
 }
 
 #[test]
 fn a_request_of_many_fields_with_a_body(rt: HostRuntime) -> Result<(), Fail> {
-    let input = long_request(rt.alloc())?;
-    assert!(rt; is_answered(rt.alloc(), RandomState::new(&rt)?, input.as_slice()));
+    let host = made_host(&rt, 0)?;
+    let input = long_request(host.alloc)?;
+    assert!(rt; is_answered(host, input.as_slice()));
     Ok(())
 }
 
 #[test]
 fn options_cut_in_two_at_each_place(rt: HostRuntime) -> Result<(), Fail> {
+    let host = made_host(&rt, 0)?;
     for place in 0..OPTIONS.len() {
         let whole = OPTIONS[..place].chain(&OPTIONS[place..]);
-        assert!(rt;
-            is_answered(rt.alloc(), RandomState::new(&rt)?, whole),
-            "{place}"
-        );
+        assert!(rt; is_answered(host, whole));
     }
     Ok(())
 }

@@ -2,6 +2,7 @@
 ghost use Rattle.std.specs.Prelude.{◌≡◌, true};
 ghost use Rattle.session_state.specs.Lookups.{is_open};
 
+use crate::devices::{Host, made_host};
 use base_syntax::Items;
 use cursor::{Taken, Tap};
 use interleaved::ListSource;
@@ -11,7 +12,6 @@ use relay_talk::Talker;
 use rtsp_message::{Intake, Next, Request, Unit};
 use session_state::Given;
 use std::alloc::Global;
-use std::collections::hash_map::RandomState;
 use std::test::Fail;
 
 const ANNOUNCED: &[u8] =
@@ -177,11 +177,16 @@ fn publishes(talker: &mut Talker, alloc: Global) -> Result<bool, Fail>
     Ok(announced == 2 && are_taken)
 }
 
+/// Whether a connection comes, and what it records is published.
+fn comes_and_publishes(host: Host) -> Result<bool, Fail> {
+    match Talker::connect(host.alloc, host.hasher) {
+        Ok(mut talker) => publishes(&mut talker, host.alloc),
+        Err(_) => Ok(false),
+    }
+}
+
 #[test]
 fn frames_are_published_while_the_session_records(rt: HostRuntime) -> Result<(), Fail> {
-    let Ok(mut talker) = Talker::connect(rt.alloc(), RandomState::new(&rt)?) else {
-        return Err(Fail::from("it comes"));
-    };
-    assert!(rt; publishes(&mut talker, rt.alloc())?);
+    assert!(rt; comes_and_publishes(made_host(&rt, 0)?)?);
     Ok(())
 }

@@ -44,7 +44,7 @@ const WORDS: [(&str, Option<u32>); 11] = [
 
 #[test]
 fn a_word_is_eight_digits_of_either_case(rt: HostRuntime) {
-    for (text, want) in WORDS {
-        assert_eq!(rt; read_word(text), want);
+    for (text, want) in &WORDS {
+        assert!(rt; read_word(text) == *want);
     }
 }
