@@ -199,6 +199,26 @@ impl Set {
     }
 }
 
+/// Serves in a thread of its own.
+fn serve<R, G>(
+    rt: R,
+    alloc: Global,
+    listener: TcpListener,
+    options: Options,
+    maker: RingMaker,
+    book: SharedBook<Seat<Pass>>,
+    gate: G,
+) -> JoinHandle<Result<(), AllocError>>
+where
+    R: Threads + Wait + Clock + Log + Abort + Copy + Send + Sync + 'static,
+    G: Gate + Drop + Send + Sync + 'static,
+{
+    thread::spawn(&rt, move || {
+        run_server(rt, alloc, &listener, options, maker, book, OneWord, gate)
+    })
+    .expect(&rt, "a thread")
+}
+
 /// Starts a server whose rings keep 512 packets of at most 16,384 bytes.
 pub(crate) fn start<R, G>(rt: R, alloc: Global, set: Set, gate: G) -> Running
 where
@@ -228,9 +248,6 @@ where
         after_end: set.after_end,
     };
     let maker = RingMaker::new(512, seats, 16_384);
-    let thread = thread::spawn(&rt, move || {
-        run_server(rt, alloc, &listener, options, maker, theirs, OneWord, gate)
-    })
-    .expect(&rt, "a thread");
+    let thread = serve(rt, alloc, listener, options, maker, theirs, gate);
     Running { addr, book, thread }
 }
