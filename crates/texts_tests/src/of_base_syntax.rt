@@ -3,14 +3,21 @@ use base_syntax::{
     Bytes, Items, cut, cut_unquoted, first_line, is_numeral, is_same_name, laws, read_number, trim,
     trim_end,
 };
+use std::alloc::Global;
 use std::test::Fail;
+
+/// Adds two parts to a list.
+fn add_two(alloc: Global, parts: &mut Items<Bytes>) -> Result<(), Fail> {
+    parts.push(Bytes::from_slice(alloc, b"ab")?)?;
+    parts.push(Bytes::new([0x80, 0xff].to_vec(alloc)?))?;
+    Ok(())
+}
 
 #[test]
 fn a_list_grows_is_emptied_and_given_back(rt: HostRuntime) -> Result<(), Fail> {
     let mut parts: Items<Bytes> = Items::empty(rt.alloc());
     assert!(rt; parts.is_empty());
-    parts.push(Bytes::from_slice(rt.alloc(), b"ab")?)?;
-    parts.push(Bytes::new([0x80, 0xff].to_vec(rt.alloc())?))?;
+    add_two(rt.alloc(), &mut parts)?;
     assert_eq!(rt; parts.len(), 2);
     assert_eq!(rt; parts.as_slice()[1].as_slice(), b"\x80\xff".as_slice());
     assert_eq!(rt; parts.pop().map(|part| part.len()), Some(2));

@@ -51,6 +51,16 @@ fn gathering(
     Ok(Gathering::new(inner, vec![in alloc; 0; size]?))
 }
 
+/// Whether a frame is written in two parts, so much of which is kept until the sink is flushed.
+fn is_written(sink: &mut Gathering<Counting>, kept: usize) -> bool {
+    write_all(sink, &FRAME[..4]).is_ok()
+        && write_all(sink, &FRAME[4..]).is_ok()
+        && sink.len() == kept
+        && sink.flush().is_ok()
+        && !sink.has_failed()
+        && sink.len() == 0
+}
+
 #[test]
 fn what_is_written_goes_through_in_few_writes(rt: HostRuntime) -> Result<(), Fail> {
     // The size of the buffer, what the inner sink takes at once, and its writes: the head of a frame
@@ -66,11 +76,7 @@ fn what_is_written_goes_through_in_few_writes(rt: HostRuntime) -> Result<(), Fai
     ];
     for (size, most, writes) in cases {
         let mut sink = gathering(rt.alloc(), size, 6, most)?;
-        let _ = write_all(&mut sink, &FRAME[..4]).map_err(|cut| cut.written)?;
-        let _ = write_all(&mut sink, &FRAME[4..]).map_err(|cut| cut.written)?;
-        assert_eq!(rt; sink.len(), size.min(6), "{size} {most}");
-        assert!(rt; sink.flush().is_ok() && !sink.has_failed());
-        assert_eq!(rt; sink.len(), 0);
+        assert!(rt; is_written(&mut sink, size.min(6)), "{size} {most}");
         assert_eq!(rt; sink.inner().writes, writes, "{size} {most}");
         let inner = sink.into_inner();
         assert_eq!(rt; inner.sink.bytes(), FRAME.as_slice());
@@ -78,21 +84,50 @@ fn what_is_written_goes_through_in_few_writes(rt: HostRuntime) -> Result<(), Fai
     Ok(())
 }
 
+/// Whether sixteen frames are written, and flushed.
+fn are_written(sink: &mut Gathering<Counting>) -> bool {
+    for _ in 0..16 {
+        if write_all(sink, &FRAME).is_err() {
+            return false;
+        }
+    }
+    sink.flush().is_ok()
+}
+
 #[test]
 fn sixteen_frames_go_through_in_one_write(rt: HostRuntime) -> Result<(), Fail> {
     // The size of the buffer, and how often the inner sink is written to.
     for (size, writes) in [(96, 1), (100, 1), (95, 2), (32, 3)] {
         let mut sink = gathering(rt.alloc(), size, 96, 96)?;
-        for _ in 0..16 {
-            assert!(rt; write_all(&mut sink, &FRAME).is_ok());
-        }
-        assert!(rt; sink.flush().is_ok());
+        assert!(rt; are_written(&mut sink));
         assert_eq!(rt; sink.inner().writes, writes, "{size}");
         let bytes = sink.into_inner().sink.into_vec();
-        let mut frames = bytes.chunks(FRAME.len());
-        assert!(rt; bytes.len() == 96 && frames.all(|frame| frame == FRAME.as_slice()));
+        assert!(rt; bytes.as_slice() == FRAME.repeat(rt.alloc(), 16)?.as_slice());
     }
     Ok(())
+}
+
+/// Whether a sink that keeps so many bytes has failed, and takes and keeps no more.
+fn stays_failed(sink: &mut Gathering<Counting>, kept: usize) -> bool {
+    sink.has_failed()
+        && sink.len() == kept
+        && sink.write(&[1]).is_err()
+        && sink.write(&[]).is_err()
+        && sink.len() == kept
+}
+
+/// Whether a sink over one with this room fails where a frame and a buffer of this size don't fit.
+fn fails(sink: &mut Gathering<Counting>, size: usize, room: usize) -> bool {
+    // What is kept counts as written, until it can't be passed on.
+    let kept = room.saturating_add(size).min(6);
+    let want = if kept < 6 {
+        Err(WriteCut { written: kept })
+    } else {
+        Ok(())
+    };
+    write_all(sink, &FRAME) == want
+        && (size == 0 || sink.flush().is_err())
+        && stays_failed(sink, kept.saturating_sub(room))
 }
 
 #[test]
@@ -100,20 +135,7 @@ fn a_failed_write_is_told(rt: HostRuntime) -> Result<(), Fail> {
     for size in [0, 1, 6] {
         for room in 0..6 {
             let mut sink = gathering(rt.alloc(), size, room, 9)?;
-            let written = write_all(&mut sink, &FRAME);
-            // What is kept counts as written, until it can't be passed on.
-            let kept = (room + size).min(6);
-            let want = if kept < 6 {
-                Err(WriteCut { written: kept })
-            } else {
-                Ok(())
-            };
-            assert_eq!(rt; written, want, "{size} {room}");
-            assert!(rt; size == 0 || sink.flush().is_err(), "{size} {room}");
-            assert!(rt; sink.has_failed(), "{size} {room}");
-            assert_eq!(rt; sink.len(), kept - room);
-            assert!(rt; sink.write(&[1]).is_err() && sink.write(&[]).is_err());
-            assert_eq!(rt; sink.len(), kept - room);
+            assert!(rt; fails(&mut sink, size, room), "{size} {room}");
             let inner = sink.into_inner();
             assert_eq!(rt; inner.sink.bytes(), &FRAME[..room], "{size} {room}");
         }

@@ -70,6 +70,21 @@ fn pieces_of(size: usize, bytes: usize) -> usize {
     bytes.div_ceil(size.max(1))
 }
 
+/// How often the source was read when each of so many calls had been answered.
+fn counted<S: Source + Drop>(
+    alloc: Global,
+    intake: &mut Intake<S>,
+    reads: &Cell<usize>,
+    calls: usize,
+) -> Result<Vec<usize>, Fail> {
+    let mut counts = Vec::new(alloc);
+    for _ in 0..calls {
+        let _ = intake.next();
+        counts.push(reads.get())?;
+    }
+    Ok(counts)
+}
+
 /// How often the source was read when each of so many calls had been answered. It gives at most `first` bytes in the
 /// first read, and `piece` in each later one.
 fn reads_by_call(
@@ -80,12 +95,7 @@ fn reads_by_call(
 ) -> Result<Vec<usize>, Fail> {
     let reads = Cell::new(0);
     let mut intake = watching(alloc, bytes, first, piece, &reads)?;
-    let mut counts = Vec::new(alloc);
-    for _ in 0..calls {
-        let _ = intake.next();
-        counts.push(reads.get())?;
-    }
-    Ok(counts)
+    counted(alloc, &mut intake, &reads, calls)
 }
 
 #[test]
@@ -128,20 +138,31 @@ fn a_request_in_two_reads(rt: HostRuntime) -> Result<(), Fail> {
     Ok(())
 }
 
+/// What an intake answers next.
+fn answer(intake: &mut Intake<ListSource>) -> &'static str {
+    match intake.next() {
+        Next::Unit(_) => "unit;",
+        Next::End => "end;",
+        Next::Fault(_) => "fault;",
+        Next::ReadFailed => "read failed;",
+        Next::OutOfMemory => "out of memory;",
+    }
+}
+
 /// What an intake answers to so many calls.
-fn answers(alloc: Global, source: ListSource, calls: usize) -> Result<String, Fail> {
-    let mut intake = Intake::new(alloc, source);
+fn answers(alloc: Global, intake: &mut Intake<ListSource>, calls: usize) -> Result<String, Fail> {
     let mut out = String::new(alloc);
     for _ in 0..calls {
-        match intake.next() {
-            Next::Unit(_) => out.push_str("unit;")?,
-            Next::End => out.push_str("end;")?,
-            Next::Fault(_) => out.push_str("fault;")?,
-            Next::ReadFailed => out.push_str("read failed;")?,
-            Next::OutOfMemory => out.push_str("out of memory;")?,
-        }
+        out.push_str(answer(intake))?;
     }
     Ok(out)
+}
+
+/// What an intake of a stream, whose source fails at a place, answers to five calls.
+fn five_answers(alloc: Global, stream: &[u8], fail_at: Option<usize>) -> Result<String, Fail> {
+    let source = ListSource::new(Vec::from_slice(alloc, stream)?, 3, fail_at);
+    let mut intake = Intake::new(alloc, source);
+    answers(alloc, &mut intake, 5)
 }
 
 /// A stream, the place at which its source fails, and what an intake answers to five calls.
@@ -158,8 +179,7 @@ const ANSWERS: [(&[u8], Option<usize>, &str); 3] = [
 #[test]
 fn an_intake_answers_for_good(rt: HostRuntime) -> Result<(), Fail> {
     for (stream, fail_at, want) in ANSWERS {
-        let source = ListSource::new(Vec::from_slice(rt.alloc(), stream)?, 3, fail_at);
-        assert_eq!(rt; answers(rt.alloc(), source, 5)?.as_str(), want);
+        assert_eq!(rt; five_answers(rt.alloc(), stream, fail_at)?.as_str(), want);
     }
     Ok(())
 }
@@ -188,6 +208,12 @@ fn a_reader_holds_no_more_than_waits(rt: HostRuntime) -> Result<(), Fail> {
     Ok(())
 }
 
+/// The units of a piece.
+fn units_of(alloc: Global, piece: &[u8]) -> Result<Vec<Unit>, Fail> {
+    let mut reader = Reader::new(alloc);
+    Ok(reader.feed(piece)?.units)
+}
+
 /// The room of a unit's body or data.
 fn unit_room(unit: Unit) -> usize {
     match unit {
@@ -200,13 +226,18 @@ fn unit_room(unit: Unit) -> usize {
 fn a_unit_keeps_no_room_of_its_piece(rt: HostRuntime) -> Result<(), Fail> {
     let mut piece = Vec::from_elem(rt.alloc(), b'\n', 100_000)?;
     piece.extend_from_slice(b"$\x00\x00\x03abcOPTIONS * RTSP/1.0\r\nContent-Length: 2\r\n\r\nab")?;
-    let mut reader = Reader::new(rt.alloc());
-    let units = reader.feed(piece.as_slice())?.units;
+    let units = units_of(rt.alloc(), piece.as_slice())?;
     assert_eq!(rt; units.len(), 2);
     for unit in units {
         assert!(rt; unit_room(unit) <= 3);
     }
     Ok(())
+}
+
+/// Whether an intake answers a unit next, and what is left then.
+fn left_behind(intake: &mut Intake<ListSource>) -> (bool, u64) {
+    let is_unit = matches!(&intake.next(), Next::Unit(_));
+    (is_unit, intake.left())
 }
 
 #[test]
@@ -215,10 +246,8 @@ fn each_unit_is_one_less(rt: HostRuntime) -> Result<(), Fail> {
     let bytes = Vec::from_slice(alloc, b"$\x00\x00\x00$\x00\x00\x00$\x00\x00")?;
     let mut intake = Intake::new(alloc, ListSource::new(bytes, 20, None));
     // The first unit is read with all the bytes: one unit more is read, and three bytes wait.
-    for (frame, left) in [(true, 4), (true, 3), (false, 3)] {
-        let next = intake.next();
-        assert_eq!(rt; matches!(&next, Next::Unit(_)), frame, "{left}");
-        assert_eq!(rt; intake.left(), left);
+    for want in [(true, 4), (true, 3), (false, 3)] {
+        assert_eq!(rt; left_behind(&mut intake), want);
     }
     Ok(())
 }

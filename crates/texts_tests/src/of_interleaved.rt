@@ -58,13 +58,12 @@ fn takes(alloc: Global, room: usize) -> Result<bool, Fail> {
         Ok(())
     };
     let is_cut = room < 7;
-    Ok(
-        all == want
-            && sink.has_failed() == is_cut
-            && sink.write(b"").is_err() == is_cut
-            && sink.bytes() == &b"OPTIONS"[..room.min(7)]
-            && sink.into_vec().len() == room.min(7),
-    )
+    let is_taken = all == want
+        && sink.has_failed() == is_cut
+        && sink.write(b"").is_err() == is_cut
+        && sink.bytes() == &b"OPTIONS"[..room.min(7)];
+    let count = sink.into_vec().len();
+    Ok(is_taken && count == room.min(7))
 }
 
 #[test]

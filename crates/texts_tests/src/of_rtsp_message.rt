@@ -1,8 +1,6 @@
 //! Replies with every field, copies of messages, and what is said of faults.
 use base_syntax::Bytes;
-use rtsp_message::{
-    ByteClass, Fault, Fields, Header, Headers, Reader, Reply, Request, Status, put_reply,
-};
+use rtsp_message::{ByteClass, Fault, Fields, Reader, Reply, Request, Status, Unit, put_reply};
 use std::alloc::Global;
 use std::test::Fail;
 
@@ -28,30 +26,23 @@ fn all_fields(alloc: Global) -> Fields {
     }
 }
 
-/// What a reply with these adds to a text.
-fn replied(
-    alloc: Global,
-    status: Status,
-    cseq: Option<u32>,
-    fields: Fields,
-    body: &[u8],
-) -> Result<Vec<u8>, Fail> {
-    let body = text(alloc, body)?;
-    let reply = Reply {
-        status,
-        cseq,
-        fields,
-        body,
-    };
+/// What a reply adds to a text.
+fn replied(alloc: Global, reply: &Reply) -> Result<Vec<u8>, Fail> {
     let mut out = Vec::from_slice(alloc, b"-")?;
-    put_reply(&mut out, &reply)?;
+    put_reply(&mut out, reply)?;
     Ok(out)
 }
 
 #[test]
 fn a_reply_has_its_fields_in_order(rt: HostRuntime) -> Result<(), Fail> {
-    let fields = all_fields(rt.alloc());
-    let out = replied(rt.alloc(), Status::Ok, Some(12), fields, b"body")?;
+    let body = text(rt.alloc(), b"body")?;
+    let reply = Reply {
+        status: Status::Ok,
+        cseq: Some(12),
+        fields: all_fields(rt.alloc()),
+        body,
+    };
+    let out = replied(rt.alloc(), &reply)?;
     let want =
         b"-RTSP/1.0 200 OK\r\nCSeq: 12\r\nSession: 0\r\nPublic: P\r\nAllow: A\r\nUnsupported: \r\nTransport: T\r\nRTP-Info: R\r\nContent-Base: B/\r\nContent-Type: C\r\nContent-Length: 4\r\n\r\nbody";
     assert_eq!(rt; out.as_slice(), want.as_slice());
@@ -89,39 +80,44 @@ fn a_reader_tells_its_fault(rt: HostRuntime) -> Result<(), Fail> {
     Ok(())
 }
 
+/// The request that a text is.
+fn request_of(alloc: Global, text: &[u8]) -> Result<Request, Fail> {
+    let mut units = Reader::new(alloc).feed(text)?.units;
+    match units.pop() {
+        Some(Unit::Message(request)) => Ok(request),
+        _ => Err(Fail::from("a request")),
+    }
+}
+
+/// Whether a request is PLAY with a session and a body.
+fn is_play(request: &Request) -> bool {
+    let session = request.header(b"session").map(|value| value.as_slice());
+    request.method.as_slice() == b"PLAY".as_slice()
+        && request.cseq == Some(7)
+        && session == Some(b"12".as_slice())
+        && request.body.as_slice() == b"b".as_slice()
+}
+
 #[test]
 fn a_request_is_copied_whole(rt: HostRuntime) -> Result<(), Fail> {
-    let alloc = rt.alloc();
-    let mut headers = Headers::empty(alloc);
-    headers.push(Header {
-        name: text(alloc, b"Session")?,
-        value: text(alloc, b"12")?,
-    })?;
-    let request = Request {
-        method: text(alloc, b"PLAY")?,
-        uri: text(alloc, b"rtsp://h/cam")?,
-        version: text(alloc, b"RTSP/1.0")?,
-        cseq: Some(7),
-        headers,
-        body: text(alloc, b"b")?,
-    };
-    let copied = request.copy(alloc)?;
-    let session = copied.header(b"session").map(|value| value.as_slice());
-    assert!(rt; copied.method.as_slice() == b"PLAY".as_slice() && copied.cseq == Some(7));
-    assert!(rt; session == Some(b"12".as_slice()) && copied.body.as_slice() == b"b".as_slice());
+    let text =
+        b"PLAY rtsp://h/cam RTSP/1.0\r\nCSeq: 7\r\nSession: 12\r\nContent-Length: 1\r\n\r\nb";
+    let request = request_of(rt.alloc(), text)?;
+    let copied = request.copy(rt.alloc())?;
+    assert!(rt; is_play(&copied));
     Ok(())
 }
 
 #[test]
 fn a_reply_is_copied_whole(rt: HostRuntime) -> Result<(), Fail> {
-    let alloc = rt.alloc();
+    let body = text(rt.alloc(), b"b")?;
     let reply = Reply {
         status: Status::NotFound,
         cseq: None,
         fields: Fields::none(),
-        body: text(alloc, b"b")?,
+        body,
     };
-    let copied = reply.copy(alloc)?;
+    let copied = reply.copy(rt.alloc())?;
     assert!(rt; copied.status == Status::NotFound && copied.body.as_slice() == b"b".as_slice());
     Ok(())
 }

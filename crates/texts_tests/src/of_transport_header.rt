@@ -42,31 +42,48 @@ fn beginning(alloc: Global) -> Result<Vec<u8>, Fail> {
     Ok(Vec::from_slice(alloc, b"> ")?)
 }
 
+fn with_transport(alloc: Global, chosen: &Chosen) -> Result<Vec<u8>, Fail> {
+    let mut out = beginning(alloc)?;
+    put_transport(&mut out, chosen)?;
+    Ok(out)
+}
+
+fn with_session(alloc: Global, number: u32, word: u32) -> Result<Vec<u8>, Fail> {
+    let mut out = beginning(alloc)?;
+    put_session(&mut out, number, word)?;
+    Ok(out)
+}
+
+/// Behind no entry, and behind one.
+fn with_rtp_info(alloc: Global, entry: InfoEntry) -> Result<Vec<u8>, Fail> {
+    let mut out = beginning(alloc)?;
+    put_rtp_info(&mut out, &[])?;
+    put_rtp_info(&mut out, &[entry])?;
+    Ok(out)
+}
+
 #[test]
 fn texts_are_appended(rt: HostRuntime) -> Result<(), Fail> {
     let alloc = rt.alloc();
-    let mut out = beginning(alloc)?;
     let chosen = Chosen {
         rtp: 255,
         rtcp: 0,
         recording: true,
     };
-    put_transport(&mut out, &chosen)?;
     let want = b"> RTP/AVP/TCP;unicast;interleaved=255-0;mode=\"RECORD\"";
-    assert_eq!(rt; out.as_slice(), want.as_slice());
-    let mut out = beginning(alloc)?;
-    put_session(&mut out, 1, 0x0000_abcd)?;
-    assert_eq!(rt; out.as_slice(), b"> 000000010000abcd".as_slice());
-    let mut out = beginning(alloc)?;
-    let entries = [InfoEntry {
+    assert_eq!(rt; with_transport(alloc, &chosen)?.as_slice(), want.as_slice());
+    let want = b"> 000000010000abcd";
+    assert_eq!(rt;
+        with_session(alloc, 1, 0x0000_abcd)?.as_slice(),
+        want.as_slice()
+    );
+    let entry = InfoEntry {
         url: Bytes::from_slice(alloc, b"U/trackID=0")?,
         sequence: 65535,
         timestamp: 9000,
-    }];
-    put_rtp_info(&mut out, &[])?;
-    put_rtp_info(&mut out, &entries)?;
+    };
     let want = b"> url=U/trackID=0;seq=0;rtptime=9000";
-    assert_eq!(rt; out.as_slice(), want.as_slice());
+    assert_eq!(rt; with_rtp_info(alloc, entry)?.as_slice(), want.as_slice());
     Ok(())
 }
 
