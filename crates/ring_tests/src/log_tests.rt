@@ -6,7 +6,7 @@ use cursor::{
     pump,
 };
 use std::alloc::{AllocError, Global};
-use std::test::Fail;
+use std::process::Abort;
 
 /// A packet with tag 0.
 fn packet(alloc: Global, bytes: &[u8]) -> Result<Packet, AllocError>
@@ -17,40 +17,41 @@ fn packet(alloc: Global, bytes: &[u8]) -> Result<Packet, AllocError>
 }
 
 /// A tap of the one seat of a log, attached before each of these bytes was published as a packet, so many times.
-fn tap_behind(alloc: Global, keep: u64, packets: &[&[u8]], times: usize) -> Result<PlainTap, Fail> {
-    let mut log = PlainLog::new(alloc, keep, 1, 65_535)?;
+fn tap_behind(
+    rt: &impl Abort,
+    alloc: Global,
+    keep: u64,
+    packets: &[&[u8]],
+    times: usize,
+) -> PlainTap {
+    let mut log = PlainLog::new(alloc, keep, 1, 65_535).expect(rt, "memory");
     log.attach(0);
     for _ in 0..times {
         for bytes in packets {
-            publish(&mut log, bytes)?;
+            publish(rt, &mut log, bytes);
         }
     }
-    if log.is_attached(0) {
-        Ok(PlainTap::new(log, 0))
-    } else {
-        Err("a seat that is attached".into())
-    }
+    assert!(rt; log.is_attached(0));
+    PlainTap::new(log, 0)
 }
 
 /// Publishes a packet with tag 1.
-fn publish(log: &mut PlainLog, bytes: &[u8]) -> Result<(), Fail> {
-    if log.is_closed() {
-        return Err("an open log".into());
-    }
-    let _ = log.publish(1, bytes)?;
-    Ok(())
+fn publish(rt: &impl Abort, log: &mut PlainLog, bytes: &[u8]) {
+    assert!(rt; !log.is_closed());
+    let _ = log.publish(1, bytes).expect(rt, "memory");
 }
 
 /// Pumps at most so many packets.
 fn pumped<T: Tap>(
+    rt: &impl Abort,
     alloc: Global,
     tap: &mut T,
     count: u64,
     out: &mut Vec<Packet>,
-) -> Result<Account, Fail> {
+) -> Account {
     match pump(alloc, tap, count, out) {
-        Ok(account) => Ok(account),
-        Err(_) => Err("room for a packet".into()),
+        Ok(account) => account,
+        Err(_) => panic!(rt; "room for a packet"),
     }
 }
 
@@ -64,36 +65,33 @@ fn publish_two<F: Feed>(
 }
 
 #[test]
-fn a_feed_takes_packets_up_to_its_bound(rt: HostRuntime) -> Result<(), Fail> {
-    let mut feed = PlainFeed::new(PlainLog::new(rt.alloc(), 2, 1, 3)?);
+fn a_feed_takes_packets_up_to_its_bound(rt: HostRuntime) {
+    let mut feed = PlainFeed::new(PlainLog::new(rt.alloc(), 2, 1, 3).expect(&rt, "memory"));
     assert_eq!(rt; feed.packet_bytes(), 3);
     let (short, long) = publish_two(&mut feed, &[1, 2, 3], &[1, 2, 3, 4]);
-    assert_eq!(rt; short?, 0);
+    assert!(rt; short == Ok(0));
     assert_eq!(rt; long.map_or_else(Refused::number, |_| 0), 2);
     let log = feed.into_log();
     assert!(rt; log.is_free(0) && !log.is_closed());
-    Ok(())
 }
 
 #[test]
-fn a_feed_is_closed(rt: HostRuntime) -> Result<(), Fail> {
-    PlainFeed::new(PlainLog::new(rt.alloc(), 2, 0, 3)?).close();
-    Ok(())
+fn a_feed_is_closed(rt: HostRuntime) {
+    PlainFeed::new(PlainLog::new(rt.alloc(), 2, 0, 3).expect(&rt, "memory")).close();
 }
 
 #[test]
-fn a_pumped_packet_keeps_no_more_room_than_its_bytes(rt: HostRuntime) -> Result<(), Fail> {
-    let mut tap = tap_behind(rt.alloc(), 2, &[b"abc"], 1)?;
+fn a_pumped_packet_keeps_no_more_room_than_its_bytes(rt: HostRuntime) {
+    let mut tap = tap_behind(&rt, rt.alloc(), 2, &[b"abc"], 1);
     let mut out = Vec::new(rt.alloc());
-    let _ = pumped(rt.alloc(), &mut tap, 1, &mut out)?;
-    let bytes = out.pop().ok_or("a packet")?.bytes.into_vec();
+    let _ = pumped(&rt, rt.alloc(), &mut tap, 1, &mut out);
+    let bytes = out.pop().expect(&rt, "a packet").bytes.into_vec();
     assert_eq!(rt; bytes.as_slice(), b"abc".as_slice());
     assert!(rt; bytes.capacity() <= 3);
-    Ok(())
 }
 
 /// A tap over packet 3, a loss of four, packet 8, and nothing more to take.
-fn listed(alloc: Global) -> Result<ListTap, Fail> {
+fn listed(alloc: Global) -> Result<ListTap, AllocError> {
     let mut list = Vec::with_capacity(alloc, 4)?;
     list.push(Delivery::Got {
         number: 3,
@@ -109,20 +107,19 @@ fn listed(alloc: Global) -> Result<ListTap, Fail> {
 }
 
 #[test]
-fn a_list_is_taken_and_then_ended(rt: HostRuntime) -> Result<(), Fail> {
-    let mut tap = listed(rt.alloc())?;
+fn a_list_is_taken_and_then_ended(rt: HostRuntime) {
+    let mut tap = listed(rt.alloc()).expect(&rt, "memory");
     let mut out = Vec::new(rt.alloc());
     // Three takes, and then up to the `Empty`.
-    let first = pumped(rt.alloc(), &mut tap, 3, &mut out)?;
-    let second = pumped(rt.alloc(), &mut tap, 9, &mut out)?;
+    let first = pumped(&rt, rt.alloc(), &mut tap, 3, &mut out);
+    let second = pumped(&rt, rt.alloc(), &mut tap, 9, &mut out);
     assert_eq!(rt; (first.taken, first.lost, second), (2, 4, first));
     assert_eq!(rt; (tap.packet_bytes(), tap.cursor()), (2, 9));
     assert_eq!(rt; tap.take(&mut [0; 2]), Taken::Ended);
-    Ok(())
 }
 
 #[test]
-fn a_refusal_has_its_number_and_words(rt: HostRuntime) -> Result<(), Fail> {
+fn a_refusal_has_its_number_and_words(rt: HostRuntime) {
     let alloc = rt.alloc();
     let refusals = [
         (Refused::Pinned { pins: 3 }, 1, "pinned by 3"),
@@ -131,9 +128,8 @@ fn a_refusal_has_its_number_and_words(rt: HostRuntime) -> Result<(), Fail> {
         (Refused::OutOfMemory, 4, "out of memory"),
     ];
     for (refused, number, text) in refusals {
-        let written = refused.to_string(alloc)?;
+        let written = refused.to_string(alloc).expect(&rt, "memory");
         assert_eq!(rt; written.as_str(), text);
         assert_eq!(rt; refused.number(), number);
     }
-    Ok(())
 }

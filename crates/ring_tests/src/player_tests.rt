@@ -7,7 +7,7 @@ use cursor::{Account, Delivery, ListTap, Packet, PlainLog, PlainTap, Tap};
 use interleaved::{Failed, Gathering, ListSink, Sink};
 use player::{OutReport, OutStop, relay_out};
 use std::alloc::{AllocError, Global};
-use std::test::Fail;
+use std::process::Abort;
 use transport_header::{ChannelPair, TrackChannels};
 
 /// The frame of the bytes `aa bb` on channel 4.
@@ -44,18 +44,23 @@ fn row_frames_out(alloc: Global) -> Result<ListTap, AllocError> {
 }
 
 /// Relays the row into a sink of so much room.
-fn relay_row(alloc: Global, room: usize, n: u64) -> Result<(OutReport, ListSink, Account), Fail> {
-    let mut tap = row_frames_out(alloc)?;
-    let mut sink = ListSink::new(alloc, room)?;
+fn relay_row(
+    rt: &impl Abort,
+    alloc: Global,
+    room: usize,
+    n: u64,
+) -> (OutReport, ListSink, Account) {
+    let mut tap = row_frames_out(alloc).expect(rt, "memory");
+    let mut sink = ListSink::new(alloc, room).expect(rt, "memory");
     let channels = one_track(4, 5);
     let mut buf = [0; 65_535];
     let most = tap.packet_bytes();
     let report = relay_out(&mut tap, &mut sink, &channels, n, &mut buf[..most]);
-    Ok((report, sink, tap.account()))
+    (report, sink, tap.account())
 }
 
 #[test]
-fn row_frames_out_in_any_number_of_takes(rt: HostRuntime) -> Result<(), Fail> {
+fn row_frames_out_in_any_number_of_takes(rt: HostRuntime) {
     let cases = [
         (0, 0, 0, 0, OutStop::Done),
         (1, 1, 0, 0, OutStop::Done),
@@ -66,7 +71,7 @@ fn row_frames_out_in_any_number_of_takes(rt: HostRuntime) -> Result<(), Fail> {
         (16, 1, 1, 4, OutStop::Empty),
     ];
     for (n, sent, skipped, lost, stop) in cases {
-        let (report, sink, account) = relay_row(rt.alloc(), 100, n)?;
+        let (report, sink, account) = relay_row(&rt, rt.alloc(), 100, n);
         let want = OutReport {
             sent,
             skipped,
@@ -83,13 +88,12 @@ fn row_frames_out_in_any_number_of_takes(rt: HostRuntime) -> Result<(), Fail> {
         let len = if sent == 1 { FRAME.len() } else { 0 };
         assert_eq!(rt; sink.bytes(), &FRAME[..len], "{n}");
     }
-    Ok(())
 }
 
 #[test]
-fn row_frames_out_cut_at_each_byte(rt: HostRuntime) -> Result<(), Fail> {
+fn row_frames_out_cut_at_each_byte(rt: HostRuntime) {
     for cut in 0..6 {
-        let (report, sink, _) = relay_row(rt.alloc(), cut, 9)?;
+        let (report, sink, _) = relay_row(&rt, rt.alloc(), cut, 9);
         let want = OutReport {
             sent: 0,
             skipped: 0,
@@ -101,33 +105,25 @@ fn row_frames_out_cut_at_each_byte(rt: HostRuntime) -> Result<(), Fail> {
         assert_eq!(rt; sink.bytes(), &FRAME[..cut], "{cut}");
         assert!(rt; sink.has_failed());
     }
-    Ok(())
 }
 
 /// A tap of the one seat of a closed log that keeps so many packets, attached before packets of two bytes with these
 /// tags were published.
-fn tap_behind(alloc: Global, keep: u64, tags: &[u8]) -> Result<PlainTap, Fail> {
-    let mut log = PlainLog::new(alloc, keep, 1, 2)?;
+fn tap_behind(rt: &impl Abort, alloc: Global, keep: u64, tags: &[u8]) -> PlainTap {
+    let mut log = PlainLog::new(alloc, keep, 1, 2).expect(rt, "memory");
     log.attach(0);
     for tag in tags {
-        if log.is_closed() {
-            return Err("an open log".into());
-        }
-        let _ = log.publish(*tag, &[7, *tag])?;
+        assert!(rt; !log.is_closed());
+        let _ = log.publish(*tag, &[7, *tag]).expect(rt, "memory");
     }
-    if log.is_closed() {
-        return Err("an open log".into());
-    }
+    assert!(rt; !log.is_closed());
     log.close();
-    if log.is_attached(0) {
-        Ok(PlainTap::new(log, 0))
-    } else {
-        Err("a seat that is attached".into())
-    }
+    assert!(rt; log.is_attached(0));
+    PlainTap::new(log, 0)
 }
 
 #[test]
-fn a_plain_log_goes_out(rt: HostRuntime) -> Result<(), Fail> {
+fn a_plain_log_goes_out(rt: HostRuntime) {
     let out = [0x24, 9, 0, 2, 7, 0, 0x24, 200, 0, 2, 7, 1];
     let cases = [
         (0, 0, 0, OutStop::Done),
@@ -137,8 +133,8 @@ fn a_plain_log_goes_out(rt: HostRuntime) -> Result<(), Fail> {
         (16, 2, 1, OutStop::Ended),
     ];
     for (n, sent, lost, stop) in cases {
-        let mut tap = tap_behind(rt.alloc(), 2, &[0, 0, 1])?;
-        let mut sink = ListSink::new(rt.alloc(), 100)?;
+        let mut tap = tap_behind(&rt, rt.alloc(), 2, &[0, 0, 1]);
+        let mut sink = ListSink::new(rt.alloc(), 100).expect(&rt, "memory");
         let mut buf = [0; 65_535];
         let most = tap.packet_bytes();
         let channels = one_track(9, 200);
@@ -160,22 +156,27 @@ fn a_plain_log_goes_out(rt: HostRuntime) -> Result<(), Fail> {
         };
         assert_eq!(rt; sink.bytes(), out.get(..len).unwrap_or(&[]), "{n}");
     }
-    Ok(())
+}
+
+/// Two losses whose sum is nearly the most that a count holds, and a packet.
+fn large_losses(alloc: Global) -> Result<ListTap, AllocError> {
+    let mut list = Vec::with_capacity(alloc, 3)?;
+    list.push(Delivery::Lost(u64::MAX - 2))?;
+    list.push(Delivery::Lost(1))?;
+    list.push(got(alloc, u64::MAX - 1, 1, &[0xaa, 0xbb])?)?;
+    Ok(ListTap::new(list, 0, 2))
 }
 
 #[test]
-fn losses_of_any_size_are_added(rt: HostRuntime) -> Result<(), Fail> {
-    let mut list = Vec::with_capacity(rt.alloc(), 3)?;
-    list.push(Delivery::Lost(u64::MAX - 2))?;
-    list.push(Delivery::Lost(1))?;
-    list.push(got(rt.alloc(), u64::MAX - 1, 1, &[0xaa, 0xbb])?)?;
-    let mut tap = ListTap::new(list, 0, 2);
-    let mut sink = ListSink::new(rt.alloc(), 6)?;
+fn losses_of_any_size_are_added(rt: HostRuntime) {
+    let mut tap = large_losses(rt.alloc()).expect(&rt, "memory");
+    let mut sink = ListSink::new(rt.alloc(), 6).expect(&rt, "memory");
     let channels = one_track(5, 4);
-    let report = relay_out(&mut tap, &mut sink, &channels, 3, &mut [0; 2]);
+    let mut buf = [0; 65_535];
+    let most = tap.packet_bytes();
+    let report = relay_out(&mut tap, &mut sink, &channels, 3, &mut buf[..most]);
     assert_eq!(rt; (report.sent, report.lost), (1, u64::MAX - 1));
     assert_eq!(rt; sink.bytes(), FRAME.as_slice());
-    Ok(())
 }
 
 /// A sink in memory that counts the writes that it takes.
@@ -202,13 +203,16 @@ impl Sink for Counting {
 }
 
 #[test]
-fn frames_are_gathered(rt: HostRuntime) -> Result<(), Fail> {
+fn frames_are_gathered(rt: HostRuntime) {
     // The size of the buffer, and the writes of sixteen frames of six bytes: on its own each is its head and its data.
     for (size, writes) in [(0, 32), (6, 16), (32, 3), (96, 1), (100, 1)] {
-        let mut tap = tap_behind(rt.alloc(), 16, &[0; 16])?;
-        let sink = ListSink::new(rt.alloc(), 96)?;
+        let mut tap = tap_behind(&rt, rt.alloc(), 16, &[0; 16]);
+        let sink = ListSink::new(rt.alloc(), 96).expect(&rt, "memory");
         let inner = Counting { sink, writes: 0 };
-        let mut sink = Gathering::new(inner, vec![in rt.alloc(); 0; size]?);
+        let mut sink = Gathering::new(
+            inner,
+            Vec::from_elem(rt.alloc(), 0, size).expect(&rt, "memory"),
+        );
         let mut buf = [0; 65_535];
         let most = tap.packet_bytes();
         let channels = one_track(4, 5);
@@ -221,5 +225,4 @@ fn frames_are_gathered(rt: HostRuntime) -> Result<(), Fail> {
             bytes.len() == 96 && frames.all(|frame| frame == [0x24, 4, 0, 2, 7, 0].as_slice())
         );
     }
-    Ok(())
 }

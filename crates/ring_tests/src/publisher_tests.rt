@@ -1,5 +1,5 @@
 //! Frames that come in and are published.
-ghost use Rattle.std.specs.Prelude.{None, ⊤};
+ghost use Rattle.std.specs.Prelude.{◌≤◌, None, ⊤};
 
 use cursor::{Feed, Packet, PlainFeed, PlainLog, PlainTap, Refused, pump};
 use interleaved::{Failed, ListSource, Source};
@@ -7,7 +7,7 @@ use publisher::{InReport, InStop, is_rtp, point_of, relay_in};
 use rtsp_message::Intake;
 use std::alloc::Global;
 use std::cell::Cell;
-use std::test::Fail;
+use std::process::Abort;
 use transport_header::{ChannelPair, Point, TrackChannels};
 
 /// An RTP packet of twelve bytes: number 7, timestamp 9000.
@@ -151,44 +151,60 @@ fn told(report: &InReport) -> ([u64; 7], &'static str) {
 }
 
 /// The first so many bytes of a frame's data: an RTP packet, whose first byte is this one.
-fn put_rtp(stream: &mut Vec<u8>, channel: u8, first: u8, len: u8) -> Result<(), Fail> {
-    stream.extend_from_slice(&[0x24, channel, 0, len])?;
+fn put_rtp(rt: &impl Abort, stream: &mut Vec<u8>, channel: u8, first: u8, len: u8) {
+    stream
+        .extend_from_slice(&[0x24, channel, 0, len])
+        .expect(rt, "memory");
     for at in 0..len {
         let byte = if at == 0 {
             first
         } else {
             *RTP.get(usize::from(at)).unwrap_or(&0)
         };
-        stream.push(byte)?;
+        stream.push(byte).expect(rt, "memory");
     }
-    Ok(())
 }
 
 /// A feed of packets of at most twelve bytes, whose log has one seat that reads it from the start.
-fn logged(alloc: Global) -> Result<PlainFeed, Fail> {
-    let mut log = PlainLog::new(alloc, 9, 1, 12)?;
+fn logged(rt: &impl Abort, alloc: Global) -> PlainFeed {
+    let mut log = PlainLog::new(alloc, 9, 1, 12).expect(rt, "memory");
     log.attach(0);
-    if log.is_closed() {
-        return Err("an open log".into());
-    }
-    Ok(PlainFeed::new(log))
+    assert!(rt; !log.is_closed());
+    PlainFeed::new(log)
+}
+
+/// A feed of packets of at most so many bytes, whose log has no seat.
+fn seatless(rt: &impl Abort, alloc: Global, packet_bytes: usize) -> PlainFeed
+    requires { packet_bytes ≤ 65535 }
+{
+    PlainFeed::new(PlainLog::new(alloc, 9, 0, packet_bytes).expect(rt, "memory"))
 }
 
 /// The packets that were published.
-fn packets_of(alloc: Global, feed: PlainFeed) -> Result<Vec<Packet>, Fail> {
+fn packets_of(rt: &impl Abort, alloc: Global, feed: PlainFeed) -> Vec<Packet> {
     let log = feed.into_log();
-    if !log.is_attached(0) {
-        return Err("a seat that is attached".into());
-    }
+    assert!(rt; log.is_attached(0));
     let mut packets = Vec::new(alloc);
-    match pump(alloc, &mut PlainTap::new(log, 0), 99, &mut packets) {
-        Ok(_) => Ok(packets),
-        Err(_) => Err("room for a packet".into()),
+    let pumped = pump(alloc, &mut PlainTap::new(log, 0), 99, &mut packets);
+    assert!(rt; pumped.is_ok());
+    packets
+}
+
+/// Whether these are the two packets of the row.
+fn are_of_the_row(packets: &[Packet]) -> bool {
+    match packets {
+        [first, second] => {
+            first.tag == 0
+                && first.bytes.as_slice() == RTP.as_slice()
+                && second.tag == 1
+                && second.bytes.as_slice().is_empty()
+        }
+        _ => false,
     }
 }
 
 #[test]
-fn row_frames_in(rt: HostRuntime) -> Result<(), Fail> {
+fn row_frames_in(rt: HostRuntime) {
     let alloc = rt.alloc();
     let mut stream = Vec::new(alloc);
     // The channel, the first byte and the length of each frame.
@@ -204,38 +220,34 @@ fn row_frames_in(rt: HostRuntime) -> Result<(), Fail> {
         (0, 0x80, 0),
     ];
     for (channel, first, len) in frames {
-        put_rtp(&mut stream, channel, first, len)?;
+        put_rtp(&rt, &mut stream, channel, first, len);
     }
-    let mut feed = logged(alloc)?;
+    let mut feed = logged(&rt, alloc);
     let mut points = NO_POINTS;
     let channels = set_up(&[(0, 0, 1)]);
     let report = relay(alloc, stream, None, &mut feed, &channels, &mut points);
     assert_eq!(rt; told(&report), ([2, 0, 2, 0, 0, 4, 1], "end"));
     assert!(rt; points[0] == Some(point(7)) && points[1] == None);
-    let packets = packets_of(alloc, feed)?;
-    let [first, second] = packets.as_slice() else {
-        return Err("two packets".into());
-    };
-    assert!(rt; first.tag == 0 && first.bytes.as_slice() == RTP.as_slice());
-    assert!(rt; second.tag == 1 && second.bytes.as_slice().is_empty());
-    Ok(())
+    let packets = packets_of(&rt, alloc, feed);
+    assert!(rt; are_of_the_row(packets.as_slice()));
 }
 
 /// Appends an RTP packet of twelve bytes with this number as a frame on the channel.
-fn put_numbered(stream: &mut Vec<u8>, channel: u8, number: u8) -> Result<(), Fail> {
-    stream.extend_from_slice(&[0x24, channel, 0, 12, 0x80, 0x60, 0, number])?;
-    stream.extend_from_slice(&RTP[4..])?;
-    Ok(())
+fn put_numbered(rt: &impl Abort, stream: &mut Vec<u8>, channel: u8, number: u8) {
+    stream
+        .extend_from_slice(&[0x24, channel, 0, 12, 0x80, 0x60, 0, number])
+        .expect(rt, "memory");
+    stream.extend_from_slice(&RTP[4..]).expect(rt, "memory");
 }
 
 #[test]
-fn each_channel_is_that_of_its_own_track(rt: HostRuntime) -> Result<(), Fail> {
+fn each_channel_is_that_of_its_own_track(rt: HostRuntime) {
     let alloc = rt.alloc();
     let mut stream = Vec::new(alloc);
     for channel in 0..=255 {
-        put_numbered(&mut stream, channel, channel)?;
+        put_numbered(&rt, &mut stream, channel, channel);
     }
-    let mut feed = logged(alloc)?;
+    let mut feed = logged(&rt, alloc);
     let mut points = NO_POINTS;
     // Two tracks, whose channels come in odd order.
     let channels = set_up(&[(0, 6, 8), (1, 7, 5)]);
@@ -244,7 +256,7 @@ fn each_channel_is_that_of_its_own_track(rt: HostRuntime) -> Result<(), Fail> {
     assert!(rt; points[0] == Some(point(6)) && points[1] == Some(point(7)) && points[2] == None);
     // RTCP of the second track, RTP of the first and of the second, and RTCP of the first.
     let want = [(3, 5), (0, 6), (2, 7), (1, 8)];
-    let packets = packets_of(alloc, feed)?;
+    let packets = packets_of(&rt, alloc, feed);
     assert_eq!(rt; packets.len(), want.len());
     for (packet, (tag, number)) in packets.iter().zip(want) {
         assert_eq!(rt;
@@ -252,17 +264,16 @@ fn each_channel_is_that_of_its_own_track(rt: HostRuntime) -> Result<(), Fail> {
             (tag, Some(&number))
         );
     }
-    Ok(())
 }
 
 #[test]
-fn each_answer_of_a_feed_is_counted(rt: HostRuntime) -> Result<(), Fail> {
+fn each_answer_of_a_feed_is_counted(rt: HostRuntime) {
     let alloc = rt.alloc();
     let mut stream = Vec::new(alloc);
     for number in 0..8 {
-        put_numbered(&mut stream, 6, number)?;
+        put_numbered(&rt, &mut stream, 6, number);
     }
-    put_rtp(&mut stream, 6, 0x80, 13)?;
+    put_rtp(&rt, &mut stream, 6, 0x80, 13);
     let published = Cell::new(0);
     let mut feed = Answering {
         refusals: [
@@ -279,15 +290,14 @@ fn each_answer_of_a_feed_is_counted(rt: HostRuntime) -> Result<(), Fail> {
     let report = relay(alloc, stream, None, &mut feed, &channels, &mut points);
     assert_eq!(rt; told(&report), ([2, 2, 1, 2, 2, 0, 0], "end"));
     assert!(rt; points[0] == None && points[1] == Some(point(4)));
-    Ok(())
 }
 
 #[test]
-fn each_frame_is_offered_before_more_is_read(rt: HostRuntime) -> Result<(), Fail> {
+fn each_frame_is_offered_before_more_is_read(rt: HostRuntime) {
     for piece in [1, 15, 16, 17, 40, 100] {
         let mut stream = Vec::new(rt.alloc());
         for number in 0..5 {
-            put_numbered(&mut stream, 0, number)?;
+            put_numbered(&rt, &mut stream, 0, number);
         }
         let published = Cell::new(0);
         let late = Cell::new(false);
@@ -313,7 +323,6 @@ fn each_frame_is_offered_before_more_is_read(rt: HostRuntime) -> Result<(), Fail
             "{piece}"
         );
     }
-    Ok(())
 }
 
 /// The frames that were published or that there was no memory for.
@@ -322,13 +331,13 @@ fn published_or_unkept(report: &InReport) -> u64 {
 }
 
 #[test]
-fn no_frame_is_lost_where_memory_is_refused(rt: HostRuntime) -> Result<(), Fail> {
+fn no_frame_is_lost_where_memory_is_refused(rt: HostRuntime) {
     let alloc = rt.alloc();
     let mut stream = Vec::new(alloc);
     for number in 0..5 {
-        put_numbered(&mut stream, 0, number)?;
+        put_numbered(&rt, &mut stream, 0, number);
     }
-    let mut feed = logged(alloc)?;
+    let mut feed = logged(&rt, alloc);
     let mut points = NO_POINTS;
     let channels = set_up(&[(0, 0, 1)]);
     let _sixteen = channels.pair_of(0);
@@ -338,11 +347,10 @@ fn no_frame_is_lost_where_memory_is_refused(rt: HostRuntime) -> Result<(), Fail>
     let second = relay_in(&mut intake, &mut feed, &channels, &mut points);
     let all = published_or_unkept(&first).saturating_add(published_or_unkept(&second));
     assert_eq!(rt; (all, told(&second).1), (5, "end"));
-    Ok(())
 }
 
 #[test]
-fn each_stop(rt: HostRuntime) -> Result<(), Fail> {
+fn each_stop(rt: HostRuntime) {
     let alloc = rt.alloc();
     let frame = b"$\x01\x00\x01x".as_slice();
     // What stands behind the first frame, and where the source fails.
@@ -358,19 +366,18 @@ fn each_stop(rt: HostRuntime) -> Result<(), Fail> {
         (b"$\x01\x00\x02xy".as_slice(), Some(8), "read failed"),
     ];
     for (behind, fail_at, stop) in cases {
-        let mut stream = Vec::from_slice(alloc, frame)?;
-        stream.extend_from_slice(behind)?;
-        let mut feed = PlainFeed::new(PlainLog::new(alloc, 9, 0, 12)?);
+        let mut stream = Vec::from_slice(alloc, frame).expect(&rt, "memory");
+        stream.extend_from_slice(behind).expect(&rt, "memory");
+        let mut feed = seatless(&rt, alloc, 12);
         let mut points = NO_POINTS;
         let channels = set_up(&[(0, 0, 1)]);
         let report = relay(alloc, stream, fail_at, &mut feed, &channels, &mut points);
         assert_eq!(rt; told(&report), ([1, 0, 0, 0, 0, 0, 0], stop));
     }
-    Ok(())
 }
 
 #[test]
-fn rtp_packets_by_their_bytes(rt: HostRuntime) -> Result<(), Fail> {
+fn rtp_packets_by_their_bytes(rt: HostRuntime) {
     let mut packet = [0; 72];
     // The first byte, and how long a packet that begins with it is at least.
     for (first, least) in [(0x80, 12), (0xbf, 72), (0xa1, 16)] {
@@ -387,32 +394,30 @@ fn rtp_packets_by_their_bytes(rt: HostRuntime) -> Result<(), Fail> {
     assert!(rt; !is_rtp(&[]));
     let point = point_of(&[0x80, 0x60, 0xff, 0xfe, 0xfd, 0xfc, 0xfb, 0xfa, 0, 0, 0, 0]);
     assert_eq!(rt; (point.seq, point.rtptime), (0xfffe, 0xfdfc_fbfa));
-    Ok(())
 }
 
 /// A frame of so many zero bytes on channel 1.
-fn largest_frame(alloc: Global, len: u16) -> Result<Vec<u8>, Fail> {
+fn largest_frame(rt: &impl Abort, alloc: Global, len: u16) -> Vec<u8> {
     let [high, low] = len.to_be_bytes();
-    let mut stream = Vec::from_slice(alloc, &[0x24, 1, high, low])?;
+    let mut stream = Vec::from_slice(alloc, &[0x24, 1, high, low]).expect(rt, "memory");
     for _ in 0..len {
-        stream.push(0)?;
+        stream.push(0).expect(rt, "memory");
     }
-    Ok(stream)
+    stream
 }
 
 #[test]
-fn the_largest_frame_is_published(rt: HostRuntime) -> Result<(), Fail> {
+fn the_largest_frame_is_published(rt: HostRuntime) {
     let alloc = rt.alloc();
     for (keeps, counts) in [
         (65_535, [1, 0, 0, 0, 0, 0, 0]),
         (65_534, [0, 0, 1, 0, 0, 0, 0]),
     ] {
-        let stream = largest_frame(alloc, 65_535)?;
-        let mut feed = PlainFeed::new(PlainLog::new(alloc, 9, 0, keeps)?);
+        let stream = largest_frame(&rt, alloc, 65_535);
+        let mut feed = seatless(&rt, alloc, keeps);
         let mut points = NO_POINTS;
         let channels = set_up(&[(0, 0, 1)]);
         let report = relay(alloc, stream, None, &mut feed, &channels, &mut points);
         assert_eq!(rt; told(&report), (counts, "end"), "{keeps}");
     }
-    Ok(())
 }

@@ -2,8 +2,8 @@
 use interleaved::{ListSink, ListSource};
 use ring_script::{PlanFault, StepsEnd, put_trace, read_plan, run_steps, script_of, steps_end};
 use ring_steps::{Actor, StepFault, run};
-use std::alloc::Global;
-use std::test::Fail;
+use std::alloc::{AllocError, Global};
+use std::process::Abort;
 
 /// A ring that keeps two packets passes a slow seat, which then counts its loss.
 const LOST: &[u8] =
@@ -14,38 +14,39 @@ const LOST_TRACE: &[u8] =
 
 /// What is written for this input, read at most so many bytes at a time, and how the run ends, in words.
 fn steps(
+    rt: &impl Abort,
     alloc: Global,
     input: &[u8],
     piece: usize,
     fail_at: Option<usize>,
     room: usize,
-) -> Result<String, Fail> {
-    let mut source = ListSource::new(Vec::from_slice(alloc, input)?, piece.max(1), fail_at);
-    let mut sink = ListSink::new(alloc, room)?;
+) -> String {
+    let input = Vec::from_slice(alloc, input).expect(rt, "memory");
+    let mut source = ListSource::new(input, piece.max(1), fail_at);
+    let mut sink = ListSink::new(alloc, room).expect(rt, "memory");
     let end = run_steps(alloc, &mut source, &mut sink);
-    let (_, line) = steps_end(alloc, &end)?;
-    let text = String::from_utf8_lossy(alloc, sink.bytes())?;
-    Ok(format!(in alloc; "{text}{line}")?)
+    let (_, line) = steps_end(alloc, &end).expect(rt, "memory");
+    let text = String::from_utf8_lossy(alloc, sink.bytes()).expect(rt, "memory");
+    format!(in alloc; "{text}{line}").expect(rt, "memory")
 }
 
 #[test]
-fn a_plan_is_read_run_and_told(rt: HostRuntime) -> Result<(), Fail> {
+fn a_plan_is_read_run_and_told(rt: HostRuntime) {
     let alloc = rt.alloc();
-    let plan = read_plan(alloc, LOST).ok().ok_or("a plan")?;
-    let script = script_of(alloc, 1, plan.calls)?;
+    let plan = read_plan(alloc, LOST).ok().expect(&rt, "a plan");
+    let script = script_of(alloc, 1, plan.calls).expect(&rt, "memory");
     let schedule = plan.schedule.as_slice();
     let trace = run(alloc, &plan.config, &script, schedule)
         .ok()
-        .ok_or("a run")?;
+        .expect(&rt, "a run");
     let mut text = Vec::new(alloc);
-    put_trace(&mut text, &trace)?;
+    put_trace(&mut text, &trace).expect(&rt, "memory");
     assert_eq!(rt; text.as_slice(), LOST_TRACE);
     assert!(rt; read_plan(alloc, b"keep 2\nkeep 2\n").err() == Some(PlanFault::BadLine(2)));
-    Ok(())
 }
 
 #[test]
-fn ends_and_their_lines(rt: HostRuntime) -> Result<(), Fail> {
+fn ends_and_their_lines(rt: HostRuntime) {
     let rows = [
         (StepsEnd::Done, 0, ""),
         (StepsEnd::BadLine(7), 1, "relay: bad line 7"),
@@ -80,34 +81,31 @@ fn ends_and_their_lines(rt: HostRuntime) -> Result<(), Fail> {
         (StepsEnd::OutOfMemory, 1, "relay: out of memory"),
     ];
     for (end, status, line) in rows {
-        let (is_status, is_line) = steps_end(rt.alloc(), &end)?;
+        let (is_status, is_line) = steps_end(rt.alloc(), &end).expect(&rt, "memory");
         assert_eq!(rt; is_status, status);
         assert_eq!(rt; is_line.as_str(), line);
     }
-    Ok(())
 }
 
 #[test]
-fn reader_that_fails(rt: HostRuntime) -> Result<(), Fail> {
+fn reader_that_fails(rt: HostRuntime) {
     for place in 0..LOST.len() + 1 {
-        let text = steps(rt.alloc(), LOST, 7, Some(place), 1000)?;
+        let text = steps(&rt, rt.alloc(), LOST, 7, Some(place), 1000);
         assert_eq!(rt; text.as_str(), "relay: read failed", "{place}");
     }
-    Ok(())
 }
 
 #[test]
-fn writer_of_each_room(rt: HostRuntime) -> Result<(), Fail> {
+fn writer_of_each_room(rt: HostRuntime) {
     for room in 0..LOST_TRACE.len() {
-        let text = steps(rt.alloc(), LOST, 1000, None, room)?;
+        let text = steps(&rt, rt.alloc(), LOST, 1000, None, room);
         let written = text.as_bytes().strip_suffix(b"relay: write failed");
         assert_eq!(rt; written, Some(&LOST_TRACE[..room]));
     }
-    Ok(())
 }
 
 /// 100,000 publishes of six bytes, each of which is ten steps.
-fn long_input(alloc: Global) -> Result<Vec<u8>, Fail> {
+fn long_input(alloc: Global) -> Result<Vec<u8>, AllocError> {
     let mut input = Vec::from_slice(alloc, b"keep 7\nseats 1\n")?;
     for _ in 0..100_000 {
         input.extend_from_slice(b"p 000102030405\n")?;
@@ -120,10 +118,9 @@ fn long_input(alloc: Global) -> Result<Vec<u8>, Fail> {
 }
 
 #[test]
-fn a_million_steps(rt: HostRuntime) -> Result<(), Fail> {
-    let mut source = ListSource::new(long_input(rt.alloc())?, 100_000, None);
-    let mut sink = ListSink::new(rt.alloc(), 40_000_000)?;
+fn a_million_steps(rt: HostRuntime) {
+    let mut source = ListSource::new(long_input(rt.alloc()).expect(&rt, "memory"), 100_000, None);
+    let mut sink = ListSink::new(rt.alloc(), 40_000_000).expect(&rt, "memory");
     let end = run_steps(rt.alloc(), &mut source, &mut sink);
     assert!(rt; end == StepsEnd::Done && sink.bytes().ends_with(b"@999999 p appended 99999\n"));
-    Ok(())
 }
