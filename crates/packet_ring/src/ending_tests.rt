@@ -5,16 +5,15 @@ use crate::tests::{ROOM, drop_in, packet, ring_of_one, sent, took};
 use cursor::{Feed, Taken};
 use std::process::Abort;
 use std::sync::Arc;
-use std::test::Fail;
 use std::thread::join;
 
 /// A feed's close ends the log behind what was published, be it nothing, for a seat that is attached and for one
 /// that attaches later.
 #[test]
-fn feed_close_behind_packets(rt: HostRuntime) -> Result<(), Fail> {
+fn feed_close_behind_packets(rt: HostRuntime) {
     for count in [0, 3] {
-        let (mut publisher, mut passes) = new(rt.alloc(), 4, 2, ROOM)?;
-        let mut seat = passes.pop().ok_or("no pass")?.attach();
+        let (mut publisher, mut passes) = new(rt.alloc(), 4, 2, ROOM).expect(&rt, "memory");
+        let mut seat = passes.pop().expect(&rt, "no pass").attach();
         let mut buf = [0; ROOM];
         for number in 0..count {
             assert!(rt; sent(&mut publisher, &[number + 1]) == Ok(number as u64));
@@ -24,13 +23,12 @@ fn feed_close_behind_packets(rt: HostRuntime) -> Result<(), Fail> {
             assert!(rt; took(&mut seat, &mut buf) == packet(number as u64, 1));
             assert!(rt; buf[0] == number + 1);
         }
-        let mut late = passes.pop().ok_or("no pass")?.attach();
+        let mut late = passes.pop().expect(&rt, "no pass").attach();
         for _ in 0..2 {
             assert!(rt; took(&mut seat, &mut buf) == Some(Taken::Ended));
             assert!(rt; took(&mut late, &mut buf) == Some(Taken::Ended));
         }
     }
-    Ok(())
 }
 
 /// Closes the ring.
@@ -43,10 +41,10 @@ fn close_it(publisher: Publisher) -> Receipt
 /// A seat that learned of a close in another thread reads the packets and is told the end, and never that there is
 /// no packet yet.
 #[test]
-fn learned_close_is_told(rt: HostRuntime) -> Result<(), Fail> {
-    let (mut publisher, mut seat) = ring_of_one(rt.alloc()).ok_or("no ring")?;
-    let first = publisher.publish(3, b"A").map_err(|_| "refused")?;
-    let second = publisher.publish(3, b"B").map_err(|_| "refused")?;
+fn learned_close_is_told(rt: HostRuntime) {
+    let (mut publisher, mut seat) = ring_of_one(rt.alloc()).expect(&rt, "no ring");
+    let first = publisher.publish(3, b"A").expect(&rt, "refused");
+    let second = publisher.publish(3, b"B").expect(&rt, "refused");
     assert!(rt; first.number() == 0 && second.number() == 1 && seat.known() == 0);
     let (receipt, ()) = join(&rt, move || close_it(publisher), || ());
     seat.learn(&receipt);
@@ -58,32 +56,29 @@ fn learned_close_is_told(rt: HostRuntime) -> Result<(), Fail> {
         assert!(rt; took(&mut seat, &mut buf) == Some(Taken::Ended));
         assert!(rt; seat.known() == 2);
     }
-    Ok(())
 }
 
 /// A packet's receipt is no owner of the block: the tokens are, in whatever order they go.
 #[test]
-fn receipt_is_no_owner(rt: HostRuntime) -> Result<(), Fail> {
+fn receipt_is_no_owner(rt: HostRuntime) {
     for order in 0..6 {
-        let (mut publisher, mut passes) = new(rt.alloc(), 1, 2, ROOM)?;
-        let receipt = publisher.publish(3, b"A").map_err(|_| "refused")?;
-        let pass = passes.pop().ok_or("no pass")?;
-        let seat = passes.pop().ok_or("no pass")?.attach();
+        let (mut publisher, mut passes) = new(rt.alloc(), 1, 2, ROOM).expect(&rt, "memory");
+        let receipt = publisher.publish(3, b"A").expect(&rt, "refused");
+        let pass = passes.pop().expect(&rt, "no pass");
+        let seat = passes.pop().expect(&rt, "no pass").attach();
         drop(passes);
         assert!(rt; drop_in(order, publisher, pass, seat));
         assert!(rt; receipt.number() == 0);
     }
-    Ok(())
 }
 
 /// Nor is the receipt of a close, in which the publisher goes.
 #[test]
-fn closing_receipt_is_no_owner(rt: HostRuntime) -> Result<(), Fail> {
-    let (publisher, seat) = ring_of_one(rt.alloc()).ok_or("no ring")?;
+fn closing_receipt_is_no_owner(rt: HostRuntime) {
+    let (publisher, seat) = ring_of_one(rt.alloc()).expect(&rt, "no ring");
     assert!(rt; Arc::strong_count(&seat.ring) == 2);
     let receipt = publisher.close();
     assert!(rt; Arc::strong_count(&seat.ring) == 1);
     drop(seat);
     assert!(rt; receipt.number() == 0);
-    Ok(())
 }

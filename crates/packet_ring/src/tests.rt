@@ -6,10 +6,9 @@ use crate::head::load_first;
 use crate::slots::{pin, unpin};
 use crate::words::WRITING;
 use cursor::{Account, Feed, Left, Refused, Taken, Tap};
-use std::alloc::{AllocError, Global};
+use std::alloc::Global;
 use std::process::Abort;
 use std::sync::{Arc, Wait};
-use std::test::Fail;
 use std::thread;
 use std::thread::join;
 
@@ -49,9 +48,9 @@ pub(crate) fn ring_of_one(alloc: Global) -> Option<(Publisher, Subscriber)>
 }
 
 #[test]
-fn ring_loses_one(rt: HostRuntime) -> Result<(), Fail> {
-    let (mut publisher, mut passes) = new(rt.alloc(), 2, 1, ROOM)?;
-    let mut seat = passes.pop().ok_or("no pass")?.attach();
+fn ring_loses_one(rt: HostRuntime) {
+    let (mut publisher, mut passes) = new(rt.alloc(), 2, 1, ROOM).expect(&rt, "memory");
+    let mut seat = passes.pop().expect(&rt, "no pass").attach();
     let mut buf = [0; ROOM];
     let numbers = (
         sent(&mut publisher, b"A"),
@@ -70,13 +69,12 @@ fn ring_loses_one(rt: HostRuntime) -> Result<(), Fail> {
         left: 0,
     };
     assert!(rt; left == wanted);
-    Ok(())
 }
 
 #[test]
-fn no_seats_and_late_seat(rt: HostRuntime) -> Result<(), Fail> {
+fn no_seats_and_late_seat(rt: HostRuntime) {
     for seats in [0, 1] {
-        let (mut publisher, mut passes) = new(rt.alloc(), 1, seats, ROOM)?;
+        let (mut publisher, mut passes) = new(rt.alloc(), 1, seats, ROOM).expect(&rt, "memory");
         for number in 0..3 {
             assert!(rt; sent(&mut publisher, b"A") == Ok(number));
         }
@@ -95,13 +93,12 @@ fn no_seats_and_late_seat(rt: HostRuntime) -> Result<(), Fail> {
         };
         assert!(rt; left == wanted);
     }
-    Ok(())
 }
 
 #[test]
-fn close_and_ended(rt: HostRuntime) -> Result<(), Fail> {
-    let (mut publisher, mut passes) = new(rt.alloc(), 2, 1, ROOM)?;
-    let mut seat = passes.pop().ok_or("no pass")?.attach();
+fn close_and_ended(rt: HostRuntime) {
+    let (mut publisher, mut passes) = new(rt.alloc(), 2, 1, ROOM).expect(&rt, "memory");
+    let mut seat = passes.pop().expect(&rt, "no pass").attach();
     let mut buf = [0; ROOM];
     assert!(rt; sent(&mut publisher, b"A") == Ok(0));
     let receipt = publisher.close();
@@ -116,7 +113,6 @@ fn close_and_ended(rt: HostRuntime) -> Result<(), Fail> {
         left: 0,
     };
     assert!(rt; left == wanted && pass.known() == 1);
-    Ok(())
 }
 
 /// Publishes one packet, and leaves the log open.
@@ -128,28 +124,27 @@ fn publish_one(mut publisher: Publisher) -> Option<Receipt>
 
 /// What another thread published is there once its receipt was learned.
 #[test]
-fn receipt_by_join(rt: HostRuntime) -> Result<(), Fail> {
-    let (publisher, mut seat) = ring_of_one(rt.alloc()).ok_or("no ring")?;
+fn receipt_by_join(rt: HostRuntime) {
+    let (publisher, mut seat) = ring_of_one(rt.alloc()).expect(&rt, "no ring");
     let (receipt, ()) = join(&rt, move || publish_one(publisher), || ());
-    let receipt = receipt.ok_or("refused")?;
+    let receipt = receipt.expect(&rt, "refused");
     seat.learn(&receipt);
     assert!(rt; seat.known() == 1);
     let mut buf = [0; ROOM];
     assert!(rt; took(&mut seat, &mut buf) == packet(0, 1) && buf[0] == b'A');
-    Ok(())
 }
 
 /// Keeping 1 and 4,095 packets, for no seats and for 1,024, of no byte, one, and as many as may be.
 #[test]
-fn limits(rt: HostRuntime) -> Result<(), Fail> {
+fn limits(rt: HostRuntime) {
     let full = [7; ROOM];
     let mut buf = [0; ROOM];
     for (keep, seats) in [(1, 1024), (4095, 0), (4095, 1024)] {
-        let (mut publisher, passes) = new(rt.alloc(), keep, seats, ROOM)?;
+        let (mut publisher, passes) = new(rt.alloc(), keep, seats, ROOM).expect(&rt, "memory");
         assert!(rt; passes.len() == seats);
         let mut tap = passes.into_iter().next().map(Pass::attach);
         for (number, len) in [(0, 0), (1, 1), (2, ROOM)] {
-            let bytes = full.get(..len).ok_or("short")?;
+            let bytes = full.get(..len).expect(&rt, "short");
             assert!(rt; sent(&mut publisher, bytes) == Ok(number));
             if let Some(seat) = &mut tap {
                 assert!(rt;
@@ -159,36 +154,34 @@ fn limits(rt: HostRuntime) -> Result<(), Fail> {
         }
         assert!(rt; sent(&mut publisher, &[0; ROOM + 1]) == Err(Refused::TooLong));
     }
-    Ok(())
 }
 
 /// Rings of the shortest and of the longest packets: a packet of just that many bytes comes out as it went in, and
 /// one byte more is refused.
 #[test]
-fn packet_limits(rt: HostRuntime) -> Result<(), Fail> {
+fn packet_limits(rt: HostRuntime) {
     for most in [1, 65_535] {
-        let (mut publisher, mut passes) = new(rt.alloc(), 2, 1, most)?;
-        let mut seat = passes.pop().ok_or("no pass")?.attach();
+        let (mut publisher, mut passes) = new(rt.alloc(), 2, 1, most).expect(&rt, "memory");
+        let mut seat = passes.pop().expect(&rt, "no pass").attach();
         let mut bytes = Vec::new(rt.alloc());
         for place in 0..most + 1 {
-            bytes.push((place % 251) as u8 + 1)?;
+            bytes.push((place % 251) as u8 + 1).expect(&rt, "memory");
         }
-        let full = bytes.get(..most).ok_or("short")?;
-        let mut buf = Vec::from_elem(rt.alloc(), 0u8, most)?;
+        let full = bytes.get(..most).expect(&rt, "short");
+        let mut buf = Vec::from_elem(rt.alloc(), 0u8, most).expect(&rt, "memory");
         assert!(rt; sent(&mut publisher, bytes.as_slice()) == Err(Refused::TooLong));
         assert!(rt; sent(&mut publisher, full) == Ok(0));
         assert!(rt; took(&mut seat, buf.as_mut_slice()) == packet(0, most));
         assert!(rt; buf.as_slice() == full);
         assert!(rt; took(&mut seat, buf.as_mut_slice()) == Some(Taken::Empty));
     }
-    Ok(())
 }
 
 /// What a seat has for the rest, which takes nothing while many packets pass.
 #[test]
-fn idle_seat(rt: HostRuntime) -> Result<(), Fail> {
-    let (mut publisher, mut passes) = new(rt.alloc(), 16, 1, ROOM)?;
-    let mut seat = passes.pop().ok_or("no pass")?.attach();
+fn idle_seat(rt: HostRuntime) {
+    let (mut publisher, mut passes) = new(rt.alloc(), 16, 1, ROOM).expect(&rt, "memory");
+    let mut seat = passes.pop().expect(&rt, "no pass").attach();
     let mut buf = [0; ROOM];
     for number in 0..10_000 {
         assert!(rt; sent(&mut publisher, b"A") == Ok(number));
@@ -201,7 +194,6 @@ fn idle_seat(rt: HostRuntime) -> Result<(), Fail> {
         lost: 9_984,
     };
     assert!(rt; seat.account() == wanted && seat.cursor() == 9_985 && seat.known() == 10_000);
-    Ok(())
 }
 
 /// A publisher, a pass and a seat of one ring go in this order. Each is an owner of the block until it goes, and
@@ -239,47 +231,44 @@ pub(crate) fn drop_in(order: usize, publisher: Publisher, pass: Pass, seat: Subs
 
 /// The block has as many owners as there are tokens, in whatever order they go.
 #[test]
-fn last_token_frees_the_block(rt: HostRuntime) -> Result<(), Fail> {
+fn last_token_frees_the_block(rt: HostRuntime) {
     for order in 0..6 {
-        let (publisher, mut passes) = new(rt.alloc(), 1, 2, ROOM)?;
-        let pass = passes.pop().ok_or("no pass")?;
-        let seat = passes.pop().ok_or("no pass")?.attach();
+        let (publisher, mut passes) = new(rt.alloc(), 1, 2, ROOM).expect(&rt, "memory");
+        let pass = passes.pop().expect(&rt, "no pass");
+        let seat = passes.pop().expect(&rt, "no pass").attach();
         drop(passes);
         assert!(rt; drop_in(order, publisher, pass, seat));
     }
-    Ok(())
 }
 
 /// A feed's close ends the log, too.
 #[test]
-fn feed_close_ends(rt: HostRuntime) -> Result<(), Fail> {
-    let (mut publisher, mut seat) = ring_of_one(rt.alloc()).ok_or("no ring")?;
+fn feed_close_ends(rt: HostRuntime) {
+    let (mut publisher, mut seat) = ring_of_one(rt.alloc()).expect(&rt, "no ring");
     let mut buf = [0; ROOM];
     assert!(rt; sent(&mut publisher, b"A") == Ok(0));
     Feed::close(publisher);
     assert!(rt; took(&mut seat, &mut buf) == packet(0, 1) && buf[0] == b'A');
     assert!(rt; took(&mut seat, &mut buf) == Some(Taken::Ended));
-    Ok(())
 }
 
 /// A publisher that is dropped leaves an open log.
 #[test]
-fn publisher_dropped_early(rt: HostRuntime) -> Result<(), Fail> {
-    let (mut publisher, mut seat) = ring_of_one(rt.alloc()).ok_or("no ring")?;
+fn publisher_dropped_early(rt: HostRuntime) {
+    let (mut publisher, mut seat) = ring_of_one(rt.alloc()).expect(&rt, "no ring");
     let mut buf = [0; ROOM];
     assert!(rt; sent(&mut publisher, b"A") == Ok(0));
     drop(publisher);
     assert!(rt; took(&mut seat, &mut buf) == packet(0, 1) && buf[0] == b'A');
     assert!(rt; took(&mut seat, &mut buf) == Some(Taken::Empty));
-    Ok(())
 }
 
 /// A subscriber that is dropped holds no pin, and the other seat goes on.
 #[test]
-fn subscriber_dropped_early(rt: HostRuntime) -> Result<(), Fail> {
-    let (mut publisher, mut passes) = new(rt.alloc(), 1, 2, ROOM)?;
-    let mut gone = passes.pop().ok_or("no pass")?.attach();
-    let mut seat = passes.pop().ok_or("no pass")?.attach();
+fn subscriber_dropped_early(rt: HostRuntime) {
+    let (mut publisher, mut passes) = new(rt.alloc(), 1, 2, ROOM).expect(&rt, "memory");
+    let mut gone = passes.pop().expect(&rt, "no pass").attach();
+    let mut seat = passes.pop().expect(&rt, "no pass").attach();
     let mut buf = [0; ROOM];
     assert!(rt; sent(&mut publisher, b"A") == Ok(0));
     assert!(rt; took(&mut gone, &mut buf) == packet(0, 1));
@@ -289,7 +278,6 @@ fn subscriber_dropped_early(rt: HostRuntime) -> Result<(), Fail> {
     }
     assert!(rt; took(&mut seat, &mut buf) == Some(Taken::Lost(4)));
     assert!(rt; took(&mut seat, &mut buf) == packet(4, 1) && buf[0] == b'B');
-    Ok(())
 }
 
 /// A ring that keeps four packets, with two passes.
@@ -304,10 +292,10 @@ fn ring_of_two(alloc: Global) -> Option<(Publisher, Pass, Pass)>
 
 /// Two seats that meet know what either knew.
 #[test]
-fn seats_meet(rt: HostRuntime) -> Result<(), Fail> {
-    let (mut publisher, first, second) = ring_of_two(rt.alloc()).ok_or("no ring")?;
+fn seats_meet(rt: HostRuntime) {
+    let (mut publisher, first, second) = ring_of_two(rt.alloc()).expect(&rt, "no ring");
     let mut early = first.attach();
-    let _number = publisher.publish(3, b"A").map_err(|_| "refused")?;
+    let _number = publisher.publish(3, b"A").expect(&rt, "refused");
     let mut late = second.attach();
     assert!(rt; early.known() == 0 && late.known() == 1);
     early.meet(&mut late);
@@ -315,21 +303,19 @@ fn seats_meet(rt: HostRuntime) -> Result<(), Fail> {
     let mut buf = [0; ROOM];
     assert!(rt; took(&mut early, &mut buf) == packet(0, 1));
     assert!(rt; took(&mut early, &mut buf) == Some(Taken::Empty));
-    Ok(())
 }
 
 /// A pass learns of a receipt's log, and of an older one nothing more.
 #[test]
-fn pass_learns(rt: HostRuntime) -> Result<(), Fail> {
-    let (mut publisher, mut pass, _other) = ring_of_two(rt.alloc()).ok_or("no ring")?;
-    let old = publisher.publish(3, b"A").map_err(|_| "refused")?;
-    let new = publisher.publish(3, b"B").map_err(|_| "refused")?;
+fn pass_learns(rt: HostRuntime) {
+    let (mut publisher, mut pass, _other) = ring_of_two(rt.alloc()).expect(&rt, "no ring");
+    let old = publisher.publish(3, b"A").expect(&rt, "refused");
+    let new = publisher.publish(3, b"B").expect(&rt, "refused");
     assert!(rt; pass.known() == 0);
     pass.learn(&new);
     assert!(rt; pass.known() == 2);
     pass.learn(&old);
     assert!(rt; pass.known() == 2 && pass.attach().cursor() == 2);
-    Ok(())
 }
 
 /// Publishes three packets while a seat holds the packet at its cursor pinned, as in the middle of a take, and one
@@ -364,10 +350,10 @@ fn publish_over_a_pin(
 
 /// A publish onto a pinned packet is refused and leaves the log as it was: its number goes to the next one.
 #[test]
-fn pinned_place_is_refused(rt: HostRuntime) -> Result<(), Fail> {
-    let (mut publisher, mut passes) = new(rt.alloc(), 2, 2, ROOM)?;
-    let seat = passes.pop().ok_or("no pass")?.attach();
-    let mut other = passes.pop().ok_or("no pass")?.attach();
+fn pinned_place_is_refused(rt: HostRuntime) {
+    let (mut publisher, mut passes) = new(rt.alloc(), 2, 2, ROOM).expect(&rt, "memory");
+    let seat = passes.pop().expect(&rt, "no pass").attach();
+    let mut other = passes.pop().expect(&rt, "no pass").attach();
     assert!(rt; sent(&mut publisher, b"A") == Ok(0) && sent(&mut publisher, b"B") == Ok(1));
     let pinned = Err(Refused::Pinned { pins: 1 });
     let answers = publish_over_a_pin(&mut publisher, seat);
@@ -377,7 +363,6 @@ fn pinned_place_is_refused(rt: HostRuntime) -> Result<(), Fail> {
     assert!(rt; took(&mut other, &mut buf) == packet(2, 1) && buf[0] == b'C');
     assert!(rt; took(&mut other, &mut buf) == packet(3, 1) && buf[0] == b'D');
     assert!(rt; took(&mut other, &mut buf) == Some(Taken::Empty));
-    Ok(())
 }
 
 /// The byte at a place of the packet with this number.
@@ -442,21 +427,20 @@ fn read_all(rt: &impl Wait, mut seat: Subscriber) -> Option<Account> {
 
 /// A publisher and four seats, each in a thread of its own.
 #[test]
-fn five_threads(rt: HostRuntime) -> Result<(), Fail> {
-    let (publisher, passes) = new(rt.alloc(), 64, 4, ROOM)?;
+fn five_threads(rt: HostRuntime) {
+    let (publisher, passes) = new(rt.alloc(), 64, 4, ROOM).expect(&rt, "memory");
     let mut readers = Vec::new(rt.alloc());
     for pass in passes {
         let seat = pass.attach();
-        let reader = thread::spawn(&rt, move || read_all(&rt, seat)).map_err(|_| AllocError)?;
-        readers.push(reader)?;
+        let reader = thread::spawn(&rt, move || read_all(&rt, seat)).expect(&rt, "a thread");
+        readers.push(reader).expect(&rt, "memory");
     }
-    let writer = thread::spawn(&rt, move || publish_all(&rt, publisher, 100_000)).map_err(
-        |_| AllocError,
-    )?;
+    let writer = thread::spawn(&rt, move || publish_all(&rt, publisher, 100_000)).expect(
+        &rt, "a thread",
+    );
     writer.join(&rt);
     for reader in readers {
-        let account = reader.join(&rt).ok_or("a seat read another packet")?;
+        let account = reader.join(&rt).expect(&rt, "a seat read another packet");
         assert!(rt; account.start == 0 && account.taken.checked_add(account.lost) == Some(100_000));
     }
-    Ok(())
 }
