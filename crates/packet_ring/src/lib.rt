@@ -24,8 +24,3 @@ pub use passes::Pass;
 pub use publishers::Publisher;
 pub use receipts::Receipt;
 pub use subscribers::Subscriber;
-
-#[cfg(test)]
-mod ending_tests;
-#[cfg(test)]
-mod tests;

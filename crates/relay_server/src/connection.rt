@@ -5,8 +5,6 @@ mod incoming;
 mod told;
 
 use crate::closing::close_behind_text;
-use crate::counts::Counts;
-use crate::ending::{ConnectionEnd, end_of, status_of};
 use crate::frames::{Frames, Hand};
 use crate::gate::Gate;
 use crate::line::Line;
@@ -16,6 +14,7 @@ use crate::shared::Shared;
 use crate::socket::HangUp;
 use interleaved::{Sink, Source};
 use publisher::InStop;
+use relay_accounts::{ConnectionEnd, Counts, end_of, status_of};
 use rtsp_message::{Intake, Request, Status};
 use session_state::{Act, Method, Words, read_method};
 use std::alloc::Global;

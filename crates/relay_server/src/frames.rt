@@ -9,23 +9,13 @@ use crate::socket::HangUp;
 use cursor::{Left, Tap};
 use interleaved::Sink;
 use player::OutStop;
+use relay_accounts::FrameEnd;
 use std::alloc::{AllocError, Global};
 use std::sync::{Arc, Mutex, Wait};
 use std::thread::{JoinHandle, Threads};
 use std::time::{Clock, Duration};
 use std::{mem, thread};
 use transport_header::TrackChannels;
-
-/// Why a frame thread ended.
-#[derive(Clone, Copy, Debug, PartialEq, Eq, Drop)]
-pub(crate) enum FrameEnd {
-    /// It was told to stop.
-    Stopped,
-    /// Its mount has ended, and its last packet was written.
-    Ended,
-    WriteFailed,
-    OutOfMemory,
-}
 
 /// Where a connection's tap is.
 #[derive(Drop)]

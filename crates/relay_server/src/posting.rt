@@ -1,17 +1,10 @@
 //! The feed of a mount, with what its players are told beside the packets.
-ghost use Rattle.std.specs.Prelude.{◌≡◌, ◌%◌, ◌/◌, ◌⊎◌, ◌<◌, ◌≤◌, length, IfSome, IfNone};
-ghost use Rattle.publisher.specs.Rtp.{point_of as point_in};
-
 use crate::bell::Bell;
 use crate::notice::Notice;
 use cursor::{Feed, Refused};
-use publisher::point_of;
+use relay_accounts::point_to_post;
 use std::alloc::Global;
 use std::sync::{Arc, Wait};
-use transport_header::Point;
-
-/// The bytes of an RTP packet's fixed header (RFC 3550, 5.1).
-const FIXED_HEADER: usize = 12;
 
 /// A feed that tells of each packet that it takes: where its track stands now, and that there is something to take.
 #[derive(Drop)]
@@ -93,15 +86,4 @@ impl<R: Wait + Drop, F: Feed> Feed for Posting<R, F> {
     fn close(self) {
         self.feed.close();
     }
-}
-
-/// The track of a packet of RTP, and its point; RTCP has an odd tag and no point.
-fn point_to_post(tag: u8, bytes: &[u8]) -> Option<(usize, Point)>
-    ensures some { IfSome result (λ r. (tag % 2 ≡ 0) × (r.0 ≡ tag / 2) × (r.1 ≡ point_in bytes.now)) }
-    ensures none { IfNone result ((tag % 2 ≡ 1) ⊎ (length bytes.now < 12)) }
-{
-    if tag % 2 == 1 || bytes.len() < FIXED_HEADER {
-        return None;
-    }
-    Some((usize::from(tag / 2), point_of(bytes)))
 }

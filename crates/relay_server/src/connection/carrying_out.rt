@@ -1,12 +1,12 @@
 //! What is done for an answer, and how it is written.
 use super::Connection;
-use crate::ending::ConnectionEnd;
-use crate::frames::{FrameEnd, Frames, TapPlace};
+use crate::frames::{Frames, TapPlace};
 use crate::gate::Gate;
 use crate::maker::{Maker, Seat};
 use crate::posting::Posting;
 use crate::socket::HangUp;
 use interleaved::Sink;
+use relay_accounts::{ConnectionEnd, FrameEnd};
 use rtsp_message::{Reply, Status, put_reply};
 use session_lock::Answer;
 use session_state::{Act, Words};

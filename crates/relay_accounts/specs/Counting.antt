@@ -2,11 +2,24 @@
 use Rattle.std.specs.Prelude.{ℕ, ◌+◌, ◌-◌, ◌^◌, min}
 use Rattle.cursor.specs.declared.takes.Left.{Left}
 use Rattle.publisher.specs.declared.report.InReport.{InReport}
-use Rattle.relay_server.specs.declared.counts.Counts.{Counts}
+use Rattle.relay_accounts.specs.declared.counts.Counts.{Counts}
 
 -- a count that would pass 2^64 - 1 stays there
 abbrev pub capped : ℕ → ℕ
 capped n = min n (2 ^ 64 - 1)
+
+-- no packet came and none went
+abbrev pub nothing_counted : Counts
+nothing_counted = record {
+  published = 0;
+  pinned = 0;
+  oversize = 0;
+  bad_rtp = 0;
+  strangers = 0;
+  unkept = 0;
+  taken = 0;
+  lost = 0;
+}
 
 -- the counts with what is told of frames that came in
 abbrev pub with_report : Counts → InReport → Counts

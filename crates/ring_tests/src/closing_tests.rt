@@ -1,10 +1,9 @@
 ghost use Rattle.std.specs.Prelude.{◌≡◌};
 
-use super::*;
-use crate::tests::{ROOM, drop_in, packet, ring_of_one, sent, took};
+use crate::running_tests::{ROOM, packet, ring_of_one, sent, took};
 use cursor::{Feed, Taken};
+use packet_ring::{Publisher, Receipt, new};
 use std::process::Abort;
-use std::sync::Arc;
 use std::thread::join;
 
 /// A feed's close ends the log behind what was published, be it nothing, for a seat that is attached and for one
@@ -56,29 +55,4 @@ fn learned_close_is_told(rt: HostRuntime) {
         assert!(rt; took(&mut seat, &mut buf) == Some(Taken::Ended));
         assert!(rt; seat.known() == 2);
     }
-}
-
-/// A packet's receipt is no owner of the block: the tokens are, in whatever order they go.
-#[test]
-fn receipt_is_no_owner(rt: HostRuntime) {
-    for order in 0..6 {
-        let (mut publisher, mut passes) = new(rt.alloc(), 1, 2, ROOM).expect(&rt, "memory");
-        let receipt = publisher.publish(3, b"A").expect(&rt, "refused");
-        let pass = passes.pop().expect(&rt, "no pass");
-        let seat = passes.pop().expect(&rt, "no pass").attach();
-        drop(passes);
-        assert!(rt; drop_in(order, publisher, pass, seat));
-        assert!(rt; receipt.number() == 0);
-    }
-}
-
-/// Nor is the receipt of a close, in which the publisher goes.
-#[test]
-fn closing_receipt_is_no_owner(rt: HostRuntime) {
-    let (publisher, seat) = ring_of_one(rt.alloc()).expect(&rt, "no ring");
-    assert!(rt; Arc::strong_count(&seat.ring) == 2);
-    let receipt = publisher.close();
-    assert!(rt; Arc::strong_count(&seat.ring) == 1);
-    drop(seat);
-    assert!(rt; receipt.number() == 0);
 }

@@ -1,6 +1,6 @@
 //! What became of the packets of a connection.
 ghost use Rattle.std.specs.Prelude.{◌≡◌, ◌<◌, ◌↔◌, IsTrue};
-ghost use Rattle.relay_server.specs.Counting.{losses, with_left, with_report, with_strangers};
+ghost use Rattle.relay_accounts.specs.Counting.{losses, nothing_counted, with_left, with_report, with_strangers};
 
 use cursor::Left;
 use publisher::InReport;
@@ -31,7 +31,10 @@ pub struct Counts {
 }
 
 impl Counts {
-    pub(crate) fn new() -> Counts {
+    /// Of a connection of which nothing was counted.
+    pub fn new() -> Counts
+        ensures { result ≡ nothing_counted }
+    {
         Counts {
             published: 0,
             pinned: 0,
@@ -45,7 +48,7 @@ impl Counts {
     }
 
     /// Adds what is told of frames that came in.
-    pub(crate) fn add_in(&mut self, report: &InReport)
+    pub fn add_in(&mut self, report: &InReport)
         ensures { self.new ≡ with_report self.old report.now }
     {
         self.published = self.published.saturating_add(report.published);
@@ -60,14 +63,14 @@ impl Counts {
     }
 
     /// Adds a frame that came while nothing was recorded.
-    pub(crate) fn add_stranger(&mut self)
+    pub fn add_stranger(&mut self)
         ensures { self.new ≡ with_strangers self.old 1 }
     {
         self.strangers = self.strangers.saturating_add(1);
     }
 
     /// Adds the account of a seat that was left, of a ring that keeps so many packets.
-    pub(crate) fn add_out(&mut self, left: &Left, keep: u64)
+    pub fn add_out(&mut self, left: &Left, keep: u64)
         ensures { self.new ≡ with_left self.old left.now keep }
     {
         self.taken = self.taken.saturating_add(left.taken);

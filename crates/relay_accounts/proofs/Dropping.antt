@@ -6,9 +6,9 @@ use Rattle.rtsp_message.specs.declared.unit.Unit.{Unit as StreamUnit}
 use Rattle.rtsp_message.specs.declared.unit.Unit.TheVariants as content
 use Rattle.rtsp_message.specs.Intakes.{IntakeState, HandsOut}
 use Rattle.rtsp_message.proofs.HandingOut.{HandsOut-trans}
-use Rattle.relay_server.specs.declared.counts.Counts.{Counts}
-use Rattle.relay_server.specs.Counting.{with_strangers}
-use Rattle.relay_server.specs.Incoming.{units_of}
+use Rattle.relay_accounts.specs.declared.counts.Counts.{Counts}
+use Rattle.relay_accounts.specs.Counting.{with_strangers}
+use Rattle.relay_accounts.specs.Incoming.{units_of}
 
 -- one frame more, before what comes then
 units_of-push : (frames : List Frame) (frame : Frame) (us : List StreamUnit) → units_of frames ++ content.Frame frame ∷ us ≡ units_of (frames ++ frame ∷ []) ++ us

@@ -11,8 +11,8 @@ use Rattle.cursor.specs.declared.refusals.Refused.{Refused as Refusal}
 use Rattle.publisher.specs.declared.report.InReport.{InReport}
 use Rattle.publisher.specs.declared.report.InStop.{InStop}
 use Rattle.publisher.specs.FramesIn.{RelaysIn, answer_of}
-use Rattle.relay_server.specs.declared.counts.Counts.{Counts}
-use Rattle.relay_server.specs.Counting.{with_report, with_strangers}
+use Rattle.relay_accounts.specs.declared.counts.Counts.{Counts}
+use Rattle.relay_accounts.specs.Counting.{with_report, with_strangers}
 
 -- frames as units of a stream
 abbrev pub units_of : List Frame → List StreamUnit

@@ -1,14 +1,10 @@
 ghost use Rattle.std.specs.Prelude.{◌≡◌, IfSome};
 
-use super::*;
-use crate::allocated::Block;
-use crate::head::load_first;
-use crate::slots::{pin, unpin};
-use crate::words::WRITING;
 use cursor::{Account, Feed, Left, Refused, Taken, Tap};
+use packet_ring::{Pass, Publisher, Receipt, Subscriber, new};
 use std::alloc::Global;
 use std::process::Abort;
-use std::sync::{Arc, Wait};
+use std::sync::Wait;
 use std::thread;
 use std::thread::join;
 
@@ -196,51 +192,6 @@ fn idle_seat(rt: HostRuntime) {
     assert!(rt; seat.account() == wanted && seat.cursor() == 9_985 && seat.known() == 10_000);
 }
 
-/// A publisher, a pass and a seat of one ring go in this order. Each is an owner of the block until it goes, and
-/// the last one frees it, once: its `Slots` and their `Lease` can be neither let go nor released twice.
-pub(crate) fn drop_in(order: usize, publisher: Publisher, pass: Pass, seat: Subscriber) -> bool {
-    let all = Arc::strong_count(&publisher.ring) == 3;
-    let last = match order {
-        0 => {
-            drop((pass, seat));
-            Arc::strong_count(&publisher.ring)
-        }
-        1 => {
-            drop((seat, pass));
-            Arc::strong_count(&publisher.ring)
-        }
-        2 => {
-            drop((publisher, seat));
-            Arc::strong_count(&pass.ring)
-        }
-        3 => {
-            drop((seat, publisher));
-            Arc::strong_count(&pass.ring)
-        }
-        4 => {
-            drop((publisher, pass));
-            Arc::strong_count(&seat.ring)
-        }
-        _ => {
-            drop((pass, publisher));
-            Arc::strong_count(&seat.ring)
-        }
-    };
-    all && last == 1
-}
-
-/// The block has as many owners as there are tokens, in whatever order they go.
-#[test]
-fn last_token_frees_the_block(rt: HostRuntime) {
-    for order in 0..6 {
-        let (publisher, mut passes) = new(rt.alloc(), 1, 2, ROOM).expect(&rt, "memory");
-        let pass = passes.pop().expect(&rt, "no pass");
-        let seat = passes.pop().expect(&rt, "no pass").attach();
-        drop(passes);
-        assert!(rt; drop_in(order, publisher, pass, seat));
-    }
-}
-
 /// A feed's close ends the log, too.
 #[test]
 fn feed_close_ends(rt: HostRuntime) {
@@ -316,53 +267,6 @@ fn pass_learns(rt: HostRuntime) {
     assert!(rt; pass.known() == 2);
     pass.learn(&old);
     assert!(rt; pass.known() == 2 && pass.attach().cursor() == 2);
-}
-
-/// Publishes three packets while a seat holds the packet at its cursor pinned, as in the middle of a take, and one
-/// once it is unpinned. `None` where the pin doesn't hold.
-fn publish_over_a_pin(
-    publisher: &mut Publisher,
-    seat: Subscriber,
-) -> Option<[Result<u64, Refused>; 4]> {
-    let Subscriber {
-        ring,
-        mut token,
-        known: _,
-        account,
-    } = seat;
-    let block: &Block = &ring;
-    let next = account.cursor();
-    let count = load_first(&block.shared, &mut token) / 2;
-    if count == next || next < count.saturating_sub(block.keep as u64) {
-        return None;
-    }
-    let unit = (next % (block.keep as u64 + 1)) as usize + 1;
-    let at = unit * (block.width + 1);
-    if pin(&block.shared, &mut token, unit, at) / WRITING != 2 * (next + 1) {
-        return None;
-    }
-    let first = sent(publisher, b"C");
-    let second = sent(publisher, b"D");
-    let third = sent(publisher, b"D");
-    unpin(&block.shared, &mut token, unit, at);
-    Some([first, second, third, sent(publisher, b"D")])
-}
-
-/// A publish onto a pinned packet is refused and leaves the log as it was: its number goes to the next one.
-#[test]
-fn pinned_place_is_refused(rt: HostRuntime) {
-    let (mut publisher, mut passes) = new(rt.alloc(), 2, 2, ROOM).expect(&rt, "memory");
-    let seat = passes.pop().expect(&rt, "no pass").attach();
-    let mut other = passes.pop().expect(&rt, "no pass").attach();
-    assert!(rt; sent(&mut publisher, b"A") == Ok(0) && sent(&mut publisher, b"B") == Ok(1));
-    let pinned = Err(Refused::Pinned { pins: 1 });
-    let answers = publish_over_a_pin(&mut publisher, seat);
-    assert!(rt; answers == Some([Ok(2), pinned, pinned, Ok(3)]));
-    let mut buf = [0; ROOM];
-    assert!(rt; took(&mut other, &mut buf) == Some(Taken::Lost(2)));
-    assert!(rt; took(&mut other, &mut buf) == packet(2, 1) && buf[0] == b'C');
-    assert!(rt; took(&mut other, &mut buf) == packet(3, 1) && buf[0] == b'D');
-    assert!(rt; took(&mut other, &mut buf) == Some(Taken::Empty));
 }
 
 /// The byte at a place of the packet with this number.

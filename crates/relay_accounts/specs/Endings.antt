@@ -4,10 +4,10 @@ use Rattle.rtsp_message.specs.declared.fault.Fault.{Fault}
 use Rattle.rtsp_message.specs.declared.fault.Fault.TheVariants as faults
 use Rattle.rtsp_message.specs.declared.status.Status.{Status}
 use Rattle.rtsp_message.specs.declared.status.Status.TheVariants as statuses
-use Rattle.relay_server.specs.declared.ending.ConnectionEnd.{ConnectionEnd}
-use Rattle.relay_server.specs.declared.ending.ConnectionEnd.TheVariants as ends
-use Rattle.relay_server.specs.declared.frames.FrameEnd.{FrameEnd}
-use Rattle.relay_server.specs.declared.frames.FrameEnd.TheVariants as frames
+use Rattle.relay_accounts.specs.declared.ending.ConnectionEnd.{ConnectionEnd}
+use Rattle.relay_accounts.specs.declared.ending.ConnectionEnd.TheVariants as ends
+use Rattle.relay_accounts.specs.declared.ending.FrameEnd.{FrameEnd}
+use Rattle.relay_accounts.specs.declared.ending.FrameEnd.TheVariants as frames
 
 -- What is told where nothing stands above the end of the frames: a failed write of theirs, else the reader's own end. Where
 -- the peer was told the end of its stream, all is well.

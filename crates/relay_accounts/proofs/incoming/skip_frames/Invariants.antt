@@ -1,6 +1,6 @@
 use Rattle.rtsp_message.specs.Intakes.{weight}
-use Rattle.relay_server.proofs.Dropping.{Drops}
-use Rattle.relay_server.proofs.connection.incoming.skip_frames.Given as goal
+use Rattle.relay_accounts.proofs.Dropping.{Drops}
+use Rattle.relay_accounts.proofs.incoming.skip_frames.Given as goal
 
 -- the frames so far were dropped and counted
 abbrev pub invariant-loop-counts : goal.invariant-loop-counts

@@ -1,5 +1,5 @@
-use Rattle.relay_server.proofs.Dropping.{drops_more}
-use Rattle.relay_server.proofs.connection.incoming.skip_frames.Goals as goal
+use Rattle.relay_accounts.proofs.Dropping.{drops_more}
+use Rattle.relay_accounts.proofs.incoming.skip_frames.Goals as goal
 
 pub loop-counts-preserved-in-Unit-Frame : goal.loop-counts-preserved-in-Unit-Frame
 loop-counts-preserved-in-Unit-Frame g c =

@@ -1,0 +1,13 @@
+//! What a connection's packets came to, and how it ended: the frames that come in between its requests, what is counted
+//! of them and of a player's packets, and which end is told.
+#![tactic(auto)]
+
+mod counts;
+mod ending;
+mod incoming;
+mod points;
+
+pub use counts::Counts;
+pub use ending::{ConnectionEnd, FrameEnd, end_of, status_of};
+pub use incoming::{publish_frames, skip_frames};
+pub use points::point_to_post;
