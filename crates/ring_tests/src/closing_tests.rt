@@ -1,3 +1,4 @@
+//! A running ring that is closed.
 ghost use Rattle.std.specs.Prelude.{◌≡◌};
 
 use crate::running_tests::{ROOM, packet, ring_of_one, sent, took};

@@ -1,3 +1,4 @@
+//! The running ring.
 ghost use Rattle.std.specs.Prelude.{◌≡◌, IfSome};
 
 use cursor::{Account, Feed, Left, Refused, Taken, Tap};
@@ -20,7 +21,7 @@ pub(crate) fn took(tap: &mut impl Tap, buf: &mut [u8]) -> Option<Taken> {
     }
 }
 
-/// A packet of this number and length.
+/// A packet of this number and length, with tag 3.
 pub(crate) fn packet(number: u64, len: usize) -> Option<Taken> {
     Some(Taken::Packet {
         number,
@@ -173,7 +174,7 @@ fn packet_limits(rt: HostRuntime) {
     }
 }
 
-/// What a seat has for the rest, which takes nothing while many packets pass.
+/// A seat that takes nothing while many packets pass has lost all but those that the ring keeps.
 #[test]
 fn idle_seat(rt: HostRuntime) {
     let (mut publisher, mut passes) = new(rt.alloc(), 16, 1, ROOM).expect(&rt, "memory");
@@ -190,17 +191,6 @@ fn idle_seat(rt: HostRuntime) {
         lost: 9_984,
     };
     assert!(rt; seat.account() == wanted && seat.cursor() == 9_985 && seat.known() == 10_000);
-}
-
-/// A feed's close ends the log, too.
-#[test]
-fn feed_close_ends(rt: HostRuntime) {
-    let (mut publisher, mut seat) = ring_of_one(rt.alloc()).expect(&rt, "no ring");
-    let mut buf = [0; ROOM];
-    assert!(rt; sent(&mut publisher, b"A") == Ok(0));
-    Feed::close(publisher);
-    assert!(rt; took(&mut seat, &mut buf) == packet(0, 1) && buf[0] == b'A');
-    assert!(rt; took(&mut seat, &mut buf) == Some(Taken::Ended));
 }
 
 /// A publisher that is dropped leaves an open log.
@@ -274,7 +264,7 @@ fn byte_of(number: u64, place: usize) -> u8 {
     (number % 251) as u8 ^ (place % 256) as u8
 }
 
-/// Publishes so many packets, each as soon as its place is free, and closes the ring.
+/// Publishes so many packets, each as soon as its place is free, and closes the ring. Tells how many publishes met a reader.
 fn publish_all(rt: &impl Wait, mut publisher: Publisher, count: u64) -> u64 {
     let mut bytes = [0; ROOM];
     let mut refused = 0u64;
@@ -342,9 +332,11 @@ fn five_threads(rt: HostRuntime) {
     let writer = thread::spawn(&rt, move || publish_all(&rt, publisher, 100_000)).expect(
         &rt, "a thread",
     );
-    writer.join(&rt);
+    // How many publishes met a reader depends on the threads.
+    let _refused = writer.join(&rt);
     for reader in readers {
         let account = reader.join(&rt).expect(&rt, "a seat read another packet");
-        assert!(rt; account.start == 0 && account.taken.checked_add(account.lost) == Some(100_000));
+        assert!(rt; account.start == 0 && account.taken > 0);
+        assert!(rt; account.taken.checked_add(account.lost) == Some(100_000));
     }
 }
