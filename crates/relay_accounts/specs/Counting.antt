@@ -19,6 +19,7 @@ nothing_counted = record {
   unkept = 0;
   taken = 0;
   lost = 0;
+  slowed = 0;
 }
 
 -- the counts with what is told of frames that came in
@@ -43,6 +44,10 @@ with_left counts left keep = record counts {
   taken = capped (counts.taken + left.taken);
   lost = capped (counts.lost + left.lost + (left.left - keep));
 }
+
+-- the counts with so many milliseconds for which packets waited
+abbrev pub with_wait : Counts → (milliseconds : ℕ) → Counts
+with_wait counts milliseconds = record counts { slowed = capped (counts.slowed + milliseconds) }
 
 -- how many packets of a mount were lost or refused
 abbrev pub losses : Counts → ℕ

@@ -9,8 +9,8 @@ use Rattle.relay_accounts.specs.declared.ending.ConnectionEnd.TheVariants as end
 use Rattle.relay_accounts.specs.declared.ending.FrameEnd.{FrameEnd}
 use Rattle.relay_accounts.specs.declared.ending.FrameEnd.TheVariants as frames
 
--- What is told where nothing stands above the end of the frames: a failed write of theirs, else the reader's own end. Where
--- the peer was told the end of its stream, all is well.
+-- What is told where the reader met nothing that goes before: want of memory of the frames; then, where the peer was told the
+-- end of its stream, that all is well; then a failed write of the frames; else the reader's own end.
 abbrev pub told_end : ConnectionEnd → FrameEnd → (is_over : Bool) → ConnectionEnd
 told_end read frames.OutOfMemory is_over = ends.OutOfMemory
 told_end read sent true = ends.Done

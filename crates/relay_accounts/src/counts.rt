@@ -1,6 +1,6 @@
 //! What became of the packets of a connection.
 ghost use Rattle.std.specs.Prelude.{◌≡◌, ◌<◌, ◌↔◌, IsTrue};
-ghost use Rattle.relay_accounts.specs.Counting.{losses, nothing_counted, with_left, with_report, with_strangers};
+ghost use Rattle.relay_accounts.specs.Counting.{losses, nothing_counted, with_left, with_report, with_strangers, with_wait};
 
 use cursor::Left;
 use publisher::InReport;
@@ -24,14 +24,16 @@ pub struct Counts {
     /// The packets that were taken from the ring, of tracks that the player set up or not; of a write that fails up to
     /// sixteen of them go nowhere.
     pub taken: u64,
-    /// The packets of any track that this player lost, since it was too far behind: those that a take told lost, and those that were
-    /// behind its cursor when it left its seat and that the ring kept no longer. What the ring still kept then is in no
+    /// The packets of any track that this player lost, since it was too far behind: those that a take told lost, and those
+    /// that were behind its cursor when it left its seat and that the ring kept no longer. What the ring still kept then is in no
     /// count.
     pub lost: u64,
+    /// For how many milliseconds in all its packets waited for the players that keep up.
+    pub slowed: u64,
 }
 
 impl Counts {
-    /// Of a connection of which nothing was counted.
+    /// Nothing is counted yet.
     pub fn new() -> Counts
         ensures { result ≡ nothing_counted }
     {
@@ -44,6 +46,7 @@ impl Counts {
             unkept: 0,
             taken: 0,
             lost: 0,
+            slowed: 0,
         }
     }
 
@@ -80,7 +83,14 @@ impl Counts {
             .saturating_add(left.left.saturating_sub(keep));
     }
 
-    /// Whether a packet of a mount was lost or refused. What players send on channels is nobody's loss.
+    /// Adds the milliseconds for which packets waited for players.
+    pub fn add_wait(&mut self, milliseconds: u64)
+        ensures { self.new ≡ with_wait self.old milliseconds }
+    {
+        self.slowed = self.slowed.saturating_add(milliseconds);
+    }
+
+    /// Whether a packet of a mount was lost or refused. Strangers are nobody's loss.
     pub fn has_losses(&self) -> bool
         ensures { IsTrue result ↔ (0 < losses self.now) }
     {
@@ -101,6 +111,10 @@ impl fmt::Display for Counts {
             self.unkept,
             self.taken,
             self.lost
-        )
+        )?;
+        if self.slowed > 0 {
+            write!(f, ", slowed {} ms", self.slowed)?;
+        }
+        Ok(())
     }
 }

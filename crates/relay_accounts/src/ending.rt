@@ -48,8 +48,8 @@ pub enum FrameEnd {
 }
 
 /// How a connection ended, from the ends of the thread that read it and of the one that sent its frames. `is_over` where
-/// the last packet of its mount was written and it was told the end for that: it has ended well then, however the peer
-/// left it.
+/// the last packet of its mount was written and the peer was told the end of its stream: then how the peer left is no
+/// failure.
 pub fn end_of(read: ConnectionEnd, sent: FrameEnd, is_over: bool) -> ConnectionEnd
     ensures { result ≡ connection_end read sent is_over }
 {

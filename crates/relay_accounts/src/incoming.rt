@@ -11,7 +11,8 @@ use publisher::{InReport, InStop, relay_in};
 use rtsp_message::{Intake, Next, Unit};
 use transport_header::{MOST_TRACKS, TrackChannels};
 
-/// Publishes frames until a message comes, the end or a fault, by `relay_in` with points of its own.
+/// Publishes frames until a message comes, the end or a fault, by `relay_in`. Nobody reads its points: the feed posts each
+/// as soon as its packet is in.
 pub fn publish_frames<S: Source + Drop, F: Feed>(
     intake: &mut Intake<S>,
     feed: &mut F,
@@ -20,8 +21,8 @@ pub fn publish_frames<S: Source + Drop, F: Feed>(
     ensures { (old_points new_points : List (Option Point)) × RelaysIn S.incoming S.failed F.publish_gives channels.now (F.packet_bytes feed.old) F.may_refuse intake.old intake.new feed.old feed.new (F.told feed.old) (F.told feed.new) old_points new_points result }
 {
     let mut points = [None; MOST_TRACKS];
-    // No more tracks than these are set up.
-    let _most = channels.pair_of(0);
+    // Read for the proof alone: no more tracks than there are places are set up.
+    let _pair = channels.pair_of(0);
     relay_in(intake, feed, channels, &mut points)
 }
 
@@ -29,7 +30,7 @@ pub fn publish_frames<S: Source + Drop, F: Feed>(
 pub fn skip_frames<S: Source + Drop>(intake: &mut Intake<S>, counts: &mut Counts) -> InStop
     ensures { DropsFrames S.incoming S.failed intake.old intake.new counts.old counts.new result }
 {
-    // No more frames than these can come.
+    // Both are read for the proof alone: no more frames than are left can come, and the count is within its range.
     let _most = intake.left();
     let _counted = counts.strangers;
     loop {

@@ -1,5 +1,5 @@
 //! What a connection's packets came to, and how it ended: the frames that come in between its requests, what is counted
-//! of them and of a player's packets, and which end is told.
+//! of them and of a player's packets, the points that they post, and which end is told.
 #![tactic(auto)]
 
 mod counts;

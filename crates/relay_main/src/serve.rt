@@ -1,7 +1,7 @@
 //! The command `relay serve`.
 ghost use Rattle.relay_command.specs.Serving.{IsInRange};
 
-use log::Log;
+use log::{Log, warn};
 use rand::make_rng;
 use rand::rngs::StdRng;
 use relay_command::Settings;
@@ -25,6 +25,9 @@ const OUT_OF_MEMORY: &str = "relay: out of memory";
 /// With `--hang-up-ended`, for how many milliseconds a player may stay behind the last packet of its mount.
 const AFTER_END: u64 = 10_000;
 
+/// For how many milliseconds a write to a peer that reads nothing may move no byte.
+const WRITE_WAIT: u64 = 20_000;
+
 /// Listens and serves. Answers the line that tells why it can't go on.
 pub fn serve<R>(rt: R, alloc: Global, addr: &str, settings: Settings) -> Result<(), &'static str>
 where
@@ -41,8 +44,12 @@ where
         + 'static,
     requires ranges { IsInRange settings }
 {
-    let Ok(listener) = TcpListener::bind(&rt, addr) else {
-        return Err(CANNOT_LISTEN);
+    let listener = match TcpListener::bind(&rt, addr) {
+        Ok(listener) => listener,
+        Err(error) => {
+            warn!(rt; "{addr}: {error}");
+            return Err(CANNOT_LISTEN);
+        }
     };
     let Ok(hasher) = RandomState::new(&rt) else {
         return Err(NoWords::NoRandomSource.line());
@@ -59,6 +66,7 @@ where
         accept: settings.accept,
         gather: settings.gather,
         after_end: settings.hang_up_ended.then_some(AFTER_END),
+        write_wait: WRITE_WAIT,
     };
     if let Ok(bound) = listener.local_addr() {
         let _ = eprintln!(rt; "relay: listening on {bound}");

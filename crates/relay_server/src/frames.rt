@@ -4,6 +4,7 @@ ghost use Rattle.std.specs.Prelude.{◌≤◌, length};
 use crate::line::Line;
 use crate::maker::Leave;
 use crate::notice::Notice;
+use crate::pace::KnownLevel;
 use crate::phase::FramePhase;
 use crate::socket::HangUp;
 use cursor::{Left, Tap};
@@ -76,13 +77,16 @@ impl<T: Tap + Leave + Drop, W: Sink + Drop, H: HangUp + Drop> Hand<T, W, H> {
         rt: &R,
         alloc: Global,
         notice: &Notice,
+        seat: usize,
         channels: &TrackChannels,
         after_end: Option<Duration>,
     ) -> FrameEnd {
+        notice.pace.join(rt, seat);
         let end = match &mut *self.tap.lock(rt) {
-            TapPlace::Attached(tap) => self.send_all(rt, alloc, tap, notice, channels),
+            TapPlace::Attached(tap) => self.send_all(rt, alloc, tap, notice, seat, channels),
             _ => FrameEnd::Stopped,
         };
+        notice.pace.leave(rt, seat);
         if end == FrameEnd::Ended {
             self.leave(rt);
         }
@@ -103,7 +107,7 @@ impl<T: Tap + Leave + Drop, W: Sink + Drop, H: HangUp + Drop> Hand<T, W, H> {
             let Some(most) = after_end else {
                 return;
             };
-            self.wire.close_writes();
+            self.line.close_writes(rt, &self.wire);
             if self.phase.wait_for_stop(rt, most) {
                 return;
             }
@@ -117,10 +121,11 @@ impl<T: Tap + Leave + Drop, W: Sink + Drop, H: HangUp + Drop> Hand<T, W, H> {
         alloc: Global,
         tap: &mut T,
         notice: &Notice,
+        seat: usize,
         channels: &TrackChannels,
     ) -> FrameEnd {
         match Vec::from_elem(alloc, 0, tap.packet_bytes()) {
-            Ok(mut buf) => self.send_from(rt, tap, notice, channels, buf.as_mut_slice()),
+            Ok(mut buf) => self.send_from(rt, tap, notice, seat, channels, buf.as_mut_slice()),
             Err(_) => FrameEnd::OutOfMemory,
         }
     }
@@ -130,11 +135,13 @@ impl<T: Tap + Leave + Drop, W: Sink + Drop, H: HangUp + Drop> Hand<T, W, H> {
         rt: &impl Wait,
         tap: &mut T,
         notice: &Notice,
+        seat: usize,
         channels: &TrackChannels,
         buf: &mut [u8],
     ) -> FrameEnd
         requires { T.packet_bytes tap.old ≤ length buf.old }
     {
+        let mut known = KnownLevel::new();
         for _ in rt.forever() {
             // Read before the tap is looked at, so that no wake is missed.
             let wakes = notice.wakes();
@@ -143,7 +150,11 @@ impl<T: Tap + Leave + Drop, W: Sink + Drop, H: HangUp + Drop> Hand<T, W, H> {
             }
             match self.line.relay(rt, tap, channels, buf) {
                 OutStop::Done => {}
-                OutStop::Empty => notice.sleep(rt, wakes),
+                OutStop::Empty => {
+                    // Before it sleeps: the publisher opens a round before it wakes.
+                    notice.pace.level(rt, seat, tap.cursor(), &mut known);
+                    notice.sleep(rt, wakes);
+                }
                 OutStop::Ended => return FrameEnd::Ended,
                 OutStop::WriteFailed => return FrameEnd::WriteFailed,
             }
@@ -189,8 +200,9 @@ impl Frames {
     {
         let hand = Arc::try_clone(hand)?;
         let notice = Arc::try_clone(&self.notice)?;
+        let seat = self.seat;
         let thread = thread::spawn(&rt, move || {
-            hand.send(&rt, alloc, &notice, &channels, after_end)
+            hand.send(&rt, alloc, &notice, seat, &channels, after_end)
         })?;
         self.thread = Some(thread);
         Ok(())

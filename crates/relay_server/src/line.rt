@@ -1,6 +1,7 @@
 //! What a connection's replies and frames are written on.
 ghost use Rattle.std.specs.Prelude.{◌≡◌, ◌≤◌, length};
 
+use crate::socket::HangUp;
 use cursor::Tap;
 use interleaved::{Failed, Gathering, Sink, write_all};
 use player::{OutStop, relay_out};
@@ -53,6 +54,12 @@ impl<W: Sink + Drop> Line<W> {
         let mut text = [0; 128];
         let len = put_plain(&mut text, status, cseq);
         self.write(rt, &text[..len])
+    }
+
+    /// Tells the peer the end of its stream, behind what is being written.
+    pub(crate) fn close_writes(&self, rt: &impl Wait, wire: &impl HangUp) {
+        let _sink = self.sink.lock(rt);
+        wire.close_writes();
     }
 
     /// Writes the frames of the next packets of a tap, and says why no more came.

@@ -2,6 +2,7 @@
 ghost use Rattle.std.specs.Prelude.{◌≡◌, ◌%◌, ◌^◌};
 
 use crate::line::TAKES;
+use crate::pace::Pace;
 use base_syntax::Items;
 use std::alloc::{AllocError, Global};
 use std::sync::atomic::{AtomicU64, Ordering};
@@ -11,7 +12,7 @@ use transport_header::{MOST_TRACKS, Point};
 /// What the publisher of a mount and its players share beside the ring: where each track stands, and the word that
 /// players sleep on while there is nothing to take.
 ///
-/// Any thread of the server may use it. Its lock is held for a copy of the points or a change of one.
+/// Any thread of the server may use it. The points' lock is held for a copy of them or a change of one.
 #[derive(Drop)]
 pub struct Notice {
     points: Mutex<[Option<Point>; MOST_TRACKS]>,
@@ -19,15 +20,19 @@ pub struct Notice {
     news: AtomicU64,
     /// How often the players were woken.
     wakes: AtomicU64,
+    /// Who keeps up with the publisher.
+    pub(crate) pace: Pace,
 }
 
 impl Notice {
-    pub(crate) fn new() -> Notice {
-        Notice {
+    /// Of a mount with so many seats.
+    pub(crate) fn new(alloc: Global, seats: usize) -> Result<Notice, AllocError> {
+        Ok(Notice {
             points: Mutex::new([None; MOST_TRACKS]),
             news: AtomicU64::new(0),
             wakes: AtomicU64::new(0),
-        }
+            pace: Pace::new(alloc, seats)?,
+        })
     }
 
     /// The last packet of a track stands here.
@@ -60,8 +65,9 @@ impl Notice {
         }
     }
 
-    /// Wakes the players of the mount.
+    /// Wakes the players of the mount, to whatever came.
     pub(crate) fn wake(&self) {
+        self.news.store(0, Ordering::SeqCst);
         self.wakes.fetch_add(1, Ordering::SeqCst);
         self.wakes.wake_all();
     }

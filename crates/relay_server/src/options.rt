@@ -10,4 +10,7 @@ pub struct Options {
     /// A player is told the end of its stream once the last packet of its mount was written, and hung up if it is still
     /// there so many milliseconds later. `None` lets it stay.
     pub after_end: Option<u64>,
+    /// A write to a peer fails, and ends its connection, where for so many milliseconds no byte of it could be written; at
+    /// least 1.
+    pub write_wait: u64,
 }

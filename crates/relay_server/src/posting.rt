@@ -1,51 +1,80 @@
 //! The feed of a mount, with what its players are told beside the packets.
+ghost use Rattle.std.specs.Prelude.{◌≡◌};
+ghost use Rattle.pacing.specs.Insisting.{PublishesAtLast};
+
 use crate::bell::Bell;
+use crate::line::TAKES;
+use crate::moments::Moments;
 use crate::notice::Notice;
 use cursor::{Feed, Refused};
+use pacing::{Allowance, Insisting};
 use relay_accounts::point_to_post;
 use std::alloc::Global;
 use std::sync::{Arc, Wait};
+use std::time::{Clock, Duration, Instant};
 
-/// A feed that tells of each packet that it takes: where its track stands now, and that there is something to take.
+/// The shortest wait for players, in microseconds: in less none that keeps up could be expected to take all.
+const LEAST: u64 = 1_000;
+
+/// A feed that tells of each packet that it takes: where its track stands now, and that there is something to take. A
+/// publish that meets a player in the middle of a copy is tried again.
 #[derive(Drop)]
 pub(crate) struct Posting<R, F> {
     rt: R,
-    feed: F,
+    feed: Insisting<F, Moments<R>>,
     notice: Arc<Notice, Global>,
     bell: Arc<Bell, Global>,
     /// Whether the waking thread knows of the mount; else its players are woken at each packet.
     pub(crate) posted: bool,
+    /// So many packets may be published before those that keep up have to have taken them.
+    stretch: u64,
+    /// How many packets were published when the slowest of those that keep up had taken all, as far as was looked; or when it was
+    /// last waited for them, or could have been.
+    level: u64,
+    allowance: Allowance,
+    /// For how many microseconds it has waited in all.
+    waited: u64,
+    /// What moments are counted from, where the clock can be read.
+    began: Option<Instant>,
 }
 
-impl<R, F> Posting<R, F> {
+impl<R: Clock + Copy + Drop, F: Drop> Posting<R, F> {
+    /// Over a feed that keeps so many packets for players that are behind.
     pub(crate) fn new(
         rt: R,
         feed: F,
         notice: Arc<Notice, Global>,
         bell: Arc<Bell, Global>,
+        keep: u64,
     ) -> Posting<R, F> {
         Posting {
             rt,
-            feed,
+            feed: Insisting::new(feed, Moments::new(rt)),
             notice,
             bell,
             posted: false,
+            stretch: (keep / 4).max(TAKES),
+            level: 0,
+            allowance: Allowance::new(),
+            waited: 0,
+            began: Instant::now(&rt).ok(),
         }
     }
 }
 
-impl<R: Drop, F: Feed> Posting<R, F> {
-    /// No packet comes any more. The players are woken to see it.
-    pub(crate) fn end(self) {
+impl<R: Clock + Drop, F: Feed> Posting<R, F> {
+    /// No packet comes any more. The players are woken to see it. Tells for how many milliseconds packets waited for them.
+    pub(crate) fn end(self) -> u64 {
+        let waited = self.waited / 1000;
         let Posting {
             rt: _,
             feed,
             notice,
-            bell: _,
-            posted: _,
+            ..
         } = self;
         feed.close();
         notice.wake();
+        waited
     }
 
     pub(crate) fn notice(&self) -> &Arc<Notice, Global> {
@@ -53,14 +82,56 @@ impl<R: Drop, F: Feed> Posting<R, F> {
     }
 }
 
-impl<R: Wait + Drop, F: Feed> Feed for Posting<R, F> {
-    ghost told = { λ p. F.told p.feed };
+impl<R: Wait + Clock + Drop, F> Posting<R, F> {
+    /// Waits until the players that keep up have taken what is published, where one of them hasn't taken all for a stretch: the
+    /// rest of a burst waits in the publisher's socket meanwhile, and not in the ring, which would lose it for them. Those that
+    /// haven't at the end of what may be waited are behind, and nobody waits for them until they have taken all.
+    fn keep_pace(&mut self, published: u64)
+        ensures { self.new.feed ≡ self.old.feed }
+    {
+        if published.saturating_sub(self.level) < self.stretch {
+            return;
+        }
+        let slowest = self.notice.pace.slowest(&self.rt, published);
+        if published.saturating_sub(slowest) < self.stretch {
+            // Looked at again a quarter of a stretch later at the earliest.
+            self.level = slowest.max(published.saturating_sub(self.stretch / 4 * 3));
+            return;
+        }
+        self.level = published;
+        let Some(now) = self.now() else {
+            return;
+        };
+        let most = self.allowance.left(now);
+        if most < LEAST || self.notice.pace.open(&self.rt, published) == 0 {
+            return;
+        }
+        // Behind the opening, so that a player which looked before it doesn't sleep; what waking takes is waited, too.
+        self.notice.wake();
+        let end = now.saturating_add(most);
+        let woken = self.now().unwrap_or(end);
+        let rest = Duration::from_micros(end.saturating_sub(woken));
+        self.notice.pace.wait(&self.rt, rest);
+        let then = self.now().unwrap_or(end);
+        self.allowance.spend(now, then);
+        self.waited = self.waited.saturating_add(then.saturating_sub(now));
+    }
 
-    ghost packet_bytes = { λ p. F.packet_bytes p.feed };
+    /// How many microseconds have passed since the feed was made. `None` where the clock can't be read.
+    fn now(&self) -> Option<u64> {
+        let now = Instant::now(&self.rt).ok()?;
+        u64::try_from(now.duration_since(self.began?).as_micros()).ok()
+    }
+}
+
+impl<R: Wait + Clock + Drop, F: Feed> Feed for Posting<R, F> {
+    ghost told = { λ p. F.told p.feed.feed };
+
+    ghost packet_bytes = { λ p. F.packet_bytes p.feed.feed };
 
     ghost may_refuse = { F.may_refuse };
 
-    ghost publish_gives = { λ old packet answer new. F.publish_gives old.feed packet answer new.feed };
+    ghost publish_gives = { λ old packet answer new. PublishesAtLast F.publish_gives old.feed packet answer new.feed };
 
     fn publish(&mut self, tag: u8, bytes: &[u8]) -> Result<u64, Refused> {
         let number = self.feed.publish(tag, bytes)?;
@@ -76,6 +147,7 @@ impl<R: Wait + Drop, F: Feed> Feed for Posting<R, F> {
         } else {
             self.notice.wake();
         }
+        self.keep_pace(number.saturating_add(1));
         Ok(number)
     }
 

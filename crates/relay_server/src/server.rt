@@ -63,7 +63,7 @@ where
     let waking = thread::spawn(&rt, move || {
         wake_players(&rt, &theirs.bell, &theirs.board, gather)
     })?;
-    accept_all(rt, alloc, listener, options.accept, &shared);
+    accept_all(rt, alloc, listener, options, &shared);
     wait_for_all(&rt, &shared);
     shared.bell.stop();
     waking.join(&rt);
@@ -75,7 +75,7 @@ fn accept_all<R, V, G>(
     rt: R,
     alloc: Global,
     listener: &TcpListener,
-    most: Option<u64>,
+    options: Options,
     shared: &Arc<RingShared<V, G>, Global>,
 )
 where
@@ -85,17 +85,26 @@ where
 {
     let mut accepted = 0u64;
     for _ in rt.forever() {
-        if most == Some(accepted) {
+        if options.accept == Some(accepted) {
             return;
         }
         match listener.accept() {
             Ok((stream, peer)) => {
                 accepted = accepted.saturating_add(1);
+                set_up(&stream, options.write_wait);
                 welcome(rt, alloc, shared, stream, peer);
             }
             Err(_) => thread::sleep(&rt, Duration::from_millis(AFTER_NO_ACCEPT)),
         }
     }
+}
+
+/// Sets a socket up: small writes leave at once, and one that moves nothing for so many milliseconds fails, so that a peer
+/// that reads nothing holds its threads no longer.
+fn set_up(stream: &TcpStream, write_wait: u64) {
+    // Without them frames would only leave later, and a stalled peer stay.
+    let _ = stream.set_nodelay(true);
+    let _ = stream.set_write_timeout(Some(Duration::from_millis(write_wait)));
 }
 
 /// Lets a connection come and starts its thread. Where one or the other is refused, it is told 503 and closed, and a
@@ -112,8 +121,6 @@ where
     V: Words + Drop + Send + 'static,
     G: Gate + Drop + Send + Sync + 'static,
 {
-    // Without it frames would only leave later.
-    let _ = stream.set_nodelay(true);
     let connected = shared.book.lock(&rt).connect();
     let conn = match connected {
         Ok(conn) => conn,
@@ -172,12 +179,12 @@ where
 }
 
 /// A warning where a connection ended by a fault, a failed read or write, or for want of memory or a thread, and a line
-/// where packets were lost or refused.
+/// where packets were lost or refused, or waited for players.
 pub fn tell_end<R: Log>(rt: &R, peer: SocketAddr, end: ConnectionEnd, counts: &Counts) {
     if end != ConnectionEnd::Done {
         warn!(rt; "{peer}: {end}");
     }
-    if counts.has_losses() {
+    if counts.has_losses() || counts.slowed > 0 {
         info!(rt; "{peer}: {counts}");
     }
 }

@@ -88,6 +88,7 @@ fn each_frame_of_a_connection_is_counted(rt: HostRuntime) {
         unkept: 0,
         taken: 0,
         lost: 0,
+        slowed: 0,
     };
     assert!(rt; served.counts == want && served.counts.has_losses());
     // Its coming, four requests and its hang-up.

@@ -170,29 +170,36 @@ fn a_player_may_stay_behind_the_end(rt: HostRuntime) {
 /// How many packets of 6,000 bytes are published to a player that reads nothing: more than a system's buffers mostly hold.
 const STALLING: u16 = 2_000;
 
+/// What a player says that reads nothing, and whether it says nothing more.
+#[derive(Clone, Copy)]
+struct Last<'a> {
+    said: &'a [u8],
+    is_silent: bool,
+}
+
 /// The second player has the seat as soon as it is free, and doesn't have it before the first one says this.
-fn seat_is_freed<R: Clock + Abort>(rt: &R, peers: &mut Peers, said: Option<&[u8]>) {
+fn seat_is_freed<R: Clock + Abort>(rt: &R, peers: &mut Peers, last: Last<'_>) {
     assert!(rt; peers.second.status_of(rt, &play(3)) == 453);
-    match said {
-        Some(bytes) => peers.first.say(rt, bytes),
-        None => peers.first.fall_silent(rt),
+    peers.first.say(rt, last.said);
+    if last.is_silent {
+        peers.first.fall_silent(rt);
     }
     assert!(rt; plays_at_last(rt, &mut peers.second, 3) == 200);
 }
 
-/// A player that stopped reading amid what its camera published, and whose seat was freed as it said this, or fell
-/// silent. The other clients have closed.
+/// A player that stopped reading amid what its camera published, and whose seat was freed behind what it said last. The
+/// other clients have closed.
 fn freed<R: Net<Stream = TcpStream> + Clock + Abort>(
     rt: &R,
     alloc: Global,
     addr: SocketAddr,
-    said: Option<&[u8]>,
+    last: Last<'_>,
 ) -> Client {
     let mut peers = Peers::connect(rt, alloc, addr);
     publish(rt, alloc, &mut peers.camera, 0, STALLING);
     // The server has read them all.
     peers.camera.ask(rt, OPTIONS);
-    seat_is_freed(rt, &mut peers, said);
+    seat_is_freed(rt, &mut peers, last);
     peers.first
 }
 
@@ -200,7 +207,11 @@ fn freed<R: Net<Stream = TcpStream> + Clock + Abort>(
 fn a_stalled_player_that_sends_a_fault_is_freed(rt: HostRuntime) {
     let alloc = rt.alloc();
     let server = start(rt, alloc, Set::of(3, 1), OpenGate);
-    let _first = freed(&rt, alloc, server.addr, Some(b"HELLO\r\n"));
+    let last = Last {
+        said: b"HELLO\r\n",
+        is_silent: false,
+    };
+    let _first = freed(&rt, alloc, server.addr, last);
     server.end(&rt);
 }
 
@@ -208,7 +219,11 @@ fn a_stalled_player_that_sends_a_fault_is_freed(rt: HostRuntime) {
 fn a_stalled_player_that_falls_silent_is_freed(rt: HostRuntime) {
     let alloc = rt.alloc();
     let server = start(rt, alloc, Set::of(3, 1), OpenGate);
-    freed(&rt, alloc, server.addr, None);
+    let last = Last {
+        said: b"",
+        is_silent: true,
+    };
+    freed(&rt, alloc, server.addr, last);
     server.end(&rt);
 }
 
@@ -220,8 +235,44 @@ const TEARDOWN: &[u8] =
 fn a_stalled_player_that_tears_down_is_freed(rt: HostRuntime) {
     let alloc = rt.alloc();
     let server = start(rt, alloc, Set::of(3, 1), OpenGate);
-    freed(&rt, alloc, server.addr, Some(TEARDOWN));
+    let last = Last {
+        said: TEARDOWN,
+        is_silent: false,
+    };
+    freed(&rt, alloc, server.addr, last);
     server.end(&rt);
+}
+
+/// A request, whose reply waits for the frames that the peer doesn't read, and what comes behind it: a fault, nothing more, a
+/// TEARDOWN.
+const BEHIND_A_REQUEST: [Last<'static>; 3] = [
+    Last {
+        said: b"OPTIONS * RTSP/1.0\r\nCSeq: 6\r\n\r\nHELLO\r\n",
+        is_silent: false,
+    },
+    Last {
+        said: OPTIONS,
+        is_silent: true,
+    },
+    Last {
+        said: b"OPTIONS * RTSP/1.0\r\nCSeq: 6\r\n\r\nTEARDOWN rtsp://127.0.0.1:8554/cam RTSP/1.0\r\nCSeq: 7\r\nSession: 000000020000abcd\r\n\r\n",
+        is_silent: false,
+    },
+];
+
+/// No reply can be written to it, and its writes move nothing: they fail.
+#[test]
+fn a_stalled_player_that_asked_before_is_freed(rt: HostRuntime) {
+    let alloc = rt.alloc();
+    for last in &BEHIND_A_REQUEST {
+        let set = Set {
+            write_wait: 3_000,
+            ..Set::of(3, 1)
+        };
+        let server = start(rt, alloc, set, OpenGate);
+        let _first = freed(&rt, alloc, server.addr, *last);
+        server.end(&rt);
+    }
 }
 
 /// Twenty clients, one behind another, for which there is no connection.

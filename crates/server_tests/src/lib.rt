@@ -22,6 +22,8 @@ mod loopback_tests;
 #[cfg(test)]
 mod mounts_tests;
 #[cfg(test)]
+mod pacing_tests;
+#[cfg(test)]
 mod row_tests;
 #[cfg(test)]
 mod scripted;

@@ -185,6 +185,8 @@ pub(crate) struct Set {
     pub(crate) after_end: Option<u64>,
     /// The milliseconds for which packets gather.
     pub(crate) gather: u64,
+    /// The milliseconds for which a write may move nothing.
+    pub(crate) write_wait: u64,
 }
 
 impl Set {
@@ -195,6 +197,7 @@ impl Set {
             seats,
             after_end: None,
             gather: 1,
+            write_wait: 20_000,
         }
     }
 }
@@ -246,6 +249,7 @@ where
         accept: Some(set.accept),
         gather: set.gather,
         after_end: set.after_end,
+        write_wait: set.write_wait,
     };
     let maker = RingMaker::new(512, seats, 16_384);
     let thread = serve(rt, alloc, listener, options, maker, theirs, gate);

@@ -8,11 +8,23 @@ use std::net::SocketAddr;
 use std::process::Abort;
 
 /// Each end, and its text. All but the first are warned of.
-const ENDS: [(ConnectionEnd, &str); 7] = [
+const ENDS: [(ConnectionEnd, &str); 10] = [
     (ConnectionEnd::Done, "done"),
     (
         ConnectionEnd::StreamFault(Fault::BadLine),
         "stream fault 1: bad request line",
+    ),
+    (
+        ConnectionEnd::StreamFault(Fault::BadHeader),
+        "stream fault 2: bad header line",
+    ),
+    (
+        ConnectionEnd::StreamFault(Fault::BadLength),
+        "stream fault 3: bad Content-Length",
+    ),
+    (
+        ConnectionEnd::StreamFault(Fault::HeadTooLong),
+        "stream fault 4: head too long",
     ),
     (
         ConnectionEnd::StreamFault(Fault::BodyTooLong),
@@ -42,6 +54,7 @@ fn ends_and_refusals_say_why(rt: HostRuntime) {
     ] {
         assert!(rt; is_text(&rt, alloc, &refusal, text), "{text}");
     }
+    assert!(rt; is_text(&rt, alloc, &LOSSLESS, UNTOLD));
 }
 
 /// Each count is another number.
@@ -54,11 +67,12 @@ const COUNTS: Counts = Counts {
     unkept: 6,
     taken: 7,
     lost: 8,
+    slowed: 9,
 };
 
 /// Nothing was lost or refused.
 const LOSSLESS: Counts = Counts {
-    published: 9,
+    published: u64::MAX,
     pinned: 0,
     oversize: 0,
     bad_rtp: 0,
@@ -66,26 +80,56 @@ const LOSSLESS: Counts = Counts {
     unkept: 0,
     taken: 9,
     lost: 0,
+    slowed: 0,
 };
+
+/// The text of counts of which most are nothing.
+const UNTOLD: &str =
+    "published 18446744073709551615, pinned 0, oversize 0, bad RTP 0, strangers 9, unkept 0, taken 9, lost 0";
 
 /// The line that tells of the counts.
 const COUNTED: &str =
-    "[INFO  relay_server::server] 10.0.0.1:554: published 1, pinned 2, oversize 3, bad RTP 4, strangers 5, unkept 6, taken 7, lost 8";
+    "[INFO  relay_server::server] 10.0.0.1:554: published 1, pinned 2, oversize 3, bad RTP 4, strangers 5, unkept 6, taken 7, lost 8, slowed 9 ms";
+
+/// A publisher that lost nothing and was slowed.
+const SLOWED: Counts = Counts {
+    published: 9,
+    pinned: 0,
+    oversize: 0,
+    bad_rtp: 0,
+    strangers: 0,
+    unkept: 0,
+    taken: 0,
+    lost: 0,
+    slowed: 12,
+};
+
+/// Counts, and the line that tells of them: of losses, and of a publisher that was slowed.
+const TOLD: [(Counts, Option<&str>); 3] = [
+    (LOSSLESS, None),
+    (COUNTS, Some(COUNTED)),
+    (
+        SLOWED,
+        Some(
+            "[INFO  relay_server::server] 10.0.0.1:554: published 9, pinned 0, oversize 0, bad RTP 0, strangers 0, unkept 0, taken 0, lost 0, slowed 12 ms",
+        ),
+    ),
+];
 
 /// Whether a line warns of an end with this text.
 fn is_warning(line: &str, text: &str) -> bool {
     line.strip_prefix("[WARN  relay_server::server] 10.0.0.1:554: ") == Some(text)
 }
 
-/// Whether these are the lines that tell of an end with this text: a warning where it isn't the good one, and the counts
-/// where something was lost.
-fn are_told(lines: &[String], end: ConnectionEnd, text: &str, counts: Counts) -> bool {
-    match (lines, end != ConnectionEnd::Done, counts == COUNTS) {
-        ([], false, false) => true,
-        ([warning], true, false) => is_warning(warning.as_str(), text),
-        ([counted], false, true) => counted.as_str() == COUNTED,
-        ([warning, counted], true, true) => {
-            is_warning(warning.as_str(), text) && counted.as_str() == COUNTED
+/// Whether these are the lines that tell of an end with this text: a warning where it isn't the good one, and that of the
+/// counts, if there is one.
+fn are_told(lines: &[String], end: ConnectionEnd, text: &str, line: Option<&str>) -> bool {
+    match (lines, end != ConnectionEnd::Done, line) {
+        ([], false, None) => true,
+        ([warning], true, None) => is_warning(warning.as_str(), text),
+        ([counted], false, Some(line)) => counted.as_str() == line,
+        ([warning, counted], true, Some(line)) => {
+            is_warning(warning.as_str(), text) && counted.as_str() == line
         }
         _ => false,
     }
@@ -95,11 +139,11 @@ fn are_told(lines: &[String], end: ConnectionEnd, text: &str, counts: Counts) ->
 fn an_end_is_a_line_and_so_are_losses(rt: HostRuntime) {
     let peer = SocketAddr::from(([10, 0, 0, 1], 554));
     for (end, text) in ENDS {
-        for counts in [LOSSLESS, COUNTS] {
+        for (counts, line) in TOLD {
             let sink = Memory::new(rt.alloc());
             tell_end(&sink, peer, end, &counts);
             let lines = sink.into_lines();
-            assert!(rt; are_told(lines.as_slice(), end, text, counts), "{text}");
+            assert!(rt; are_told(lines.as_slice(), end, text, line), "{text}");
         }
     }
 }

@@ -113,10 +113,11 @@ where
     /// What a mount's packets go through, with a seat for each pass.
     fn offer(&self) -> Result<(Posting<R, M::In>, Vec<Seat<M::Pass>>), AllocError> {
         let (feed, passes) = self.shared.maker.make(self.alloc)?;
-        let notice = Arc::new(self.alloc, Notice::new())?;
+        let notice = Arc::new(self.alloc, Notice::new(self.alloc, passes.len())?)?;
         let seats = Seat::of(self.alloc, passes, &notice)?;
         let bell = Arc::try_clone(&self.shared.bell)?;
-        Ok((Posting::new(self.rt, feed, notice, bell), seats))
+        let keep = self.shared.maker.keep();
+        Ok((Posting::new(self.rt, feed, notice, bell, keep), seats))
     }
 
     /// Where the tracks of the session's mount stand.

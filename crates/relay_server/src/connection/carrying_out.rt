@@ -151,7 +151,7 @@ where
     /// The mount has ended: no packet comes any more.
     pub(super) fn end_mount(&mut self) {
         if let Some(feed) = self.publishing.take() {
-            feed.end();
+            self.counts.add_wait(feed.end());
         }
         if let Some(mount) = self.mount.take() {
             self.shared.board.remove(&self.rt, mount);

@@ -1,5 +1,6 @@
 //! What comes in between a connection's requests.
 ghost use Rattle.std.specs.Prelude.{◌≡◌, true, IfSome, IsSomeAnd};
+ghost use Rattle.pacing.specs.Insisting.{PublishesAtLast};
 ghost use Rattle.relay_accounts.specs.Incoming.{DropsFrames, PublishesFrames};
 
 use super::Connection;
@@ -27,7 +28,7 @@ where
 {
     /// The next request. Frames before it are published while the session records, and else dropped.
     pub(super) fn next_message<S: Source + Drop>(&mut self, intake: &mut Intake<S>) -> InStop
-        ensures published { IfSome self.old.session (λ told. told.recording ≡ true → IfSome self.old.publishing (λ feed. PublishesFrames S.incoming S.failed (λ old packet answer new. M.In.publish_gives old.feed packet answer new.feed) told.channels (M.In.packet_bytes feed.feed) M.In.may_refuse intake.old intake.new feed self.new.publishing self.old.counts self.new.counts result)) }
+        ensures published { IfSome self.old.session (λ told. told.recording ≡ true → IfSome self.old.publishing (λ feed. PublishesFrames S.incoming S.failed (λ old packet answer new. PublishesAtLast M.In.publish_gives old.feed packet answer new.feed) told.channels (M.In.packet_bytes feed.feed.feed) M.In.may_refuse intake.old intake.new feed self.new.publishing self.old.counts self.new.counts result)) }
         ensures dropped { (IsSomeAnd self.old.session (λ told. told.recording ≡ true) → ⊥) → (self.new.publishing ≡ self.old.publishing) × DropsFrames S.incoming S.failed intake.old intake.new self.old.counts self.new.counts result }
     {
         match (&mut self.publishing, &self.session) {

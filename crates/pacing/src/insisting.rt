@@ -1,0 +1,94 @@
+//! A feed that tries again what was refused as pinned.
+ghost use Rattle.std.specs.Prelude.{◌≡◌, false};
+ghost use Rattle.pacing.specs.Insisting.{PublishesAtLast, given_up_after as given_up_behind};
+
+use cursor::{Feed, Refused};
+use std::marker::Model;
+
+/// Lets a moment pass between two tries of a publish.
+pub trait Pause {
+    /// Lets the moment pass behind the try with this number, counted from 0 for each publish.
+    fn pause(&mut self, number: u32);
+}
+
+/// How often a publish that was refused as pinned is tried again, at most.
+const MOST_TRIES: u32 = 40;
+
+/// A feed that tries a publish again that was refused as pinned: a reader was just copying the packet that it would have
+/// replaced, and will be gone in a moment. Where all tries were refused, the refusal is answered, and no publish is tried
+/// twice until one goes through: a reader that stays costs its publisher one such wait.
+///
+/// A contract sees the feed in it, and whether the last publish was given up.
+#[derive(Drop)]
+pub struct Insisting<F, P> {
+    feed: F,
+    pause: P,
+    gave_up: bool,
+}
+
+impl<F, P> Model for Insisting<F, P> {
+    ghost use Rattle.pacing.specs.Insisting.{Insisted};
+
+    ghost Value = { Insisted F };
+
+    ghost view = { λ i. record { feed = i.feed; gave_up = i.gave_up } };
+}
+
+impl<F: Drop, P: Drop> Insisting<F, P> {
+    /// A feed over this one, with what passes the time between tries.
+    pub fn new(feed: F, pause: P) -> Insisting<F, P>
+        ensures { result ≡ record { feed = feed; gave_up = false } }
+    {
+        Insisting {
+            feed,
+            pause,
+            gave_up: false,
+        }
+    }
+}
+
+impl<F: Feed, P: Pause + Drop> Feed for Insisting<F, P> {
+    ghost told = { λ i. F.told i.feed };
+
+    ghost packet_bytes = { λ i. F.packet_bytes i.feed };
+
+    ghost may_refuse = { F.may_refuse };
+
+    ghost publish_gives = { PublishesAtLast F.publish_gives };
+
+    /// Publishes into the inner feed, again where that was refused as pinned.
+    fn publish(&mut self, tag: u8, bytes: &[u8]) -> Result<u64, Refused> {
+        let most = if self.gave_up { 0 } else { MOST_TRIES };
+        for number in 0..most {
+            match self.feed.publish(tag, bytes) {
+                Err(Refused::Pinned { .. }) => self.pause.pause(number),
+                answer => {
+                    self.gave_up = given_up_after(self.gave_up, &answer);
+                    return answer;
+                }
+            }
+        }
+        let answer = self.feed.publish(tag, bytes);
+        self.gave_up = given_up_after(self.gave_up, &answer);
+        answer
+    }
+
+    fn packet_bytes(&self) -> usize {
+        self.feed.packet_bytes()
+    }
+
+    fn close(self) {
+        self.feed.close();
+    }
+}
+
+/// Whether the last publish was given up, behind this answer: what is too long or comes too late never reached its place.
+fn given_up_after(gave_up: bool, answer: &Result<u64, Refused>) -> bool
+    ensures { result ≡ given_up_behind gave_up answer.now }
+{
+    match answer {
+        Ok(_) => false,
+        Err(Refused::Pinned { .. }) => true,
+        Err(Refused::TooLong | Refused::Worn | Refused::OutOfMemory) => gave_up,
+    }
+}

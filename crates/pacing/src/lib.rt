@@ -1,0 +1,13 @@
+//! How a publisher gives way to its players, within bounds: which of them it waits for, and for how long, and a publish that
+//! meets one in the middle of its copy. Moments, counts and pauses are handed in.
+#![tactic(auto)]
+
+mod allowance;
+mod insisting;
+mod round;
+mod standing;
+
+pub use allowance::Allowance;
+pub use insisting::{Insisting, Pause};
+pub use round::Round;
+pub use standing::Standing;

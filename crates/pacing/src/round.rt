@@ -1,0 +1,187 @@
+//! A publisher's rounds.
+ghost use Rattle.std.specs.Prelude.{◌≡◌, ◌↔◌, ◌<◌, IsTrue, IfOk, map, replicate, slice_set};
+ghost use Rattle.pacing.specs.declared.standing.Standing.TheVariants.{Absent, Behind};
+ghost use Rattle.pacing.specs.Rounds.{IsLevel, asked, awaited, followed, given_up, levelled, slowest, standing_of};
+
+use crate::standing::Standing;
+use std::alloc::{AllocError, Global};
+use std::marker::Model;
+
+/// How the players of a mount stand to its publisher, which waits in rounds: a round is opened with what is published so
+/// far, and is over once each player that kept up has taken that or left, or was given up.
+///
+/// A contract sees the standing of each seat, and the round's target.
+#[derive(Drop)]
+pub struct Round {
+    players: Vec<Standing>,
+    /// How many players are awaited.
+    count: usize,
+    target: u64,
+}
+
+impl Model for Round {
+    ghost use Rattle.std.specs.Prelude.{◌≡◌};
+    ghost use Rattle.pacing.specs.Rounds.{Paced, awaited};
+
+    ghost Value = { Paced };
+
+    ghost view = { λ r. record { players = r.players.items; target = r.target } };
+
+    ghost invariant = { λ r. r.count ≡ awaited r.players.items };
+}
+
+impl Round {
+    /// Nobody has any of so many seats.
+    pub fn new(alloc: Global, seats: usize) -> Result<Round, AllocError>
+        ensures { IfOk result (λ r. r ≡ record { players = replicate seats Absent; target = 0 }) }
+    {
+        Ok(Round {
+            players: Vec::from_elem(alloc, Standing::Absent, seats)?,
+            count: 0,
+            target: 0,
+        })
+    }
+
+    /// How many players are awaited.
+    pub fn awaited(&self) -> usize
+        ensures { result ≡ awaited self.now.players }
+    {
+        self.count
+    }
+
+    /// A player takes a seat. Nobody waits for it until it has taken all. Tells whether the seat's last player was the last that
+    /// was awaited, which can't be where that one has left.
+    pub fn join(&mut self, seat: usize) -> bool
+        ensures new { self.new ≡ record self.old { players = slice_set self.old.players seat Behind } }
+        ensures last { IsTrue result ↔ ((0 < awaited self.old.players) × (awaited self.new.players ≡ 0)) }
+    {
+        let before = self.count;
+        self.put(seat, Standing::Behind);
+        before > 0 && self.count == 0
+    }
+
+    /// A player leaves its seat. Tells whether it was the last that was awaited.
+    pub fn leave(&mut self, seat: usize) -> bool
+        ensures new { self.new ≡ record self.old { players = slice_set self.old.players seat Absent } }
+        ensures last { IsTrue result ↔ ((0 < awaited self.old.players) × (awaited self.new.players ≡ 0)) }
+    {
+        let before = self.count;
+        self.put(seat, Standing::Absent);
+        before > 0 && self.count == 0
+    }
+
+    /// A player had nothing more to take when so many packets were published. Tells whether it was the last that was
+    /// awaited.
+    pub fn level(&mut self, seat: usize, at: u64) -> bool
+        ensures new { self.new ≡ record self.old { players = slice_set self.old.players seat (levelled self.old.target at (standing_of self.old.players seat)) } }
+        ensures last { IsTrue result ↔ ((0 < awaited self.old.players) × (awaited self.new.players ≡ 0)) }
+    {
+        let before = self.count;
+        if let Some(standing) = self.players.get(seat) {
+            let next = standing.levelled(self.target, at);
+            self.put(seat, next);
+        }
+        before > 0 && self.count == 0
+    }
+
+    /// A player was seen to have had nothing more to take when so many packets were published. Where nobody waits for it yet,
+    /// or it is awaited, nothing changes.
+    pub fn follow(&mut self, seat: usize, at: u64)
+        ensures { self.new ≡ record self.old { players = slice_set self.old.players seat (followed at (standing_of self.old.players seat)) } }
+    {
+        if let Some(standing) = self.players.get(seat) {
+            let next = standing.followed(at);
+            self.put(seat, next);
+        }
+    }
+
+    /// Whether the player of a seat keeps up and isn't awaited.
+    pub fn is_level(&self, seat: usize) -> bool
+        ensures { IsTrue result ↔ IsLevel (standing_of self.now.players seat) }
+    {
+        match self.players.get(seat) {
+            Some(standing) => matches!(standing, Standing::Level { .. }),
+            None => false,
+        }
+    }
+
+    /// Where the last player was level of those that keep up and aren't awaited, or `published` where each has taken more.
+    pub fn slowest(&self, published: u64) -> u64
+        ensures { result ≡ slowest self.now.players published }
+    {
+        let mut least = published;
+        for player in self.players.iter() {
+            if let Standing::Level { at } = player {
+                least = least.min(*at);
+            }
+        }
+        least
+    }
+
+    /// Opens a round when so many packets are published. Tells how many players are awaited.
+    pub fn open(&mut self, published: u64) -> usize
+        ensures new { self.new ≡ record { players = map (asked published) self.old.players; target = published } }
+        ensures count { result ≡ awaited self.new.players }
+    {
+        self.target = published;
+        self.count = ask(self.players.as_mut_slice(), published);
+        self.count
+    }
+
+    /// Gives up those that are awaited yet. Tells how many these are.
+    pub fn give_up(&mut self) -> usize
+        ensures new { self.new ≡ record self.old { players = map given_up self.old.players } }
+        ensures count { result ≡ awaited self.old.players }
+    {
+        let count = self.count;
+        give_up(self.players.as_mut_slice());
+        self.count = 0;
+        count
+    }
+
+    /// Puts another standing in the place of a seat, if there is one.
+    fn put(&mut self, seat: usize, standing: Standing)
+        ensures { self.new ≡ record self.old { players = slice_set self.old.players seat standing } }
+    {
+        if let Some(place) = self.players.get_mut(seat) {
+            let was = *place == Standing::Awaited;
+            let is = standing == Standing::Awaited;
+            *place = standing;
+            if was && !is {
+                self.count -= 1;
+            }
+            if is && !was {
+                self.count += 1;
+            }
+        }
+    }
+}
+
+/// Each that keeps up and hasn't taken all is awaited. Tells how many are.
+fn ask(players: &mut [Standing], published: u64) -> usize
+    ensures new { players.new ≡ map (asked published) players.old }
+    ensures count { result ≡ awaited players.new }
+{
+    let mut count = 0;
+    for place in 0..players.len() {
+        if let Standing::Level { at } = players[place] {
+            if at < published {
+                players[place] = Standing::Awaited;
+            }
+        }
+        if players[place] == Standing::Awaited {
+            count += 1;
+        }
+    }
+    count
+}
+
+/// Each that is awaited is behind.
+fn give_up(players: &mut [Standing])
+    ensures new { players.new ≡ map given_up players.old }
+    ensures none { awaited players.new ≡ 0 }
+{
+    for place in 0..players.len() {
+        players[place] = players[place].given_up();
+    }
+}
