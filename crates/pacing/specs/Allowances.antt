@@ -1,20 +1,24 @@
--- For how long a publisher may wait, in microseconds. Time is cut into windows of 200 milliseconds, counted from 1.
-use Rattle.std.specs.Prelude.{ℕ, ◌+◌, ◌-◌, ◌/◌, ◌==◌, max, if◌then◌else◌}
+-- For how long a publisher may wait, in microseconds. Time is cut into windows of 50 milliseconds, counted from 5.
+use Rattle.std.specs.Prelude.{ℕ, List, [], ◌∷◌, ◌+◌, ◌-◌, ◌/◌, ◌^◌, max, min, nat_le, slice_index, if◌then◌else◌}
 use Rattle.pacing.specs.declared.allowance.Allowance.{Allowance}
 
 -- the window of a moment
 abbrev pub window_of : (moment : ℕ) → ℕ
-window_of moment = moment / 200000 + 1
+window_of moment = moment / 50000 + 5
 
--- what was waited in a window: it is known of the last one in which a wait ended, and of the one before; behind it nothing was
+-- what was waited in a window: it is known of the last one in which a wait ended, and of the four before; behind it nothing was
 abbrev pub waited_in : Allowance → (window : ℕ) → ℕ
-waited_in allowance window = if window == allowance.window then allowance.waited else if window + 1 == allowance.window then allowance.before else 0
+waited_in allowance window = if nat_le window allowance.window then slice_index allowance.waited (allowance.window - window) else 0
 
 -- the window that a wait counts in: that of its end, or the last one that is known, where a clock went back
 abbrev pub counted_in : Allowance → (ended : ℕ) → ℕ
 counted_in allowance ended = max allowance.window (window_of ended)
 
--- 20 milliseconds less what was waited in this moment's window and in the one before; so no more is waited in any 200
--- milliseconds, which lie in two windows
+-- 20 milliseconds less what was waited in this moment's window and in the four before; so no more is waited in any 200
+-- milliseconds, which lie in five windows
 abbrev pub left_at : Allowance → (now : ℕ) → ℕ
-left_at allowance now = 20000 - (waited_in allowance (window_of now) + waited_in allowance (window_of now - 1))
+left_at allowance now = 20000 - (waited_in allowance (window_of now) + waited_in allowance (window_of now - 1) + waited_in allowance (window_of now - 2) + waited_in allowance (window_of now - 3) + waited_in allowance (window_of now - 4))
+
+-- what is known of the windows once a wait of such a length counted in this one, the last window first
+abbrev pub spent : Allowance → (window length : ℕ) → List ℕ
+spent allowance window length = min (waited_in allowance window + length) (2 ^ 64 - 1) ∷ waited_in allowance (window - 1) ∷ waited_in allowance (window - 2) ∷ waited_in allowance (window - 3) ∷ waited_in allowance (window - 4) ∷ []

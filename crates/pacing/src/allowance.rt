@@ -1,34 +1,31 @@
 //! For how long a publisher may wait.
-ghost use Rattle.std.specs.Prelude.{◌≡◌, ◌+◌, ◌-◌, ◌^◌, ℕ, min};
-ghost use Rattle.pacing.specs.Allowances.{counted_in, left_at, waited_in};
+ghost use Rattle.std.specs.Prelude.{◌≡◌, ◌∷◌, [], ◌-◌};
+ghost use Rattle.pacing.specs.Allowances.{counted_in, left_at, spent, waited_in};
 
-/// How long may be waited in two windows that follow one another, in microseconds.
+/// How long may be waited in five windows that follow one another, in microseconds.
 const MOST: u64 = 20_000;
 
 /// How long a window is, in microseconds.
-const WINDOW: u64 = 200_000;
+const WINDOW: u64 = 50_000;
 
 /// For how long a publisher may still wait: 20 milliseconds in any 200. Moments are microseconds of a clock that doesn't go
-/// back. A wait counts in the window of 200 milliseconds in which it ends.
+/// back. A wait counts in the window of 50 milliseconds in which it ends.
 #[derive(Clone, Copy, Debug, PartialEq, Eq, Drop)]
 pub struct Allowance {
-    /// The window in which the last wait ended.
+    /// The window in which the last wait ended, counted from 5.
     pub window: u64,
-    /// What was waited in it.
-    pub waited: u64,
-    /// What was waited in the window before it.
-    pub before: u64,
+    /// What was waited in it and in the four windows before it, the last first.
+    pub waited: [u64; 5],
 }
 
 impl Allowance {
     /// Nothing was waited.
     pub fn new() -> Allowance
-        ensures { (window : ℕ) → waited_in result window ≡ 0 }
+        ensures { result ≡ record { window = 0; waited = 0 ∷ 0 ∷ 0 ∷ 0 ∷ 0 ∷ [] } }
     {
         Allowance {
             window: 0,
-            waited: 0,
-            before: 0,
+            waited: [0, 0, 0, 0, 0],
         }
     }
 
@@ -36,28 +33,34 @@ impl Allowance {
     pub fn left(&self, now: u64) -> u64
         ensures { result ≡ left_at self.now now }
     {
-        let window = now / WINDOW + 1;
+        let window = now / WINDOW + 5;
         let waited = self
             .in_window(window)
-            .saturating_add(self.in_window(window - 1));
+            .saturating_add(self.in_window(window - 1))
+            .saturating_add(self.in_window(window - 2))
+            .saturating_add(self.in_window(window - 3))
+            .saturating_add(self.in_window(window - 4));
         MOST.saturating_sub(waited)
     }
 
-    /// A wait began and ended at these moments. What was waited in the window before the one that it counts in stays, and
+    /// A wait began and ended at these moments. What was waited in the four windows before the one that it counts in stays, and
     /// nothing is known of earlier ones.
     pub fn spend(&mut self, began: u64, ended: u64)
-        ensures window { self.new.window ≡ counted_in self.old ended }
-        ensures this { waited_in self.new (counted_in self.old ended) ≡ min (waited_in self.old (counted_in self.old ended) + (ended - began)) (2 ^ 64 - 1) }
-        ensures before { waited_in self.new (counted_in self.old ended - 1) ≡ waited_in self.old (counted_in self.old ended - 1) }
+        ensures { self.new ≡ record { window = counted_in self.old ended; waited = spent self.old (counted_in self.old ended) (ended - began) } }
     {
-        let window = self.window.max(ended / WINDOW + 1);
+        let window = self.window.max(ended / WINDOW + 5);
         let waited = self
             .in_window(window)
             .saturating_add(ended.saturating_sub(began));
         *self = Allowance {
             window,
-            waited,
-            before: self.in_window(window - 1),
+            waited: [
+                waited,
+                self.in_window(window - 1),
+                self.in_window(window - 2),
+                self.in_window(window - 3),
+                self.in_window(window - 4),
+            ],
         };
     }
 
@@ -65,12 +68,12 @@ impl Allowance {
     fn in_window(&self, window: u64) -> u64
         ensures { result ≡ waited_in self.now window }
     {
-        if window == self.window {
-            return self.waited;
+        if window > self.window {
+            return 0;
         }
-        if self.window > 0 && window == self.window - 1 {
-            return self.before;
+        match self.waited.get((self.window - window) as usize) {
+            Some(waited) => *waited,
+            None => 0,
         }
-        0
     }
 }

@@ -1,14 +1,14 @@
 //! A publisher's rounds.
 ghost use Rattle.std.specs.Prelude.{◌≡◌, ◌↔◌, ◌<◌, IsTrue, IfOk, map, replicate, slice_set};
 ghost use Rattle.pacing.specs.declared.standing.Standing.TheVariants.{Absent, Behind};
-ghost use Rattle.pacing.specs.Rounds.{IsLevel, asked, awaited, followed, given_up, levelled, slowest, standing_of};
+ghost use Rattle.pacing.specs.Rounds.{IsLevel, asked, awaited, followed, given_up, levelled, reached, slowest, standing_of};
 
 use crate::standing::Standing;
 use std::alloc::{AllocError, Global};
 use std::marker::Model;
 
-/// How the players of a mount stand to its publisher, which waits in rounds: a round is opened with what is published so
-/// far, and is over once each player that kept up has taken that or left, or was given up.
+/// How the players of a mount stand to its publisher, which waits in rounds: a round is opened with how many packets are to be
+/// taken, and is over once each player that kept up has taken as many or left, or was given up.
 ///
 /// A contract sees the standing of each seat, and the round's target.
 #[derive(Drop)]
@@ -84,8 +84,21 @@ impl Round {
         before > 0 && self.count == 0
     }
 
-    /// A player was seen to have had nothing more to take when so many packets were published. Where nobody waits for it yet,
-    /// or it is awaited, nothing changes.
+    /// A player has taken so many packets, and perhaps not all: one that is behind stays so. Tells whether it was the last that
+    /// was awaited.
+    pub fn reach(&mut self, seat: usize, at: u64) -> bool
+        ensures new { self.new ≡ record self.old { players = slice_set self.old.players seat (reached self.old.target at (standing_of self.old.players seat)) } }
+        ensures last { IsTrue result ↔ ((0 < awaited self.old.players) × (awaited self.new.players ≡ 0)) }
+    {
+        let before = self.count;
+        if let Some(standing) = self.players.get(seat) {
+            let next = standing.reached(self.target, at);
+            self.put(seat, next);
+        }
+        before > 0 && self.count == 0
+    }
+
+    /// A player was seen to have taken so many packets. Where nobody waits for it yet, or it is awaited, nothing changes.
     pub fn follow(&mut self, seat: usize, at: u64)
         ensures { self.new ≡ record self.old { players = slice_set self.old.players seat (followed at (standing_of self.old.players seat)) } }
     {
@@ -105,7 +118,8 @@ impl Round {
         }
     }
 
-    /// Where the last player was level of those that keep up and aren't awaited, or `published` where each has taken more.
+    /// How many packets the slowest player has taken of those that keep up and aren't awaited, or `published` where each has
+    /// taken more.
     pub fn slowest(&self, published: u64) -> u64
         ensures { result ≡ slowest self.now.players published }
     {
@@ -118,13 +132,13 @@ impl Round {
         least
     }
 
-    /// Opens a round when so many packets are published. Tells how many players are awaited.
-    pub fn open(&mut self, published: u64) -> usize
-        ensures new { self.new ≡ record { players = map (asked published) self.old.players; target = published } }
+    /// Opens a round in which so many packets are to be taken. Tells how many players are awaited.
+    pub fn open(&mut self, target: u64) -> usize
+        ensures new { self.new ≡ record { players = map (asked target) self.old.players; target = target } }
         ensures count { result ≡ awaited self.new.players }
     {
-        self.target = published;
-        self.count = ask(self.players.as_mut_slice(), published);
+        self.target = target;
+        self.count = ask(self.players.as_mut_slice(), target);
         self.count
     }
 
@@ -157,15 +171,15 @@ impl Round {
     }
 }
 
-/// Each that keeps up and hasn't taken all is awaited. Tells how many are.
-fn ask(players: &mut [Standing], published: u64) -> usize
-    ensures new { players.new ≡ map (asked published) players.old }
+/// Each that keeps up and hasn't taken so many is awaited. Tells how many are.
+fn ask(players: &mut [Standing], target: u64) -> usize
+    ensures new { players.new ≡ map (asked target) players.old }
     ensures count { result ≡ awaited players.new }
 {
     let mut count = 0;
     for place in 0..players.len() {
         if let Standing::Level { at } = players[place] {
-            if at < published {
+            if at < target {
                 players[place] = Standing::Awaited;
             }
         }

@@ -1,6 +1,6 @@
 //! How a player stands to its publisher.
 ghost use Rattle.std.specs.Prelude.{◌≡◌};
-ghost use Rattle.pacing.specs.Rounds.{followed, given_up, levelled};
+ghost use Rattle.pacing.specs.Rounds.{followed, given_up, levelled, reached};
 
 /// How the player of a seat stands to the publisher of its mount.
 #[derive(Clone, Copy, Debug, PartialEq, Eq, Drop)]
@@ -9,9 +9,9 @@ pub enum Standing {
     Absent,
     /// It hasn't taken all since it came, or since it was waited for in vain. Nobody waits for it.
     Behind,
-    /// It keeps up: it had taken all when so many packets were published.
+    /// It keeps up, and has taken so many packets.
     Level { at: u64 },
-    /// It keeps up, and the publisher waits until it has taken all of this round.
+    /// It keeps up, and the publisher waits until it has taken as many as this round asks for.
     Awaited,
 }
 
@@ -21,13 +21,23 @@ impl Standing {
         ensures { result ≡ levelled target at self }
     {
         match self {
-            Standing::Absent => Standing::Absent,
-            Standing::Awaited if at < target => Standing::Awaited,
-            Standing::Behind | Standing::Level { .. } | Standing::Awaited => Standing::Level { at },
+            Standing::Behind => Standing::Level { at },
+            other => other.reached(target, at),
         }
     }
 
-    /// How it stands where it was seen to have taken all when so many packets were published.
+    /// How it stands once it has taken so many packets, and perhaps not all.
+    pub(crate) fn reached(self, target: u64, at: u64) -> Standing
+        ensures { result ≡ reached target at self }
+    {
+        match self {
+            Standing::Awaited if at < target => Standing::Awaited,
+            Standing::Level { .. } | Standing::Awaited => Standing::Level { at },
+            other => other,
+        }
+    }
+
+    /// How it stands where it was seen to have taken so many packets.
     pub(crate) fn followed(self, at: u64) -> Standing
         ensures { result ≡ followed at self }
     {

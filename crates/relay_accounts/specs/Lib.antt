@@ -1,3 +1,5 @@
+pub mod Backlogs
 pub mod Counting
 pub mod Endings
 pub mod Incoming
+pub mod Tallies

@@ -2,12 +2,16 @@
 //! of them and of a player's packets, the points that they post, and which end is told.
 #![tactic(auto)]
 
+mod backlog;
 mod counts;
 mod ending;
 mod incoming;
 mod points;
+mod tally;
 
+pub use backlog::{Backlog, Waiting};
 pub use counts::Counts;
 pub use ending::{ConnectionEnd, FrameEnd, end_of, status_of};
 pub use incoming::{publish_frames, skip_frames};
 pub use points::point_to_post;
+pub use tally::Tally;

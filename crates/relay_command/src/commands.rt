@@ -2,6 +2,9 @@
 use clap::{Arg, ArgAction, Command};
 use std::alloc::{AllocError, Global};
 
+/// The version of the program.
+const VERSION: &str = "0.1.0";
+
 /// A request that `relay talk` answers, as a line for the shell.
 const TALK_EXAMPLE: &str = "Example: the methods that the relay knows
 
@@ -18,6 +21,7 @@ pub(crate) fn command<'a>(alloc: Global) -> Result<Command<'a>, AllocError> {
     let serve = serve_command(alloc)?;
     let talk = talk_command(alloc)?;
     Command::new(alloc, "relay")
+        .version(VERSION)
         .about("A live relay for RTSP 1.0 (RFC 2326)")
         .subcommand_required(true)
         .subcommand(serve)?

@@ -149,7 +149,7 @@ impl<T: Tap + Leave + Drop, W: Sink + Drop, H: HangUp + Drop> Hand<T, W, H> {
                 return FrameEnd::Stopped;
             }
             match self.line.relay(rt, tap, channels, buf) {
-                OutStop::Done => {}
+                OutStop::Done => notice.pace.reach(rt, seat, tap.cursor(), &mut known),
                 OutStop::Empty => {
                     // Before it sleeps: the publisher opens a round before it wakes.
                     notice.pace.level(rt, seat, tap.cursor(), &mut known);

@@ -7,17 +7,19 @@ use std::time::{Clock, Duration};
 
 /// The players of a mount as their publisher sees them, and what it waits on.
 ///
-/// A player's thread writes its own cursor each time it has nothing more to take, and changes its own standing only where it
-/// isn't known to keep up or a round was opened since. The publisher's thread opens a round, wakes the players, and sleeps
-/// until the last that it waits for has taken all or left. The lock is held for a look at each seat or a change of one; it may
-/// be taken under the lock of a frame thread's tap, and no other is taken meanwhile.
+/// A player's thread writes its own cursor behind each of its writes, and changes its own standing only where it isn't known to
+/// keep up or a round was opened since. The publisher's thread opens a round, wakes the players, and sleeps until the last that
+/// it waits for has taken as many as the round asks for, or left. The lock is held for a look at each seat or a change of one;
+/// it may be taken under the lock of a frame thread's tap, and no other is taken meanwhile.
 #[derive(Drop)]
 pub(crate) struct Pace {
     round: Mutex<Round>,
     over: Condvar,
     /// How often a round was opened or players were given up.
     changes: AtomicU64,
-    /// Where each seat's player last had nothing more to take.
+    /// How many packets the last round asks for.
+    target: AtomicU64,
+    /// How many packets each seat's player has taken.
     cursors: Vec<AtomicU64>,
 }
 
@@ -43,6 +45,7 @@ impl Pace {
             round: Mutex::new(Round::new(alloc, seats)?),
             over: Condvar::new(),
             changes: AtomicU64::new(0),
+            target: AtomicU64::new(0),
             cursors,
         })
     }
@@ -61,10 +64,7 @@ impl Pace {
 
     /// A player had nothing more to take at this cursor.
     pub(crate) fn level(&self, rt: &impl Wait, seat: usize, cursor: u64, known: &mut KnownLevel) {
-        if let Some(place) = self.cursors.get(seat) {
-            place.store(cursor, Ordering::SeqCst);
-        }
-        let changes = self.changes.load(Ordering::SeqCst);
+        let changes = self.follow_me(seat, cursor);
         if known.0 == Some(changes) {
             return;
         }
@@ -75,18 +75,43 @@ impl Pace {
         self.tell(was_last);
     }
 
-    /// Where the last of the players had taken all that keep up, or `published`.
+    /// A player has come to this cursor, and may have more to take. One that isn't known to keep up has to take all first.
+    pub(crate) fn reach(&self, rt: &impl Wait, seat: usize, cursor: u64, known: &mut KnownLevel) {
+        let changes = self.follow_me(seat, cursor);
+        if known.0.is_none()
+            || known.0 == Some(changes)
+            || cursor < self.target.load(Ordering::SeqCst)
+        {
+            return;
+        }
+        let mut round = self.round.lock(rt);
+        let was_last = round.reach(seat, cursor);
+        known.0 = round.is_level(seat).then_some(changes);
+        drop(round);
+        self.tell(was_last);
+    }
+
+    /// Writes where a player stands, and tells how often rounds were opened or players were given up.
+    fn follow_me(&self, seat: usize, cursor: u64) -> u64 {
+        if let Some(place) = self.cursors.get(seat) {
+            place.store(cursor, Ordering::SeqCst);
+        }
+        self.changes.load(Ordering::SeqCst)
+    }
+
+    /// How many packets the slowest of the players that keep up has taken, or `published`.
     pub(crate) fn slowest(&self, rt: &impl Wait, published: u64) -> u64 {
         let mut round = self.round.lock(rt);
         self.follow(&mut round);
         round.slowest(published)
     }
 
-    /// Opens a round. Tells how many players are awaited.
-    pub(crate) fn open(&self, rt: &impl Wait, published: u64) -> usize {
+    /// Opens a round in which so many packets are to be taken. Tells how many players are awaited.
+    pub(crate) fn open(&self, rt: &impl Wait, target: u64) -> usize {
         let mut round = self.round.lock(rt);
         self.follow(&mut round);
-        let awaited = round.open(published);
+        let awaited = round.open(target);
+        self.target.store(target, Ordering::SeqCst);
         self.changes.fetch_add(1, Ordering::SeqCst);
         awaited
     }
@@ -103,7 +128,7 @@ impl Pace {
         }
     }
 
-    /// Looks where each player that keeps up was level last.
+    /// Looks how many packets each player that keeps up has taken.
     fn follow(&self, round: &mut Round) {
         for (seat, cursor) in self.cursors.iter().enumerate() {
             round.follow(seat, cursor.load(Ordering::SeqCst));

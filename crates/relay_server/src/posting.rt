@@ -26,11 +26,12 @@ pub(crate) struct Posting<R, F> {
     bell: Arc<Bell, Global>,
     /// Whether the waking thread knows of the mount; else its players are woken at each packet.
     pub(crate) posted: bool,
-    /// So many packets may be published before those that keep up have to have taken them.
+    /// Behind so many packets it is looked where the players are.
     stretch: u64,
-    /// How many packets were published when the slowest of those that keep up had taken all, as far as was looked; or when it was
-    /// last waited for them, or could have been.
-    level: u64,
+    /// So many packets the slowest of those that keep up may be behind before they are waited for, until it is half as many.
+    most: u64,
+    /// How many packets were published when it was last looked.
+    looked: u64,
     allowance: Allowance,
     /// For how many microseconds it has waited in all.
     waited: u64,
@@ -54,7 +55,8 @@ impl<R: Clock + Copy + Drop, F: Drop> Posting<R, F> {
             bell,
             posted: false,
             stretch: (keep / 4).max(TAKES),
-            level: 0,
+            most: keep.saturating_sub(keep / 4).max(TAKES),
+            looked: 0,
             allowance: Allowance::new(),
             waited: 0,
             began: Instant::now(&rt).ok(),
@@ -83,27 +85,35 @@ impl<R: Clock + Drop, F: Feed> Posting<R, F> {
 }
 
 impl<R: Wait + Clock + Drop, F> Posting<R, F> {
-    /// Waits until the players that keep up have taken what is published, where one of them hasn't taken all for a stretch: the
-    /// rest of a burst waits in the publisher's socket meanwhile, and not in the ring, which would lose it for them. Those that
-    /// haven't at the end of what may be waited are behind, and nobody waits for them until they have taken all.
+    /// Wakes the players where one of those that keep up hasn't taken the last stretch, and waits for them where it is behind by
+    /// most of what the ring keeps: the rest of a burst waits in the publisher's socket meanwhile, and not in the ring, which
+    /// would lose it for them. Those that are behind as far at the end of what may be waited are waited for no more until they have
+    /// taken all.
     fn keep_pace(&mut self, published: u64)
         ensures { self.new.feed ≡ self.old.feed }
     {
-        if published.saturating_sub(self.level) < self.stretch {
+        if published.saturating_sub(self.looked) < self.stretch {
             return;
         }
+        self.looked = published;
         let slowest = self.notice.pace.slowest(&self.rt, published);
-        if published.saturating_sub(slowest) < self.stretch {
-            // Looked at again a quarter of a stretch later at the earliest.
-            self.level = slowest.max(published.saturating_sub(self.stretch / 4 * 3));
-            return;
+        let behind = published.saturating_sub(slowest);
+        if behind >= self.most {
+            self.give_way(published.saturating_sub(self.most / 2));
+        } else if behind >= self.stretch {
+            self.notice.wake();
         }
-        self.level = published;
+    }
+
+    /// Waits until the players that keep up have taken so many packets, for as long as may be waited.
+    fn give_way(&mut self, target: u64)
+        ensures { self.new.feed ≡ self.old.feed }
+    {
         let Some(now) = self.now() else {
             return;
         };
         let most = self.allowance.left(now);
-        if most < LEAST || self.notice.pace.open(&self.rt, published) == 0 {
+        if most < LEAST || self.notice.pace.open(&self.rt, target) == 0 {
             return;
         }
         // Behind the opening, so that a player which looked before it doesn't sleep; what waking takes is waited, too.

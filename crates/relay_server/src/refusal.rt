@@ -1,4 +1,6 @@
 //! Why a connection isn't served.
+ghost use Rattle.std.specs.Prelude.{◌<◌};
+
 use session_state::ConnectFault;
 use std::alloc::AllocError;
 use std::fmt;
@@ -11,6 +13,33 @@ pub enum Refusal {
     OutOfMemory,
     /// No thread could be started that reads it.
     NoThread,
+    /// It couldn't be accepted, mostly for want of descriptors.
+    NotAccepted,
+}
+
+impl Refusal {
+    /// How many reasons there are.
+    pub(crate) const COUNT: usize = 4;
+
+    /// All reasons, each at its place.
+    pub(crate) const ALL: [Refusal; Refusal::COUNT] = [
+        Refusal::Full,
+        Refusal::OutOfMemory,
+        Refusal::NoThread,
+        Refusal::NotAccepted,
+    ];
+
+    /// Its place among all reasons.
+    pub(crate) fn place(self) -> usize
+        ensures { result < 4 }
+    {
+        match self {
+            Refusal::Full => 0,
+            Refusal::OutOfMemory => 1,
+            Refusal::NoThread => 2,
+            Refusal::NotAccepted => 3,
+        }
+    }
 }
 
 impl From<ConnectFault> for Refusal {
@@ -34,6 +63,7 @@ impl fmt::Display for Refusal {
             Refusal::Full => write!(f, "refused: too many connections"),
             Refusal::OutOfMemory => write!(f, "refused: out of memory"),
             Refusal::NoThread => write!(f, "refused: no thread"),
+            Refusal::NotAccepted => write!(f, "not accepted: no descriptor or no memory"),
         }
     }
 }

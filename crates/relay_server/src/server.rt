@@ -1,22 +1,23 @@
 //! The listening thread, and the threads of connections.
-use crate::bell::wake_players;
-use crate::closing::close_behind_text;
 use crate::connection::run_connection;
 use crate::gate::Gate;
+use crate::helpers::Helpers;
 use crate::line::Line;
+use crate::lines::Lines;
 use crate::maker::{RingMaker, Seat};
 use crate::notice::low_half;
 use crate::options::Options;
 use crate::refusal::Refusal;
+use crate::refusing::{Refusing, tell_unavailable};
 use crate::shared::{Shared, SharedBook};
 use crate::socket::Socket;
-use interleaved::{Reading, Writing, write_all};
+use interleaved::{Reading, Writing};
 use log::{Log, info, warn};
 use packet_ring::Pass;
 use relay_accounts::{ConnectionEnd, Counts};
-use rtsp_message::{Status, put_plain};
 use session_state::Words;
 use std::alloc::{AllocError, Global};
+use std::io::Eprint;
 use std::net::{SocketAddr, TcpListener, TcpStream};
 use std::sync::atomic::Ordering;
 use std::sync::{Arc, Wait};
@@ -30,12 +31,6 @@ pub(crate) type RingShared<V, G> = Shared<RingMaker, V, G>;
 /// How long the server waits after it couldn't accept, in milliseconds, so that a lack of descriptors doesn't keep it
 /// busy.
 const AFTER_NO_ACCEPT: u64 = 100;
-
-/// How often a peer is read that is refused, and for how many milliseconds each time, so that it reads why. None is
-/// accepted meanwhile.
-const REFUSED_READS: u32 = 4;
-
-const REFUSED_WAIT: u64 = 25;
 
 /// Serves connections of a listener: each is read by a thread of its own. Returns once as many as `options.accept` says
 /// were accepted and have ended, else never; or with an error where memory or a thread is wanting for what all
@@ -51,23 +46,33 @@ pub fn run_server<R, V, G>(
     gate: G,
 ) -> Result<(), AllocError>
 where
-    R: Threads + Wait + Clock + Log + Copy + Send + Sync + 'static,
+    R: Threads + Wait + Clock + Log + Eprint + Copy + Send + Sync + 'static,
     V: Words + Drop + Send + 'static,
     G: Gate + Drop + Send + Sync + 'static,
 {
     let after_end = options.after_end.map(Duration::from_millis);
     let shared = Shared::new(alloc, maker, book, words, gate, after_end)?;
     let shared = Arc::new(alloc, shared)?;
-    let theirs = Arc::try_clone(&shared)?;
-    let gather = Duration::from_millis(options.gather);
-    let waking = thread::spawn(&rt, move || {
-        wake_players(&rt, &theirs.bell, &theirs.board, gather)
-    })?;
-    accept_all(rt, alloc, listener, options, &shared);
-    wait_for_all(&rt, &shared);
-    shared.bell.stop();
-    waking.join(&rt);
+    let lines = Arc::new(alloc, Lines::new(rt, alloc)?)?;
+    let refusing = Arc::new(alloc, Refusing::new(&rt, alloc)?)?;
+    let server = Server {
+        shared,
+        lines,
+        refusing,
+    };
+    let helpers = Helpers::start(rt, &server, options.gather)?;
+    accept_all(rt, alloc, listener, options, &server);
+    wait_for_all(&rt, &server.shared);
+    helpers.end(&rt, &server);
     Ok(())
+}
+
+/// What connections share, and where is told what becomes of them.
+#[derive(Drop)]
+pub(crate) struct Server<R, V, G> {
+    pub(crate) shared: Arc<RingShared<V, G>, Global>,
+    pub(crate) lines: Arc<Lines<R>, Global>,
+    pub(crate) refusing: Arc<Refusing, Global>,
 }
 
 /// Accepts connections, for good or as many as are to be accepted.
@@ -76,7 +81,7 @@ fn accept_all<R, V, G>(
     alloc: Global,
     listener: &TcpListener,
     options: Options,
-    shared: &Arc<RingShared<V, G>, Global>,
+    server: &Server<R, V, G>,
 )
 where
     R: Threads + Wait + Clock + Log + Copy + Send + Sync + 'static,
@@ -92,9 +97,12 @@ where
             Ok((stream, peer)) => {
                 accepted = accepted.saturating_add(1);
                 set_up(&stream, options.write_wait);
-                welcome(rt, alloc, shared, stream, peer);
+                welcome(rt, alloc, server, stream, peer);
             }
-            Err(_) => thread::sleep(&rt, Duration::from_millis(AFTER_NO_ACCEPT)),
+            Err(_) => {
+                server.refusing.count(&rt, Refusal::NotAccepted);
+                thread::sleep(&rt, Duration::from_millis(AFTER_NO_ACCEPT));
+            }
         }
     }
 }
@@ -107,12 +115,12 @@ fn set_up(stream: &TcpStream, write_wait: u64) {
     let _ = stream.set_write_timeout(Some(Duration::from_millis(write_wait)));
 }
 
-/// Lets a connection come and starts its thread. Where one or the other is refused, it is told 503 and closed, and a
-/// warning says why.
+/// Lets a connection come and starts its thread. Where one or the other is refused, it is told 503 and closed, and that is
+/// counted.
 fn welcome<R, V, G>(
     rt: R,
     alloc: Global,
-    shared: &Arc<RingShared<V, G>, Global>,
+    server: &Server<R, V, G>,
     stream: TcpStream,
     peer: SocketAddr,
 )
@@ -121,33 +129,45 @@ where
     V: Words + Drop + Send + 'static,
     G: Gate + Drop + Send + Sync + 'static,
 {
-    let connected = shared.book.lock(&rt).connect();
-    let conn = match connected {
-        Ok(conn) => conn,
-        Err(fault) => {
-            refuse(&rt, peer, Refusal::from(fault), &stream);
-            return;
-        }
-    };
     let stream = match Arc::new(alloc, stream) {
         Ok(stream) => stream,
         Err(refused) => {
-            let _ = shared.book.lock(&rt).hangup(conn);
-            refuse(&rt, peer, Refusal::OutOfMemory, &refused.value);
+            tell_unavailable(&refused.value);
+            server.refusing.count(&rt, Refusal::OutOfMemory);
             return;
         }
     };
-    if let Err(refusal) = start(rt, alloc, shared, conn, &stream, peer) {
-        let _ = shared.book.lock(&rt).hangup(conn);
-        refuse(&rt, peer, refusal, &stream);
+    if let Err(why) = take_in(rt, alloc, server, &stream, peer) {
+        server.refusing.refuse(&rt, why, Socket::new(stream));
     }
+}
+
+/// Lets a connection come and starts its thread.
+fn take_in<R, V, G>(
+    rt: R,
+    alloc: Global,
+    server: &Server<R, V, G>,
+    stream: &Arc<TcpStream, Global>,
+    peer: SocketAddr,
+) -> Result<(), Refusal>
+where
+    R: Threads + Wait + Clock + Log + Copy + Send + Sync + 'static,
+    V: Words + Drop + Send + 'static,
+    G: Gate + Drop + Send + Sync + 'static,
+{
+    let conn = server.shared.book.lock(&rt).connect()?;
+    let started = start(rt, alloc, server, conn, stream, peer);
+    if started.is_err() {
+        let _ = server.shared.book.lock(&rt).hangup(conn);
+    }
+    started
 }
 
 /// Starts the thread of a connection.
 fn start<R, V, G>(
     rt: R,
     alloc: Global,
-    shared: &Arc<RingShared<V, G>, Global>,
+    server: &Server<R, V, G>,
     conn: u64,
     stream: &Arc<TcpStream, Global>,
     peer: SocketAddr,
@@ -160,19 +180,20 @@ where
     let reader = Reading::new(Socket::of(stream)?);
     let writer = Writing::new(Socket::of(stream)?);
     let wire = Socket::of(stream)?;
-    let theirs = Arc::try_clone(shared)?;
-    let same = Arc::try_clone(shared)?;
-    shared.live.fetch_add(1, Ordering::SeqCst);
+    let theirs = Arc::try_clone(&server.shared)?;
+    let same = Arc::try_clone(&server.shared)?;
+    let lines = Arc::try_clone(&server.lines)?;
+    server.shared.live.fetch_add(1, Ordering::SeqCst);
     let started = thread::spawn(&rt, move || {
         let line = Line::new(alloc, writer);
         let (end, counts) = run_connection(rt, alloc, theirs, conn, reader, line, wire);
-        tell_end(&rt, peer, end, &counts);
+        tell_end(&lines, peer, end, &counts);
         leave(&same);
     });
     match started {
         Ok(_) => Ok(()),
         Err(_) => {
-            leave(shared);
+            leave(&server.shared);
             Err(Refusal::NoThread)
         }
     }
@@ -205,19 +226,4 @@ fn wait_for_all<V, G>(rt: &impl Wait, shared: &RingShared<V, G>) {
         }
         shared.live.park(rt, low_half(live));
     }
-}
-
-/// Tells a connection that can't be served so, and warns of it. It is closed with the socket, once the peer had a moment to
-/// read the text.
-fn refuse<R: Log>(rt: &R, peer: SocketAddr, why: Refusal, stream: &TcpStream) {
-    let mut text = [0; 128];
-    let len = put_plain(&mut text, Status::ServiceUnavailable, None);
-    let _ = write_all(&mut Writing::new(stream), &text[..len]);
-    close_behind_text(
-        stream,
-        &mut Reading::new(stream),
-        REFUSED_READS,
-        REFUSED_WAIT,
-    );
-    warn!(rt; "{peer}: {why}");
 }

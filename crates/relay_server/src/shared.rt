@@ -4,6 +4,7 @@ ghost use Rattle.std.specs.Prelude.{◌≤◌};
 use crate::bell::Bell;
 use crate::board::Board;
 use crate::maker::{Maker, Seat};
+use crate::offers::Offers;
 use session_lock::Book;
 use std::alloc::{AllocError, Global};
 use std::collections::hash_map::RandomState;
@@ -34,8 +35,7 @@ pub fn shared_book<P: Drop>(
 pub struct Shared<M: Maker, V, G> {
     pub(crate) maker: M,
     pub(crate) book: SharedBook<Seat<M::Pass>>,
-    /// Held while a ring is made and offered, so that one at a time is made that may be refused.
-    pub(crate) making: Mutex<()>,
+    pub(crate) offers: Offers<M>,
     pub(crate) words: Mutex<V>,
     pub(crate) gate: G,
     pub(crate) board: Board,
@@ -64,7 +64,7 @@ impl<M: Maker + Drop, V: Drop, G: Drop> Shared<M, V, G> {
         Ok(Shared {
             maker,
             book,
-            making: Mutex::new(()),
+            offers: Offers::new(),
             words: Mutex::new(words),
             gate,
             board: Board::new(alloc)?,

@@ -42,10 +42,16 @@ pub struct Socket {
 }
 
 impl Socket {
+    pub(crate) fn new(stream: Arc<TcpStream, Global>) -> Socket {
+        Socket { stream }
+    }
+
     pub(crate) fn of(stream: &Arc<TcpStream, Global>) -> Result<Socket, AllocError> {
-        Ok(Socket {
-            stream: Arc::try_clone(stream)?,
-        })
+        Ok(Socket::new(Arc::try_clone(stream)?))
+    }
+
+    pub(crate) fn stream(&self) -> &TcpStream {
+        &self.stream
     }
 }
 

@@ -1,7 +1,8 @@
 //! The ring, and a list of the kept packets under a lock, to be timed.
 ghost use Rattle.std.specs.Prelude.{◌≤◌};
 
-use crate::timing::{KEEP, Relay, SIZE};
+use crate::source::SIZE;
+use crate::timing::{KEEP, Relay};
 use anyhow::Result;
 use cursor::{Taken, Tap};
 use packet_ring::{Publisher, Subscriber, new};
@@ -17,7 +18,7 @@ impl Relay<Subscriber> for Publisher {
         Ok((publisher, readers))
     }
 
-    fn publish(&mut self, _: &impl Wait, bytes: &[u8; SIZE]) -> bool {
+    fn publish(&mut self, _: &impl Wait, bytes: &[u8]) -> bool {
         Publisher::publish(self, 0, bytes).is_ok()
     }
 
@@ -25,14 +26,14 @@ impl Relay<Subscriber> for Publisher {
         let _receipt = Publisher::close(self);
     }
 
-    fn take(reader: &mut Subscriber, rt: &impl Wait, buf: &mut [u8; SIZE]) -> Option<u64> {
+    fn take(reader: &mut Subscriber, rt: &impl Wait, buf: &mut [u8; SIZE]) -> Option<(u64, usize)> {
         let mut lost = 0u64;
         for _ in rt.forever() {
             if reader.packet_bytes() > SIZE {
                 break;
             }
             match reader.take(buf) {
-                Taken::Packet { .. } => return Some(lost),
+                Taken::Packet { len, .. } => return Some((lost, len)),
                 Taken::Lost(count) => lost = lost.saturating_add(count),
                 Taken::Empty => yield_now(),
                 Taken::Ended => break,
@@ -42,12 +43,23 @@ impl Relay<Subscriber> for Publisher {
     }
 }
 
+/// A packet that is kept, and how many bytes it has.
+type Packet = ([u8; SIZE], usize);
+
 /// The packets kept, the number of the first of them, and whether no more will come.
-type Kept = (VecDeque<[u8; SIZE]>, u64, bool);
+type Kept = (VecDeque<Packet>, u64, bool);
 
 /// A share in the list, and the number of the packet that its reader takes next.
 #[derive(Drop)]
 pub struct List(Arc<(Mutex<Kept>, Condvar), Global>, u64);
+
+/// A packet of these bytes.
+fn packet_of(bytes: &[u8]) -> Packet {
+    let mut packet = [0; SIZE];
+    let len = bytes.len().min(SIZE);
+    packet[..len].copy_from_slice(&bytes[..len]);
+    (packet, len)
+}
 
 impl Relay<List> for List {
     fn open(alloc: Global, seats: usize) -> Result<(List, Vec<List>)> {
@@ -60,14 +72,14 @@ impl Relay<List> for List {
         Ok((List(list, 0), readers))
     }
 
-    fn publish(&mut self, rt: &impl Wait, bytes: &[u8; SIZE]) -> bool {
+    fn publish(&mut self, rt: &impl Wait, bytes: &[u8]) -> bool {
         let mut kept = self.0.0.lock(rt);
         let (packets, first, _) = &mut *kept;
         if packets.len() >= KEEP {
             let _ = packets.pop_front();
             *first = first.saturating_add(1);
         }
-        let published = packets.push_back(*bytes).is_ok();
+        let published = packets.push_back(packet_of(bytes)).is_ok();
         drop(kept);
         self.0.1.notify_all();
         published
@@ -78,16 +90,17 @@ impl Relay<List> for List {
         self.0.1.notify_all();
     }
 
-    fn take(reader: &mut List, rt: &impl Wait, buf: &mut [u8; SIZE]) -> Option<u64> {
+    fn take(reader: &mut List, rt: &impl Wait, buf: &mut [u8; SIZE]) -> Option<(u64, usize)> {
         let next = reader.1;
         let kept = reader.0.0.lock(rt);
         let kept = reader.0.1.wait_while(rt, kept, |(packets, first, closed)| {
             !*closed && packets.len() <= next.saturating_sub(*first) as usize
         });
         let (packets, first, _) = &*kept;
-        *buf = *packets.get(next.saturating_sub(*first) as usize)?;
+        let (bytes, len) = packets.get(next.saturating_sub(*first) as usize)?;
+        *buf = *bytes;
         let lost = first.saturating_sub(next);
         reader.1 = next.saturating_add(lost).saturating_add(1);
-        Some(lost)
+        Some((lost, *len))
     }
 }

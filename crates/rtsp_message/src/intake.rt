@@ -30,6 +30,7 @@ pub enum Next {
 /// The units of a source, one by one.
 #[derive(Drop)]
 pub struct Intake<S: Source> {
+    alloc: Global,
     source: S,
     reader: Reader,
     units: IntoIter<Unit>,
@@ -59,6 +60,7 @@ impl<S: Source + Drop> Intake<S> {
         ensures { result ≡ fresh source }
     {
         Intake {
+            alloc,
             source,
             reader: Reader::new(alloc),
             units: Vec::new(alloc).into_iter(),
@@ -107,8 +109,33 @@ impl<S: Source + Drop> Intake<S> {
         }
     }
 
-    /// Reads units from the next bytes, or answers why there are none to read.
+    /// Reads units from the next bytes, or answers why there are none to read. What was handed out takes no room meanwhile.
     fn read_on(&mut self) -> Option<Next>
+        requires { self.old.queue ≡ [] }
+        ensures hands_out { HandsOut S.incoming self.old self.new [] }
+        ensures no_unit { IfSome result IsNoUnit }
+        ensures tells { IfSome result (Tells S.incoming S.failed self.new) }
+        ensures lasts { IfSome result (Lasts S.failed self.new) }
+        ensures for_good { (answer : _) → IsOver S.failed self.old answer → IfSome result (λ a. a ≡ answer) × IfNone result ⊥ }
+        ensures ends { weight S.bound self.new ≤ weight S.bound self.old }
+        ensures once { ReadsOnce S.gives self.old self.new }
+        ensures takes_all { IfNone result (TakesAll S.gives self.old self.new) }
+        ensures goes_on { IfNone result (S.bound self.new.source + length self.new.held < S.bound self.old.source + length self.old.held) }
+    {
+        self.give_room_back();
+        self.read_piece()
+    }
+
+    /// Gives back the room of the units that were handed out.
+    fn give_room_back(&mut self)
+        requires { self.old.queue ≡ [] }
+        ensures { self.new ≡ self.old }
+    {
+        self.units = Vec::new(self.alloc).into_iter();
+    }
+
+    /// Reads units from the next bytes, or answers why there are none to read.
+    fn read_piece(&mut self) -> Option<Next>
         requires { self.old.queue ≡ [] }
         ensures hands_out { HandsOut S.incoming self.old self.new [] }
         ensures no_unit { IfSome result IsNoUnit }

@@ -1,6 +1,6 @@
 //! What becomes of the packets of a player that is too slow, and of its mount.
 use crate::connection_tests::{ANNOUNCE, SETUP};
-use crate::devices::{Bytes, Flag, Held, Staged, has_come, joined};
+use crate::devices::{Bytes, Flag, Held, Rings, Staged, has_come, joined};
 use crate::scripted::FRAME;
 use crate::serving::{
     Serving, SharedRings, Watch, book_of, serve_camera, serve_in_thread, shared_over,
@@ -18,7 +18,7 @@ use std::time::Clock;
 /// In the session that the second word began.
 const RECORD: &[u8] = b"RECORD rtsp://h/a RTSP/1.0\nCSeq: 3\nSession: 0000000100000002\n\n";
 
-const SETUP_OUT: &[u8] =
+pub(crate) const SETUP_OUT: &[u8] =
     b"SETUP rtsp://h/a/trackID=0 RTSP/1.0\nCSeq: 2\nTransport: RTP/AVP/TCP;interleaved=0-1\n\n";
 
 /// In the session that the fourth word began.
@@ -34,7 +34,7 @@ const LAST: &[u8] = b"\x24\x00\x00\x0c\x80\x60\x00\x08\x00\x00\x23\x28\x00\x00\x
 const PACKETS: u64 = 40;
 
 /// More bytes than the reply to a player's SETUP has, and fewer than this and the reply to its PLAY.
-const SET_UP: usize = 150;
+pub(crate) const SET_UP: usize = 150;
 
 /// The frames of a publisher.
 fn packets(alloc: Global) -> Result<Vec<u8>, AllocError> {
@@ -124,7 +124,13 @@ fn adds_up<R: Threads + Wait + Abort>(rt: &R, player: Serving, replies: usize, p
 #[test]
 fn a_slow_players_account_adds_up(rt: HostRuntime) {
     let alloc = rt.alloc();
-    let shared = shared_over(&rt, alloc, book_of(&rt, alloc, 2), None, CountedWords(1));
+    let shared = shared_over(
+        &rt,
+        alloc,
+        book_of(&rt, alloc, 1, 2),
+        Rings::of(&rt, alloc, 1),
+        CountedWords(1),
+    );
     let camera = recording(rt, alloc, &shared);
     let read = Arc::new(alloc, AtomicBool::new(false)).expect(&rt, "memory");
     let player = playing(rt, alloc, &shared, &read);

@@ -1,8 +1,8 @@
-//! A connection that records while another one is refused a ring.
+//! A connection that records while another one is refused a ring, or its mount.
 use crate::connection_tests::{
     ANNOUNCE, ANNOUNCED, IN_SESSION, NO_RING, PAUSE, RECORD, SET_UP, SETUP,
 };
-use crate::devices::{Open, has_come, joined};
+use crate::devices::{Open, Rings, has_come, joined};
 use crate::scripted::FRAME;
 use crate::serving::{Serving, SharedRings, book_of, line_to, serve_camera, shared_over};
 use crate::words::OneWord;
@@ -10,6 +10,7 @@ use interleaved::ListSource;
 use relay_server::{ConnectionEnd, run_connection};
 use std::alloc::Global;
 use std::process::Abort;
+use std::sync::atomic::Ordering;
 use std::sync::{Arc, Mutex, Wait};
 use std::thread::Threads;
 use std::time::Clock;
@@ -32,18 +33,17 @@ where
     camera
 }
 
-/// Connection 2 is refused a ring.
-fn other_is_refused<R>(rt: R, alloc: Global, shared: SharedRings<OneWord>)
+/// Connection 2 says this, and is told that.
+fn other_is_told<R>(rt: R, alloc: Global, shared: SharedRings<OneWord>, said: Vec<u8>, text: &[u8])
 where
     R: Threads + Wait + Clock + Abort + Copy + Drop + Send + 'static,
 {
     let told = Arc::new(alloc, Mutex::new(Vec::new(alloc))).expect(&rt, "memory");
     let line = line_to(rt, alloc, &told, 1000);
-    let said = Vec::from_slice(alloc, OTHER).expect(&rt, "memory");
     let other = ListSource::new(said, 7, None);
     let (end, _) = run_connection(rt, alloc, shared, 2, other, line, Open);
     assert!(rt; end == ConnectionEnd::Done);
-    assert!(rt; told.lock(&rt).as_slice() == NO_RING);
+    assert!(rt; told.lock(&rt).as_slice() == text);
 }
 
 /// Connection 1 records and pauses as if it were alone.
@@ -58,8 +58,32 @@ fn camera_pauses<R: Threads + Wait + Abort>(rt: &R, alloc: Global, camera: Servi
 #[test]
 fn a_refused_ring_leaves_another_connection_recording(rt: HostRuntime) {
     let alloc = rt.alloc();
-    let shared = shared_over(&rt, alloc, book_of(&rt, alloc, 2), Some(1), OneWord);
+    let shared = shared_over(
+        &rt,
+        alloc,
+        book_of(&rt, alloc, 1, 2),
+        Rings::refusing(&rt, alloc, Some(1)),
+        OneWord,
+    );
     let camera = recording(rt, alloc, &shared);
-    other_is_refused(rt, alloc, shared);
+    let said = joined(&rt, alloc, &[OTHER]);
+    other_is_told(rt, alloc, shared, said, NO_RING);
+    camera_pauses(&rt, alloc, camera);
+}
+
+const FORBIDDEN: &[u8] = b"RTSP/1.0 403 Forbidden\r\nCSeq: 1\r\n\r\n";
+
+/// Connection 2 announces the mount of connection 1, four times: one ring is made for it, beside that of the mount.
+#[test]
+fn a_refused_announce_leaves_its_ring_to_the_next(rt: HostRuntime) {
+    let alloc = rt.alloc();
+    let rings = Rings::of(&rt, alloc, 1);
+    let made = Arc::try_clone(&rings.made).expect(&rt, "a count of its users");
+    let shared = shared_over(&rt, alloc, book_of(&rt, alloc, 1, 2), rings, OneWord);
+    let camera = recording(rt, alloc, &shared);
+    let said = joined(&rt, alloc, &[ANNOUNCE; 4]);
+    let told = joined(&rt, alloc, &[FORBIDDEN; 4]);
+    other_is_told(rt, alloc, shared, said, told.as_slice());
+    assert!(rt; made.load(Ordering::SeqCst) == 2);
     camera_pauses(&rt, alloc, camera);
 }

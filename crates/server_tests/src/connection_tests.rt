@@ -1,5 +1,5 @@
 //! A connection over devices in memory.
-use crate::devices::{Open, joined};
+use crate::devices::{Open, Rings, joined};
 use crate::serving::{book_of, line_to, shared_over};
 use crate::words::OneWord;
 use interleaved::ListSource;
@@ -40,9 +40,10 @@ fn serve<R>(rt: R, alloc: Global, peer: Peer) -> Served
 where
     R: Threads + Wait + Clock + RandomSource + Abort + Copy + Drop + Send + 'static,
 {
-    let book = book_of(&rt, alloc, 1);
+    let book = book_of(&rt, alloc, 1, 1);
     let theirs = Arc::try_clone(&book).expect(&rt, "a count of its users");
-    let shared = shared_over(&rt, alloc, theirs, peer.refused, OneWord);
+    let rings = Rings::refusing(&rt, alloc, peer.refused);
+    let shared = shared_over(&rt, alloc, theirs, rings, OneWord);
     let bytes = Arc::new(alloc, Mutex::new(Vec::new(alloc))).expect(&rt, "memory");
     let line = line_to(rt, alloc, &bytes, peer.room);
     let fail_at = if peer.read_fails {

@@ -16,6 +16,9 @@ pub(crate) type Bytes = Arc<Mutex<Vec<u8>>, Global>;
 /// A word by which a device is let on.
 pub(crate) type Flag = Arc<AtomicBool, Global>;
 
+/// A number that is counted up.
+pub(crate) type Count = Arc<AtomicU64, Global>;
+
 /// A connection that needs no hanging up.
 #[derive(Clone, Copy, Drop)]
 pub(crate) struct Open;
@@ -87,18 +90,27 @@ pub(crate) fn wait_for<R: Clock>(rt: &R, word: &AtomicBool) {
 #[derive(Drop)]
 pub(crate) struct Rings {
     maker: RingMaker,
-    made: AtomicU64,
+    /// How many were made or refused.
+    pub(crate) made: Count,
     /// Which one is refused, counted from 0.
     refused: Option<u64>,
 }
 
 impl Rings {
-    /// Rings of one seat that keep four packets of at most 16 bytes.
-    pub(crate) fn refusing(refused: Option<u64>) -> Rings {
+    /// Rings of so many seats that keep four packets of at most 16 bytes, none of which is refused.
+    pub(crate) fn of(rt: &impl Abort, alloc: Global, seats: usize) -> Rings {
         Rings {
-            maker: RingMaker::new(4, 1, 16),
-            made: AtomicU64::new(0),
+            maker: RingMaker::new(4, seats.min(1024), 16),
+            made: Arc::new(alloc, AtomicU64::new(0)).expect(rt, "memory"),
+            refused: None,
+        }
+    }
+
+    /// Rings of one seat, of which this one is refused.
+    pub(crate) fn refusing(rt: &impl Abort, alloc: Global, refused: Option<u64>) -> Rings {
+        Rings {
             refused,
+            ..Rings::of(rt, alloc, 1)
         }
     }
 }

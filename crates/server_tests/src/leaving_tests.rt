@@ -8,7 +8,7 @@ use std::alloc::Global;
 use std::net::{Net, SocketAddr, TcpStream};
 use std::process::Abort;
 use std::thread;
-use std::time::{Clock, Duration};
+use std::time::{Clock, Duration, Instant};
 
 const DESCRIBE: &[u8] = b"DESCRIBE rtsp://127.0.0.1:8554/cam RTSP/1.0\r\nCSeq: 2\r\n\r\n";
 
@@ -167,8 +167,16 @@ fn a_player_may_stay_behind_the_end(rt: HostRuntime) {
     server.end(&rt);
 }
 
-/// How many packets of 6,000 bytes are published to a player that reads nothing: more than a system's buffers mostly hold.
-const STALLING: u16 = 2_000;
+/// How many packets of 6,000 bytes are published at once to a player that reads nothing: fewer than its ring keeps.
+const BATCH: u16 = 400;
+
+/// Publishes 2,000 packets, more than a system's buffers mostly hold, with time for the server to write each batch.
+fn stall<R: Clock + Abort>(rt: &R, alloc: Global, camera: &mut Client) {
+    for place in 0..5u16 {
+        publish(rt, alloc, camera, BATCH.wrapping_mul(place), BATCH);
+        thread::sleep(rt, Duration::from_millis(20));
+    }
+}
 
 /// What a player says that reads nothing, and whether it says nothing more.
 #[derive(Clone, Copy)]
@@ -196,7 +204,7 @@ fn freed<R: Net<Stream = TcpStream> + Clock + Abort>(
     last: Last<'_>,
 ) -> Client {
     let mut peers = Peers::connect(rt, alloc, addr);
-    publish(rt, alloc, &mut peers.camera, 0, STALLING);
+    stall(rt, alloc, &mut peers.camera);
     // The server has read them all.
     peers.camera.ask(rt, OPTIONS);
     seat_is_freed(rt, &mut peers, last);
@@ -296,5 +304,39 @@ fn a_refused_peer_reads_why(rt: HostRuntime) {
     let server = start(rt, alloc, Set::of(20, 1), OpenGate);
     server.fill(&rt);
     each_reads_why(&rt, alloc, server.addr);
+    server.end(&rt);
+}
+
+/// How many peers come at once for which there is no connection.
+const CROWD: u64 = 200;
+
+/// All of them come, and each reads why it is refused.
+fn crowd_reads_why<R: Net<Stream = TcpStream> + Clock + Abort>(
+    rt: &R,
+    alloc: Global,
+    addr: SocketAddr,
+) {
+    let mut crowd = Vec::new(alloc);
+    for _ in 0..CROWD {
+        crowd
+            .push(Client::connect(rt, alloc, addr))
+            .expect(rt, "memory");
+    }
+    for late in crowd.iter_mut() {
+        assert!(rt; late.reads(rt, b"RTSP/1.0 503 Service Unavailable\r\n\r\n"));
+        assert!(rt; late.is_hung_up(rt));
+    }
+}
+
+/// Nobody waits for those that were refused before: 200 of them would take five seconds, a fortieth each.
+#[test]
+fn a_crowd_of_refused_peers_is_not_waited_for(rt: HostRuntime) {
+    let alloc = rt.alloc();
+    let server = start(rt, alloc, Set::of(CROWD, 1), OpenGate);
+    server.fill(&rt);
+    let began = Instant::now(&rt).expect(&rt, "the time");
+    crowd_reads_why(&rt, alloc, server.addr);
+    let took = began.elapsed(&rt).expect(&rt, "the time");
+    assert!(rt; took < Duration::from_secs(3));
     server.end(&rt);
 }

@@ -8,6 +8,8 @@ mod account_tests;
 #[cfg(test)]
 mod beside_tests;
 #[cfg(test)]
+mod burst_tests;
+#[cfg(test)]
 mod connection_tests;
 #[cfg(test)]
 mod devices;
@@ -29,6 +31,8 @@ mod row_tests;
 mod scripted;
 #[cfg(test)]
 mod serving;
+#[cfg(test)]
+mod speed_tests;
 #[cfg(test)]
 mod text_tests;
 #[cfg(test)]

@@ -6,7 +6,7 @@ use relay_server::{Gate, Options, RingMaker, Seat, SharedBook, run_server};
 use session_lock::Book;
 use std::alloc::{AllocError, Global};
 use std::collections::hash_map::RandomState;
-use std::io::{Read, Write};
+use std::io::{Eprint, Read, Write};
 use std::net::{Net, Shutdown, SocketAddr, TcpListener, TcpStream};
 use std::process::Abort;
 use std::random::RandomSource;
@@ -181,6 +181,8 @@ impl Running {
 pub(crate) struct Set {
     pub(crate) accept: u64,
     pub(crate) seats: usize,
+    /// How many packets a mount's ring keeps.
+    pub(crate) keep: usize,
     /// For so many milliseconds players may stay behind their mount's end; `None` for good.
     pub(crate) after_end: Option<u64>,
     /// The milliseconds for which packets gather.
@@ -190,11 +192,12 @@ pub(crate) struct Set {
 }
 
 impl Set {
-    /// Packets gather for a millisecond, and players stay when their mount has ended.
+    /// Rings keep 512 packets, packets gather for a millisecond, and players stay when their mount has ended.
     pub(crate) fn of(accept: u64, seats: usize) -> Set {
         Set {
             accept,
             seats,
+            keep: 512,
             after_end: None,
             gather: 1,
             write_wait: 20_000,
@@ -213,7 +216,7 @@ fn serve<R, G>(
     gate: G,
 ) -> JoinHandle<Result<(), AllocError>>
 where
-    R: Threads + Wait + Clock + Log + Abort + Copy + Send + Sync + 'static,
+    R: Threads + Wait + Clock + Log + Eprint + Abort + Copy + Send + Sync + 'static,
     G: Gate + Drop + Send + Sync + 'static,
 {
     thread::spawn(&rt, move || {
@@ -222,13 +225,14 @@ where
     .expect(&rt, "a thread")
 }
 
-/// Starts a server whose rings keep 512 packets of at most 16,384 bytes.
+/// Starts a server whose packets have at most 16,384 bytes.
 pub(crate) fn start<R, G>(rt: R, alloc: Global, set: Set, gate: G) -> Running
 where
     R: Threads
         + Wait
         + Clock
         + Log
+        + Eprint
         + RandomSource
         + Abort
         + Net<Listener = TcpListener, Stream = TcpStream>
@@ -251,7 +255,7 @@ where
         after_end: set.after_end,
         write_wait: set.write_wait,
     };
-    let maker = RingMaker::new(512, seats, 16_384);
+    let maker = RingMaker::new(set.keep.clamp(1, 4095), seats, 16_384);
     let thread = serve(rt, alloc, listener, options, maker, theirs, gate);
     Running { addr, book, thread }
 }

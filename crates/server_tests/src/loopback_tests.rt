@@ -1,10 +1,10 @@
 //! Connections over loopback.
 use crate::loopback::{Client, OPTIONS, Set, start, status};
 use crate::scripted::{
-    FRAME, Peers, SETUP_OUT, passes_on, play, player, publish, publisher, status_in,
+    FRAME, Peers, SETUP_OUT, number_in, passes_on, play, player, publish, publisher, status_in,
 };
 use relay_server::{Gate, OpenGate};
-use std::alloc::{AllocError, Global};
+use std::alloc::Global;
 use std::net::{Net, SocketAddr, TcpListener, TcpStream};
 use std::process::Abort;
 use std::sync::Arc;
@@ -137,22 +137,14 @@ fn connections_are_served_side_by_side(rt: HostRuntime) {
     assert!(rt; !latch.gave_up.load(Ordering::SeqCst));
 }
 
-/// The number in a packet's frame.
-fn number_in(frame: &[u8]) -> u16 {
-    match frame {
-        [_, _, _, _, _, _, high, low, ..] => u16::from_be_bytes([*high, *low]),
-        _ => u16::MAX,
-    }
-}
-
 /// How many packets are published while one player reads nothing: more than a system's buffers mostly hold.
-const PUBLISHED: u16 = 2_000;
+pub(crate) const PUBLISHED: u16 = 2_000;
 
 /// So many packets are published before the players that read have read them.
-const BATCH: u16 = 20;
+pub(crate) const BATCH: u16 = 20;
 
 /// Whether a player reads just these packets next.
-fn reads(rt: &impl Abort, player: &mut Client, from: u16) -> bool {
+pub(crate) fn reads(rt: &impl Abort, player: &mut Client, from: u16) -> bool {
     for place in 0..BATCH {
         if number_in(player.bytes(rt, 6004).as_slice()) != from.wrapping_add(place) {
             return false;
@@ -208,60 +200,6 @@ fn a_player_that_reads_nothing_hurts_no_other(rt: HostRuntime) {
     };
     let server = start(rt, alloc, set, OpenGate);
     one_reads_later(&rt, alloc, server.addr);
-    server.end(&rt);
-}
-
-/// Packets of twelve bytes, as frames, whose numbers go up from 0: four times as many as the ring keeps.
-fn burst(alloc: Global) -> Result<Vec<u8>, AllocError> {
-    let mut frames = Vec::new(alloc);
-    for number in 0..PUBLISHED {
-        let mut frame = *b"\x24\x00\x00\x0c\x80\x60\x00\x00\x00\x00\x23\x28\x00\x00\x00\x00";
-        let [high, low] = number.to_be_bytes();
-        frame[6] = high;
-        frame[7] = low;
-        frames.extend_from_slice(&frame)?;
-    }
-    Ok(frames)
-}
-
-/// How many of them a player reads, the last one among them.
-fn reads_burst(rt: &impl Abort, player: &mut Client) -> u16 {
-    let mut count = 0u16;
-    for _ in 0..PUBLISHED {
-        count = count.saturating_add(1);
-        if number_in(player.bytes(rt, 16).as_slice()) == PUBLISHED - 1 {
-            break;
-        }
-    }
-    count
-}
-
-/// Whether two players read all of a burst that comes in one write: one of ten, since a machine that does other work may be
-/// late once.
-fn burst_is_played<R: Net<Stream = TcpStream> + Abort>(
-    rt: &R,
-    alloc: Global,
-    addr: SocketAddr,
-) -> bool {
-    let mut camera = publisher(rt, alloc, addr);
-    let mut first = player(rt, alloc, addr, 2);
-    let mut second = player(rt, alloc, addr, 3);
-    let frames = burst(alloc).expect(rt, "memory");
-    for _ in 0..10u32 {
-        camera.say(rt, frames.as_slice());
-        let counts = (reads_burst(rt, &mut first), reads_burst(rt, &mut second));
-        if counts == (PUBLISHED, PUBLISHED) {
-            return true;
-        }
-    }
-    false
-}
-
-#[test]
-fn a_burst_waits_for_the_players_that_read(rt: HostRuntime) {
-    let alloc = rt.alloc();
-    let server = start(rt, alloc, Set::of(3, 2), OpenGate);
-    assert!(rt; burst_is_played(&rt, alloc, server.addr));
     server.end(&rt);
 }
 

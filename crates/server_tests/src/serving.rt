@@ -17,17 +17,18 @@ use std::thread;
 use std::thread::{JoinHandle, Threads};
 use std::time::Clock;
 
-/// What connections over rings of one seat share.
+/// What connections over rings share.
 pub(crate) type SharedRings<V> = Arc<Shared<Rings, V, OpenGate>, Global>;
 
-/// A book of one seat and of so many connections.
+/// A book of mounts with so many seats, and of so many connections.
 pub(crate) fn book_of<R: RandomSource + Wait + Abort>(
     rt: &R,
     alloc: Global,
+    seats: usize,
     connections: u32,
 ) -> SharedBook<Seat<Pass>> {
     let hasher = RandomState::new(rt).expect(rt, "random bytes");
-    let book = Mutex::new(Book::new(alloc, 1, hasher));
+    let book = Mutex::new(Book::new(alloc, seats.min(1024), hasher));
     let book = Arc::new(alloc, book).expect(rt, "memory");
     for _ in 0..connections {
         let _ = book.lock(rt).connect();
@@ -35,16 +36,15 @@ pub(crate) fn book_of<R: RandomSource + Wait + Abort>(
     book
 }
 
-/// What the connections of a book share. This one of their rings is refused memory, counted from 0.
+/// What the connections of a book share.
 pub(crate) fn shared_over<V: Words + Drop>(
     rt: &impl Abort,
     alloc: Global,
     book: SharedBook<Seat<Pass>>,
-    refused: Option<u64>,
+    rings: Rings,
     words: V,
 ) -> SharedRings<V> {
-    let maker = Rings::refusing(refused);
-    let shared = Shared::new(alloc, maker, book, words, OpenGate, None).expect(rt, "memory");
+    let shared = Shared::new(alloc, rings, book, words, OpenGate, None).expect(rt, "memory");
     Arc::new(alloc, shared).expect(rt, "memory")
 }
 

@@ -1,11 +1,13 @@
 //! Texts of ends, refusals and counts, and the lines that tell of them.
 use log::sink::Memory;
-use relay_server::{ConnectionEnd, Counts, Refusal, tell_end};
+use log::warn;
+use relay_server::{ConnectionEnd, Counts, Lines, Refusal, tell_end};
 use rtsp_message::Fault;
 use std::alloc::Global;
 use std::fmt::Display;
 use std::net::SocketAddr;
 use std::process::Abort;
+use std::time::Duration;
 
 /// Each end, and its text. All but the first are warned of.
 const ENDS: [(ConnectionEnd, &str); 10] = [
@@ -51,6 +53,10 @@ fn ends_and_refusals_say_why(rt: HostRuntime) {
         (Refusal::Full, "refused: too many connections"),
         (Refusal::OutOfMemory, "refused: out of memory"),
         (Refusal::NoThread, "refused: no thread"),
+        (
+            Refusal::NotAccepted,
+            "not accepted: no descriptor or no memory",
+        ),
     ] {
         assert!(rt; is_text(&rt, alloc, &refusal, text), "{text}");
     }
@@ -146,4 +152,14 @@ fn an_end_is_a_line_and_so_are_losses(rt: HostRuntime) {
             assert!(rt; are_told(lines.as_slice(), end, text, line), "{text}");
         }
     }
+}
+
+/// More lines than may wait are told, and nobody writes them.
+#[test]
+fn lines_that_nobody_writes_hold_nobody_up(rt: HostRuntime) {
+    let lines = Lines::new(rt, rt.alloc()).expect(&rt, "memory");
+    for number in 0..3_000u32 {
+        warn!(lines; "{number}");
+    }
+    lines.close(Duration::from_millis(10));
 }

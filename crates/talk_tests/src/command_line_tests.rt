@@ -134,13 +134,14 @@ fn a_line_out_of_range_is_refused(rt: HostRuntime) -> Result<(), Fail> {
 }
 
 /// Lines that aren't understood, and the status that tells it: asking for help is 0.
-const OTHER_LINES: [(&str, i32); 7] = [
+const OTHER_LINES: [(&str, i32); 8] = [
     ("relay", 2),
     ("relay play", 2),
     ("relay talk x", 2),
     ("relay talk --word", 2),
     ("relay steps x", 2),
     ("relay --help", 0),
+    ("relay --version", 0),
     ("relay serve --help", 0),
 ];
 
@@ -252,11 +253,12 @@ Example: a seat loses the first of three packets, since the ring keeps two
 printf 'keep 2\\nseats 1\\np 41\\np 42\\np 43\\n0 attach\\n0 take\\n0 take\\n0 detach\\ngo 0 p*15 0 0*5 0\\n' | ./relay steps
 ";
 
-/// Lines that ask for help, and what they are told.
-const HELPS: [(&str, &str); 3] = [
+/// Lines that ask for help or the version, and what they are told.
+const HELPS: [(&str, &str); 4] = [
     ("relay serve --help", SERVE_HELP),
     ("relay talk --help", TALK_HELP),
     ("relay steps --help", STEPS_HELP),
+    ("relay --version", "relay 0.1.0\n"),
 ];
 
 /// Whether a line asks for this help.

@@ -1,23 +1,35 @@
 //! How a connection's requests are decided.
 use super::Connection;
 use super::told::Told;
+use crate::bell::Bell;
 use crate::gate::Gate;
 use crate::maker::{Maker, Seat};
 use crate::notice::Notice;
+use crate::offers::Offer;
 use crate::posting::Posting;
 use crate::socket::HangUp;
 use base_syntax::Items;
 use interleaved::Sink;
 use rtsp_message::Request;
-use session_lock::Answer;
+use session_lock::{Answer, AskFault};
 use session_state::{Act, Given, Method, Words, read_method};
-use std::alloc::AllocError;
+use std::alloc::{AllocError, Global};
 use std::sync::{Arc, Wait};
 use std::thread::Threads;
 use std::time::Clock;
 use transport_header::Point;
 
-/// An answer, and with an ANNOUNCE the feed of the mount that it may have opened.
+/// The book has no answer, or there was no memory to ask it.
+#[derive(Debug, Drop)]
+pub(super) struct NoAnswer;
+
+impl From<AllocError> for NoAnswer {
+    fn from(_refused: AllocError) -> NoAnswer {
+        NoAnswer
+    }
+}
+
+/// An answer, and with an ANNOUNCE the feed of the mount that it has opened.
 pub(super) type Asked<R, M> = (
     Answer<Seat<<M as Maker>::Pass>>,
     Option<Posting<R, <M as Maker>::In>>,
@@ -34,7 +46,7 @@ where
     H: HangUp + Drop + Send + Sync + 'static,
 {
     /// Has the book decide a request. With an ANNOUNCE that is accepted comes the feed of its mount.
-    pub(super) fn ask(&mut self, request: &Request) -> Result<Asked<R, M>, AllocError> {
+    pub(super) fn ask(&mut self, request: &Request) -> Result<Asked<R, M>, NoAnswer> {
         let rt = self.rt;
         self.shared.gate.pass(self.conn, self.turns);
         self.turns = self.turns.saturating_add(1);
@@ -55,69 +67,101 @@ where
         request: &Request,
         word: u32,
         points: Items<Option<Point>>,
-    ) -> Result<Asked<R, M>, AllocError> {
+    ) -> Result<Asked<R, M>, NoAnswer> {
         match self.ask_book(request, word, points, None) {
             Ok(answer) => Ok((answer, None)),
-            Err(_) => Err(AllocError),
+            Err(_) => Err(NoAnswer),
         }
     }
 
-    /// A ring is made for each ANNOUNCE, and is gone again where that is refused before another one is made.
-    fn ask_to_publish(&mut self, request: &Request, word: u32) -> Result<Asked<R, M>, AllocError> {
-        let shared = Arc::try_clone(&self.shared)?;
-        let one_at_a_time = shared.making.lock(&self.rt);
-        let (feed, seats) = self.offer()?;
-        let asked = self.ask_with_offer(request, word, feed, seats);
-        drop(one_at_a_time);
-        asked
+    /// Asks with an offer. What opened no mount of it is the next one's.
+    fn ask_to_publish(&mut self, request: &Request, word: u32) -> Result<Asked<R, M>, NoAnswer> {
+        let bell = Arc::try_clone(&self.shared.bell)?;
+        let Offer {
+            feed,
+            notice,
+            seats,
+        } = self.offer()?;
+        let (answer, back) = self.ask_with_seats(request, word, seats);
+        let posting = self.settle(feed, notice, back, bell);
+        Ok((answer?, posting))
     }
 
-    /// Asks with a seat for each pass. Where no mount is opened, its feed and what comes back of the seats are dropped.
-    fn ask_with_offer(
+    /// Asks with these seats. What isn't used of them comes back.
+    fn ask_with_seats(
         &mut self,
         request: &Request,
         word: u32,
-        feed: Posting<R, M::In>,
         seats: Vec<Seat<M::Pass>>,
-    ) -> Result<Asked<R, M>, AllocError> {
+    ) -> (
+        Result<Answer<Seat<M::Pass>>, NoAnswer>,
+        Option<Vec<Seat<M::Pass>>>,
+    ) {
         let points = Items::empty(self.alloc);
-        let mut answer = self.ask_book(request, word, points, Some(seats))?;
-        drop(answer.back.take());
-        let is_opened = answer.act == Act::Open;
-        Ok((answer, is_opened.then_some(feed)))
+        match self.ask_book(request, word, points, Some(seats)) {
+            Ok(mut answer) => {
+                let back = answer.back.take();
+                (Ok(answer), back)
+            }
+            Err(back) => (Err(NoAnswer), back),
+        }
     }
 
-    /// Asks the book, and learns how the session stands then.
+    /// The feed of the mount that took the seats. Where they came back it is the next one's with them.
+    fn settle(
+        &self,
+        feed: M::In,
+        notice: Arc<Notice, Global>,
+        back: Option<Vec<Seat<M::Pass>>>,
+        bell: Arc<Bell, Global>,
+    ) -> Option<Posting<R, M::In>> {
+        let Some(seats) = back else {
+            self.shared.offers.leave(&self.rt);
+            let keep = self.shared.maker.keep();
+            return Some(Posting::new(self.rt, feed, notice, bell, keep));
+        };
+        let offer = Offer {
+            feed,
+            notice,
+            seats,
+        };
+        self.shared.offers.put(&self.rt, offer);
+        None
+    }
+
+    /// What an ANNOUNCE offers: what another one offered in vain, or a new one.
+    fn offer(&self) -> Result<Offer<M>, AllocError> {
+        if let Some(kept) = self.shared.offers.take(&self.rt) {
+            return Ok(kept);
+        }
+        let made = Offer::make(self.alloc, &self.shared.maker);
+        if made.is_err() {
+            self.shared.offers.leave(&self.rt);
+        }
+        made
+    }
+
+    /// Asks the book, and learns how the session stands then. Without an answer what was offered comes back.
     fn ask_book(
         &mut self,
         request: &Request,
         word: u32,
         points: Items<Option<Point>>,
         offer: Option<Vec<Seat<M::Pass>>>,
-    ) -> Result<Answer<Seat<M::Pass>>, AllocError> {
+    ) -> Result<Answer<Seat<M::Pass>>, Option<Vec<Seat<M::Pass>>>> {
         let given = Given { word, points };
-        let (asked, session) = {
-            let mut book = self.shared.book.lock(&self.rt);
-            let asked = book.ask(self.conn, request, &given, offer);
-            let session = book.session_of(self.conn).map(Told::of);
-            (asked, session)
-        };
-        self.session = session;
+        let mut book = self.shared.book.lock(&self.rt);
+        let asked = book.ask(self.conn, request, &given, offer);
+        self.session = book.session_of(self.conn).map(Told::of);
+        drop(book);
         match asked {
             Ok(answer) => Ok(answer),
-            // What was offered comes back with a fault, and isn't dropped under the book's lock.
-            Err(_) => Err(AllocError),
+            Err(
+                AskFault::NotOpen { back }
+                | AskFault::BadOffer { back }
+                | AskFault::NoMemory { back },
+            ) => Err(back),
         }
-    }
-
-    /// What a mount's packets go through, with a seat for each pass.
-    fn offer(&self) -> Result<(Posting<R, M::In>, Vec<Seat<M::Pass>>), AllocError> {
-        let (feed, passes) = self.shared.maker.make(self.alloc)?;
-        let notice = Arc::new(self.alloc, Notice::new(self.alloc, passes.len())?)?;
-        let seats = Seat::of(self.alloc, passes, &notice)?;
-        let bell = Arc::try_clone(&self.shared.bell)?;
-        let keep = self.shared.maker.keep();
-        Ok((Posting::new(self.rt, feed, notice, bell, keep), seats))
     }
 
     /// Where the tracks of the session's mount stand.

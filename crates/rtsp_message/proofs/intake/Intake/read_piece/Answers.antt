@@ -11,9 +11,9 @@ use Rattle.rtsp_message.specs.IntakeFields.{state_of}
 use Rattle.rtsp_message.proofs.HandingOut.{units_found, settled, holds_more, holds_same}
 use Rattle.rtsp_message.specs.Intakes.{IntakeState, HandsOut}
 use Rattle.rtsp_message.proofs.Fetching.{Fetched}
-use Rattle.rtsp_message.proofs.intake.Intake.read_on.Given.{Over}
-use Rattle.rtsp_message.proofs.intake.Intake.read_on.Goals.{After-feed, then-self-eq0+in-Ok, else-self-eq0}
-use Rattle.rtsp_message.proofs.intake.Intake.read_on.Goals as goal
+use Rattle.rtsp_message.proofs.intake.Intake.read_piece.Given.{Over}
+use Rattle.rtsp_message.proofs.intake.Intake.read_piece.Goals.{After-feed, then-self-eq0+in-Ok, else-self-eq0}
+use Rattle.rtsp_message.proofs.intake.Intake.read_piece.Goals as goal
 
 none_held : (n : ℕ) (old new : List ℕ) → n ≡ 0 → take n new ≡ take n old ++ []
 none_held n old new e = ap (λ (k : ℕ). take k new) e ∙ ap (λ (k : ℕ). take k old ++ []) (sym e)

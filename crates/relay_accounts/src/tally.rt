@@ -1,0 +1,64 @@
+//! What is told of once in a while.
+ghost use Rattle.std.specs.Prelude.{◌≡◌, ◌+◌, None, Some, MatchOption};
+ghost use Rattle.relay_accounts.specs.Counting.{capped};
+ghost use Rattle.relay_accounts.specs.Tallies.{due_at, IsDue};
+
+/// How long nothing is told behind what was told last, in milliseconds.
+const WHILE: u64 = 60_000;
+
+/// Counts what is told of at most once a minute, with its number. Moments are milliseconds of a clock that doesn't go back.
+#[derive(Clone, Copy, Debug, PartialEq, Eq, Drop)]
+pub struct Tally {
+    /// How often it came since it was told.
+    pub count: u64,
+    /// When it was told last.
+    pub told: Option<u64>,
+}
+
+impl Tally {
+    /// Nothing came.
+    pub fn new() -> Tally
+        ensures { result ≡ record { count = 0; told = None } }
+    {
+        Tally {
+            count: 0,
+            told: None,
+        }
+    }
+
+    /// It came once more.
+    pub fn add(&mut self)
+        ensures { self.new ≡ record self.old { count = capped (self.old.count + 1) } }
+    {
+        self.count = self.count.saturating_add(1);
+    }
+
+    /// When it is to be told. `None` where nothing came since it was told.
+    pub fn due(&self) -> Option<u64>
+        ensures { result ≡ due_at self.now }
+    {
+        if self.count == 0 {
+            return None;
+        }
+        match self.told {
+            Some(told) => Some(told.saturating_add(WHILE)),
+            None => Some(0),
+        }
+    }
+
+    /// How often it came, where that is to be told now; then it counts as told.
+    pub fn tell(&mut self, now: u64) -> Option<u64>
+        ensures { MatchOption result ((IsDue self.old now → ⊥) × (self.new ≡ self.old)) (λ count. IsDue self.old now × (count ≡ self.old.count) × (self.new ≡ record { count = 0; told = Some now })) }
+    {
+        let due = self.due()?;
+        if due > now {
+            return None;
+        }
+        let count = self.count;
+        *self = Tally {
+            count: 0,
+            told: Some(now),
+        };
+        Some(count)
+    }
+}

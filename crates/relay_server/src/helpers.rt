@@ -1,0 +1,60 @@
+//! The threads of a server that no connection has.
+use crate::bell::wake_players;
+use crate::gate::Gate;
+use crate::server::Server;
+use log::Log;
+use session_state::Words;
+use std::alloc::AllocError;
+use std::io::Eprint;
+use std::sync::{Arc, Wait};
+use std::thread;
+use std::thread::{JoinHandle, Threads};
+use std::time::{Clock, Duration};
+
+/// How long the end of a server waits for its last lines to be written, in milliseconds.
+const LAST_LINES: u64 = 1_000;
+
+/// The threads of a server that no connection has: one wakes players, one closes the peers that are refused, and one, which
+/// isn't joined since nobody may read what it writes, writes lines.
+#[derive(Drop)]
+pub(crate) struct Helpers {
+    waking: JoinHandle<()>,
+    closing: JoinHandle<()>,
+}
+
+impl Helpers {
+    /// Starts them. Packets gather for so many milliseconds.
+    pub(crate) fn start<R, V, G>(
+        rt: R,
+        server: &Server<R, V, G>,
+        gather: u64,
+    ) -> Result<Helpers, AllocError>
+    where
+        R: Threads + Wait + Clock + Log + Eprint + Copy + Send + Sync + 'static,
+        V: Words + Drop + Send + 'static,
+        G: Gate + Drop + Send + Sync + 'static,
+    {
+        let shared = Arc::try_clone(&server.shared)?;
+        let refusing = Arc::try_clone(&server.refusing)?;
+        let told = Arc::try_clone(&server.lines)?;
+        let written = Arc::try_clone(&server.lines)?;
+        let gather = Duration::from_millis(gather);
+        thread::spawn(&rt, move || written.write_all())?;
+        Ok(Helpers {
+            waking: thread::spawn(&rt, move || {
+                wake_players(&rt, &shared.bell, &shared.board, gather)
+            })?,
+            closing: thread::spawn(&rt, move || refusing.close_all(&rt, &told))?,
+        })
+    }
+
+    /// Ends them, behind the last connection.
+    pub(crate) fn end<R: Threads + Wait + Clock, V, G>(self, rt: &R, server: &Server<R, V, G>) {
+        let Helpers { waking, closing } = self;
+        server.shared.bell.stop();
+        waking.join(rt);
+        server.refusing.end(rt);
+        closing.join(rt);
+        server.lines.close(Duration::from_millis(LAST_LINES));
+    }
+}

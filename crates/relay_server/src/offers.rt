@@ -1,0 +1,97 @@
+//! What ANNOUNCEs offer, and no mount has used yet.
+use crate::maker::{Maker, Seat};
+use crate::notice::Notice;
+use std::alloc::{AllocError, Global};
+use std::sync::{Arc, Condvar, Mutex, Wait};
+
+/// How many offers may stand in no mount.
+const MOST: usize = 4;
+
+/// What an ANNOUNCE offers: what its mount's packets would go through, with a seat for each pass.
+#[derive(Drop)]
+pub(crate) struct Offer<M: Maker> {
+    pub(crate) feed: M::In,
+    pub(crate) notice: Arc<Notice, Global>,
+    pub(crate) seats: Vec<Seat<M::Pass>>,
+}
+
+impl<M: Maker> Offer<M> {
+    /// A new one, which takes the memory of a mount.
+    pub(crate) fn make(alloc: Global, maker: &M) -> Result<Offer<M>, AllocError> {
+        let (feed, passes) = maker.make(alloc)?;
+        let notice = Arc::new(alloc, Notice::new(alloc, passes.len())?)?;
+        let seats = Seat::of(alloc, passes, &notice)?;
+        Ok(Offer {
+            feed,
+            notice,
+            seats,
+        })
+    }
+}
+
+/// The offers of a server that stand in no mount, at most four: one is kept for the next ANNOUNCE, whoever sends it, and the
+/// others are being made or judged. Nobody has used what comes back of one that was refused.
+///
+/// The lock is held for a change of who has one; no other is taken meanwhile, and no offer is made or dropped.
+#[derive(Drop)]
+pub(crate) struct Offers<M: Maker> {
+    standing: Mutex<Standing<M>>,
+    changed: Condvar,
+}
+
+#[derive(Drop)]
+struct Standing<M: Maker> {
+    kept: Option<Offer<M>>,
+    count: usize,
+}
+
+impl<M: Maker> Offers<M> {
+    /// None is kept, and none is made.
+    pub(crate) fn new() -> Offers<M> {
+        Offers {
+            standing: Mutex::new(Standing {
+                kept: None,
+                count: 0,
+            }),
+            changed: Condvar::new(),
+        }
+    }
+
+    /// Takes the one that is kept. `None` where none is: then the caller may make one. Waits while four stand in no mount and none
+    /// of them is kept.
+    pub(crate) fn take(&self, rt: &impl Wait) -> Option<Offer<M>> {
+        let mut standing = self
+            .changed
+            .wait_while(rt, self.standing.lock(rt), |standing| {
+                standing.kept.is_none() && standing.count >= MOST
+            });
+        let kept = standing.kept.take();
+        if kept.is_none() {
+            standing.count = standing.count.saturating_add(1);
+        }
+        kept
+    }
+
+    /// One comes back that opened no mount. It is kept where none is, and else dropped.
+    pub(crate) fn put(&self, rt: &impl Wait, offer: Offer<M>) {
+        let mut standing = self.standing.lock(rt);
+        let spare = if standing.kept.is_none() {
+            standing.kept = Some(offer);
+            None
+        } else {
+            standing.count = standing.count.saturating_sub(1);
+            Some(offer)
+        };
+        drop(standing);
+        self.changed.notify_one();
+        drop(spare);
+    }
+
+    /// One stands in a mount now, or couldn't be made.
+    pub(crate) fn leave(&self, rt: &impl Wait) {
+        let mut standing = self.standing.lock(rt);
+        standing.count = standing.count.saturating_sub(1);
+        drop(standing);
+        self.changed.notify_one();
+    }
+}
