@@ -105,14 +105,15 @@ impl<R: Wait + Clock + Drop, F> Posting<R, F> {
         }
     }
 
-    /// Waits until the players that keep up have taken so many packets, for as long as may be waited.
+    /// Waits until the players that keep up have taken so many packets, for half as long as may be waited: a player that reads
+    /// nothing any more leaves the other half to those that do.
     fn give_way(&mut self, target: u64)
         ensures { self.new.feed ≡ self.old.feed }
     {
         let Some(now) = self.now() else {
             return;
         };
-        let most = self.allowance.left(now);
+        let most = self.allowance.left(now) / 2;
         if most < LEAST || self.notice.pace.open(&self.rt, target) == 0 {
             return;
         }

@@ -24,7 +24,11 @@ fn main(rt: HostRuntime) -> anyhow::Result<()> {
         tell(&rt, "ring", seats, &ring)?;
         let list = time::<List, List, _>(rt, alloc, seats, source, rounds)?;
         tell(&rt, "list", seats, &list)?;
-        let same = if ring.sum == list.sum { "the same" } else { "other" };
+        let same = if ring.sum == list.sum {
+            "the same"
+        } else {
+            "other"
+        };
         println!(rt; "{seats} seats: the ring and the list gave {same} bytes")?;
     }
     Ok(())
@@ -41,7 +45,12 @@ fn seed(words: &[String]) -> Option<u64> {
 }
 
 /// Writes a line of times.
-fn tell(rt: &impl Eprint, name: impl Display + Copy, seats: usize, times: &Times) -> std::io::Result<()> {
+fn tell(
+    rt: &impl Eprint,
+    name: impl Display + Copy,
+    seats: usize,
+    times: &Times,
+) -> std::io::Result<()> {
     let Times {
         publish,
         take,

@@ -147,10 +147,7 @@ where
     for thread in threads {
         lost = lost.saturating_add(thread.join(&rt)?.lost);
     }
-    Ok((
-        published.saturating_mul(1_000_000_000) / nanos.max(1),
-        lost,
-    ))
+    Ok((published.saturating_mul(1_000_000_000) / nanos.max(1), lost))
 }
 
 /// A thread for each reader.

@@ -268,7 +268,7 @@ const BEHIND_A_REQUEST: [Last<'static>; 3] = [
     },
 ];
 
-/// No reply can be written to it, and its writes move nothing: they fail.
+/// Mostly no reply can be written to it, and its writes move nothing: they fail.
 #[test]
 fn a_stalled_player_that_asked_before_is_freed(rt: HostRuntime) {
     let alloc = rt.alloc();
@@ -278,7 +278,7 @@ fn a_stalled_player_that_asked_before_is_freed(rt: HostRuntime) {
             ..Set::of(3, 1)
         };
         let server = start(rt, alloc, set, OpenGate);
-        let _first = freed(&rt, alloc, server.addr, *last);
+        freed(&rt, alloc, server.addr, *last);
         server.end(&rt);
     }
 }
@@ -308,7 +308,7 @@ fn a_refused_peer_reads_why(rt: HostRuntime) {
 }
 
 /// How many peers come at once for which there is no connection.
-const CROWD: u64 = 200;
+const CROWD: u64 = 100;
 
 /// All of them come, and each reads why it is refused.
 fn crowd_reads_why<R: Net<Stream = TcpStream> + Clock + Abort>(
@@ -328,7 +328,7 @@ fn crowd_reads_why<R: Net<Stream = TcpStream> + Clock + Abort>(
     }
 }
 
-/// Nobody waits for those that were refused before: 200 of them would take five seconds, a fortieth each.
+/// Nobody waits for those that were refused before, a fortieth of a second each.
 #[test]
 fn a_crowd_of_refused_peers_is_not_waited_for(rt: HostRuntime) {
     let alloc = rt.alloc();
@@ -337,6 +337,6 @@ fn a_crowd_of_refused_peers_is_not_waited_for(rt: HostRuntime) {
     let began = Instant::now(&rt).expect(&rt, "the time");
     crowd_reads_why(&rt, alloc, server.addr);
     let took = began.elapsed(&rt).expect(&rt, "the time");
-    assert!(rt; took < Duration::from_secs(3));
+    assert!(rt; took < Duration::from_secs(2));
     server.end(&rt);
 }

@@ -144,7 +144,7 @@ pub(crate) const PUBLISHED: u16 = 2_000;
 pub(crate) const BATCH: u16 = 20;
 
 /// Whether a player reads just these packets next.
-pub(crate) fn reads(rt: &impl Abort, player: &mut Client, from: u16) -> bool {
+fn reads(rt: &impl Abort, player: &mut Client, from: u16) -> bool {
     for place in 0..BATCH {
         if number_in(player.bytes(rt, 6004).as_slice()) != from.wrapping_add(place) {
             return false;

@@ -45,20 +45,16 @@ impl<R: Wait + Clock> Write for Slow<R> {
 
 /// A player's requests, in the session of this number, below ten.
 fn requests(alloc: Global, session: u64) -> Result<Vec<u8>, AllocError> {
-    let play = format!(in alloc; "PLAY rtsp://h/a RTSP/1.0\nCSeq: 3\nSession: 0000000{session}0000abcd\n\n")?;
+    let play = format!(in alloc;
+        "PLAY rtsp://h/a RTSP/1.0\nCSeq: 3\nSession: 0000000{session}0000abcd\n\n"
+    )?;
     let mut said = Vec::from_slice(alloc, SETUP_OUT)?;
     said.extend_from_slice(play.as_bytes())?;
     Ok(said)
 }
 
 /// A connection that plays, and takes so long for each write. Once it is let on it closes.
-fn playing<R>(
-    rt: R,
-    alloc: Global,
-    shared: &SharedRings<OneWord>,
-    conn: u64,
-    wait: u64,
-) -> Serving
+fn playing<R>(rt: R, alloc: Global, shared: &SharedRings<OneWord>, conn: u64, wait: u64) -> Serving
 where
     R: Threads + Wait + Clock + Abort + Copy + Drop + Send + 'static,
 {
@@ -119,7 +115,10 @@ where
     R: Threads + Wait + Clock + Abort,
 {
     let last = small_frames(alloc, PACKETS).expect(rt, "memory");
-    let last = last.as_slice().get(usize::from(PACKETS - 1) * 16..).unwrap_or(b"");
+    let last = last
+        .as_slice()
+        .get(usize::from(PACKETS - 1) * 16..)
+        .unwrap_or(b"");
     assert!(rt; has_come(rt, &player.watch.written, 0, last));
     let (end, counts, written) = player.end(rt);
     assert!(rt; end == ConnectionEnd::Done);
