@@ -14,10 +14,14 @@ waited_in allowance window = if nat_le window allowance.window then slice_index 
 abbrev pub counted_in : Allowance → (ended : ℕ) → ℕ
 counted_in allowance ended = max allowance.window (window_of ended)
 
--- 20 milliseconds less what was waited in this moment's window and in the four before; so no more is waited in any 200
--- milliseconds, which lie in five windows
+-- what was waited in this window and in the four before
+abbrev pub waited_up_to : Allowance → (window : ℕ) → ℕ
+waited_up_to allowance window = waited_in allowance window + waited_in allowance (window - 1) + waited_in allowance (window - 2) + waited_in allowance (window - 3) + waited_in allowance (window - 4)
+
+-- 20 milliseconds less what was waited in this moment's window, or the last one that is known, and in the four before; so no
+-- more is waited in any 200 milliseconds, which lie in five windows
 abbrev pub left_at : Allowance → (now : ℕ) → ℕ
-left_at allowance now = 20000 - (waited_in allowance (window_of now) + waited_in allowance (window_of now - 1) + waited_in allowance (window_of now - 2) + waited_in allowance (window_of now - 3) + waited_in allowance (window_of now - 4))
+left_at allowance now = 20000 - waited_up_to allowance (counted_in allowance now)
 
 -- what is known of the windows once a wait of such a length counted in this one, the last window first
 abbrev pub spent : Allowance → (window length : ℕ) → List ℕ

@@ -33,7 +33,7 @@ impl Allowance {
     pub fn left(&self, now: u64) -> u64
         ensures { result ≡ left_at self.now now }
     {
-        let window = now / WINDOW + 5;
+        let window = self.window.max(now / WINDOW + 5);
         let waited = self
             .in_window(window)
             .saturating_add(self.in_window(window - 1))

@@ -26,7 +26,7 @@ pub struct Backlog<T> {
 }
 
 impl<T> Model for Backlog<T> {
-    ghost use Rattle.std.specs.Prelude.{◌≤◌};
+    ghost use Rattle.std.specs.Prelude.{◌≡◌, ◌≤◌};
     ghost use Rattle.std.specs.VecDeque.{deque_capacity, deque_len};
     ghost use Rattle.relay_accounts.specs.Backlogs.{Backed};
 
@@ -34,7 +34,7 @@ impl<T> Model for Backlog<T> {
 
     ghost view = { λ b. record { waiting = b.waiting.items; missed = b.missed } };
 
-    ghost invariant = { λ b. (deque_len b.waiting ≤ 1024) × (1024 ≤ deque_capacity b.waiting) };
+    ghost invariant = { λ b. (deque_len b.waiting ≤ 1024) × (deque_capacity b.waiting ≡ 1024) };
 }
 
 impl<T: Drop> Backlog<T> {

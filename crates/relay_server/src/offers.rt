@@ -2,10 +2,18 @@
 use crate::maker::{Maker, Seat};
 use crate::notice::Notice;
 use std::alloc::{AllocError, Global};
-use std::sync::{Arc, Condvar, Mutex, Wait};
+use std::sync::{Arc, Condvar, CondvarTimeouts, Mutex, Wait};
+use std::time::{Clock, Duration};
 
 /// How many offers may stand in no mount.
 const MOST: usize = 4;
+
+/// For how many milliseconds one is waited for.
+const WAIT: u64 = 2_000;
+
+/// As many offers stand in no mount as may.
+#[derive(Debug, Drop)]
+pub(crate) struct Busy;
 
 /// What an ANNOUNCE offers: what its mount's packets would go through, with a seat for each pass.
 #[derive(Drop)]
@@ -58,33 +66,36 @@ impl<M: Maker> Offers<M> {
     }
 
     /// Takes the one that is kept. `None` where none is: then the caller may make one. Waits while four stand in no mount and none
-    /// of them is kept.
-    pub(crate) fn take(&self, rt: &impl Wait) -> Option<Offer<M>> {
-        let mut standing = self
-            .changed
-            .wait_while(rt, self.standing.lock(rt), |standing| {
-                standing.kept.is_none() && standing.count >= MOST
-            });
-        let kept = standing.kept.take();
-        if kept.is_none() {
-            standing.count = standing.count.saturating_add(1);
+    /// of them is kept, for two seconds at most.
+    pub(crate) fn take<R: Wait + Clock>(&self, rt: &R) -> Result<Option<Offer<M>>, Busy> {
+        let most = Duration::from_millis(WAIT);
+        let (mut standing, _) =
+            self.changed
+                .wait_timeout_while(rt, self.standing.lock(rt), most, |standing| {
+                    standing.kept.is_none() && standing.count >= MOST
+                });
+        if let Some(kept) = standing.kept.take() {
+            return Ok(Some(kept));
         }
-        kept
+        if standing.count >= MOST {
+            return Err(Busy);
+        }
+        standing.count = standing.count.saturating_add(1);
+        Ok(None)
     }
 
     /// One comes back that opened no mount. It is kept where none is, and else dropped.
     pub(crate) fn put(&self, rt: &impl Wait, offer: Offer<M>) {
         let mut standing = self.standing.lock(rt);
-        let spare = if standing.kept.is_none() {
+        if standing.kept.is_none() {
             standing.kept = Some(offer);
-            None
-        } else {
-            standing.count = standing.count.saturating_sub(1);
-            Some(offer)
-        };
+            drop(standing);
+            self.changed.notify_one();
+            return;
+        }
         drop(standing);
-        self.changed.notify_one();
-        drop(spare);
+        drop(offer);
+        self.leave(rt);
     }
 
     /// One stands in a mount now, or couldn't be made.

@@ -70,7 +70,10 @@ impl Pace {
         }
         let mut round = self.round.lock(rt);
         let was_last = round.level(seat, cursor);
-        known.0 = round.is_level(seat).then_some(changes);
+        // One that is awaited yet goes on telling how far it is.
+        if round.is_level(seat) {
+            known.0 = Some(changes);
+        }
         drop(round);
         self.tell(was_last);
     }

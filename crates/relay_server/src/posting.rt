@@ -55,7 +55,7 @@ impl<R: Clock + Copy + Drop, F: Drop> Posting<R, F> {
             bell,
             posted: false,
             stretch: (keep / 4).max(TAKES),
-            most: keep.saturating_sub(keep / 4).max(TAKES),
+            most: keep.saturating_sub((keep / 4).max(TAKES)).max(TAKES),
             looked: 0,
             allowance: Allowance::new(),
             waited: 0,
@@ -98,24 +98,25 @@ impl<R: Wait + Clock + Drop, F> Posting<R, F> {
         self.looked = published;
         let slowest = self.notice.pace.slowest(&self.rt, published);
         let behind = published.saturating_sub(slowest);
-        if behind >= self.most {
-            self.give_way(published.saturating_sub(self.most / 2));
-        } else if behind >= self.stretch {
+        if behind < self.stretch {
+            return;
+        }
+        if behind < self.most || !self.give_way(published.saturating_sub(self.most / 2)) {
             self.notice.wake();
         }
     }
 
-    /// Waits until the players that keep up have taken so many packets, for half as long as may be waited: a player that reads
-    /// nothing any more leaves the other half to those that do.
-    fn give_way(&mut self, target: u64)
+    /// Wakes the players and waits until those that keep up have taken so many packets, for half as long as may be waited: a
+    /// player that reads nothing any more leaves the other half to those that do. Tells whether there was anything to wait for.
+    fn give_way(&mut self, target: u64) -> bool
         ensures { self.new.feed ≡ self.old.feed }
     {
         let Some(now) = self.now() else {
-            return;
+            return false;
         };
         let most = self.allowance.left(now) / 2;
         if most < LEAST || self.notice.pace.open(&self.rt, target) == 0 {
-            return;
+            return false;
         }
         // Behind the opening, so that a player which looked before it doesn't sleep; what waking takes is waited, too.
         self.notice.wake();
@@ -126,6 +127,7 @@ impl<R: Wait + Clock + Drop, F> Posting<R, F> {
         let then = self.now().unwrap_or(end);
         self.allowance.spend(now, then);
         self.waited = self.waited.saturating_add(then.saturating_sub(now));
+        true
     }
 
     /// How many microseconds have passed since the feed was made. `None` where the clock can't be read.

@@ -32,6 +32,10 @@ pub(crate) type RingShared<V, G> = Shared<RingMaker, V, G>;
 /// busy.
 const AFTER_NO_ACCEPT: u64 = 100;
 
+/// How many connections may have a thread: a little more than a book's, since those that are closed behind a last text have left
+/// it.
+const MOST_LIVE: u64 = 1_088;
+
 /// Serves connections of a listener: each is read by a thread of its own. Returns once as many as `options.accept` says
 /// were accepted and have ended, else never; or with an error where memory or a thread is wanting for what all
 /// connections share. The book and the maker are of one number of seats; where they aren't, each ANNOUNCE is answered 503.
@@ -155,6 +159,9 @@ where
     V: Words + Drop + Send + 'static,
     G: Gate + Drop + Send + Sync + 'static,
 {
+    if server.shared.live.load(Ordering::SeqCst) >= MOST_LIVE {
+        return Err(Refusal::Full);
+    }
     let conn = server.shared.book.lock(&rt).connect()?;
     let started = start(rt, alloc, server, conn, stream, peer);
     if started.is_err() {

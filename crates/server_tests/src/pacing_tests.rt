@@ -2,7 +2,7 @@
 ghost use Rattle.std.specs.Prelude.{None, ⊤};
 
 use cursor::{Feed, Refused};
-use pacing::{Insisting, Pause};
+use pacing::{Insisting, Pause, Round};
 use std::cell::Cell;
 
 /// What was done, in order, as the digits of a number: a try is 1, and a pause with the number that is due is 2.
@@ -107,9 +107,18 @@ fn a_publish_that_stays_pinned_is_given_up(rt: HostRuntime) {
     let done = Done::new();
     let mut feed = insisting(43, &done);
     let pinned = Err(Refused::Pinned { pins: 1 });
+    assert!(rt; feed.publish(0, b"long A") == Err(Refused::TooLong) && done.take() == (1, 0));
     assert!(rt; feed.publish(0, b"A") == pinned && done.take().1 == 40);
     assert!(rt; feed.publish(0, b"long A") == Err(Refused::TooLong) && done.take() == (1, 0));
     assert!(rt; feed.publish(0, b"B") == pinned && done.take() == (1, 0));
     assert!(rt; feed.publish(0, b"C") == pinned && done.take() == (1, 0));
     assert!(rt; feed.publish(0, b"D") == Ok(1) && done.take() == (1, 0));
+}
+
+/// There is a place for each of as many seats as a mount may have.
+#[test]
+fn the_last_of_1024_seats_is_awaited(rt: HostRuntime) {
+    let mut round = Round::new(rt.alloc(), 1024).expect(&rt, "memory");
+    assert!(rt; !round.join(1023) && !round.level(1023, 5));
+    assert!(rt; round.open(9) == 1 && !round.reach(1023, 8) && round.reach(1023, 9));
 }

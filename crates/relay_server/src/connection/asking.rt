@@ -5,7 +5,7 @@ use crate::bell::Bell;
 use crate::gate::Gate;
 use crate::maker::{Maker, Seat};
 use crate::notice::Notice;
-use crate::offers::Offer;
+use crate::offers::{Busy, Offer};
 use crate::posting::Posting;
 use crate::socket::HangUp;
 use base_syntax::Items;
@@ -19,12 +19,18 @@ use std::thread::Threads;
 use std::time::Clock;
 use transport_header::Point;
 
-/// The book has no answer, or there was no memory to ask it.
+/// The book has no answer, or there was no memory or no offer to ask it with.
 #[derive(Debug, Drop)]
 pub(super) struct NoAnswer;
 
 impl From<AllocError> for NoAnswer {
     fn from(_refused: AllocError) -> NoAnswer {
+        NoAnswer
+    }
+}
+
+impl From<Busy> for NoAnswer {
+    fn from(_busy: Busy) -> NoAnswer {
         NoAnswer
     }
 }
@@ -130,15 +136,17 @@ where
     }
 
     /// What an ANNOUNCE offers: what another one offered in vain, or a new one.
-    fn offer(&self) -> Result<Offer<M>, AllocError> {
-        if let Some(kept) = self.shared.offers.take(&self.rt) {
+    fn offer(&self) -> Result<Offer<M>, NoAnswer> {
+        if let Some(kept) = self.shared.offers.take(&self.rt)? {
             return Ok(kept);
         }
-        let made = Offer::make(self.alloc, &self.shared.maker);
-        if made.is_err() {
-            self.shared.offers.leave(&self.rt);
+        match Offer::make(self.alloc, &self.shared.maker) {
+            Ok(made) => Ok(made),
+            Err(_) => {
+                self.shared.offers.leave(&self.rt);
+                Err(NoAnswer)
+            }
         }
-        made
     }
 
     /// Asks the book, and learns how the session stands then. Without an answer what was offered comes back.
