@@ -6,6 +6,7 @@ mod backlog;
 mod counts;
 mod ending;
 mod incoming;
+mod outcome;
 mod points;
 mod tally;
 
@@ -13,5 +14,6 @@ pub use backlog::{Backlog, Waiting};
 pub use counts::Counts;
 pub use ending::{ConnectionEnd, FrameEnd, end_of, status_of};
 pub use incoming::{publish_frames, skip_frames};
+pub use outcome::{Outcome, Part};
 pub use points::point_to_post;
 pub use tally::Tally;

@@ -14,7 +14,7 @@ use crate::shared::Shared;
 use crate::socket::HangUp;
 use interleaved::{Sink, Source};
 use publisher::InStop;
-use relay_accounts::{ConnectionEnd, Counts, end_of, status_of};
+use relay_accounts::{ConnectionEnd, Counts, Outcome, Part, end_of, status_of};
 use rtsp_message::{Intake, Request, Status};
 use session_state::{Act, Method, Words, read_method};
 use std::alloc::Global;
@@ -35,6 +35,8 @@ pub(crate) struct Connection<R, M: Maker, V, G, W: Sink, H> {
     turns: u64,
     /// The session as the last answer left it.
     session: Option<Told>,
+    /// Its part in the mount of its last session.
+    part: Option<Part>,
     /// From an accepted ANNOUNCE to the mount's end.
     publishing: Option<Posting<R, M::In>>,
     /// The number of its mount, from the first RECORD on.
@@ -59,7 +61,7 @@ pub fn run_connection<R, M, V, G, S, W, H>(
     mut reader: S,
     line: Line<W>,
     wire: H,
-) -> (ConnectionEnd, Counts)
+) -> Outcome
 where
     R: Threads + Wait + Clock + Copy + Send + 'static,
     M: Maker + Drop,
@@ -74,7 +76,11 @@ where
         Ok(hand) => hand,
         Err(refused) => {
             turn_away(&rt, &shared, conn, &refused.value, &mut reader);
-            return (ConnectionEnd::OutOfMemory, Counts::new());
+            return Outcome {
+                end: ConnectionEnd::OutOfMemory,
+                counts: Counts::new(),
+                part: None,
+            };
         }
     };
     let mut connection = Connection {
@@ -85,6 +91,7 @@ where
         conn,
         turns: 0,
         session: None,
+        part: None,
         publishing: None,
         mount: None,
         frames: None,
@@ -93,7 +100,11 @@ where
         counts: Counts::new(),
     };
     let end = connection.run(reader);
-    (end, connection.counts)
+    Outcome {
+        end,
+        counts: connection.counts,
+        part: connection.part.take(),
+    }
 }
 
 /// Tells a connection that there is no memory for it, and hangs it up in the book.

@@ -31,7 +31,7 @@ pub use lines::Lines;
 pub use maker::{Maker, RingMaker, Seat};
 pub use options::Options;
 pub use refusal::Refusal;
-pub use relay_accounts::{ConnectionEnd, Counts};
+pub use relay_accounts::{ConnectionEnd, Counts, Outcome, Part};
 pub use server::{run_server, tell_end};
 pub use shared::{Shared, SharedBook, shared_book};
 pub use socket::{HangUp, Socket};

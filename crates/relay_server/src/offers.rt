@@ -69,11 +69,11 @@ impl<M: Maker> Offers<M> {
     /// of them is kept, for two seconds at most.
     pub(crate) fn take<R: Wait + Clock>(&self, rt: &R) -> Result<Option<Offer<M>>, Busy> {
         let most = Duration::from_millis(WAIT);
-        let (mut standing, _) =
-            self.changed
-                .wait_timeout_while(rt, self.standing.lock(rt), most, |standing| {
-                    standing.kept.is_none() && standing.count >= MOST
-                });
+        let (mut standing, _) = self
+            .changed
+            .wait_timeout_while(rt, self.standing.lock(rt), most, |standing| {
+                standing.kept.is_none() && standing.count >= MOST
+            });
         if let Some(kept) = standing.kept.take() {
             return Ok(Some(kept));
         }

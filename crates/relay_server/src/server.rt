@@ -14,7 +14,7 @@ use crate::socket::Socket;
 use interleaved::{Reading, Writing};
 use log::{Log, info, warn};
 use packet_ring::Pass;
-use relay_accounts::{ConnectionEnd, Counts};
+use relay_accounts::{ConnectionEnd, Outcome};
 use session_state::Words;
 use std::alloc::{AllocError, Global};
 use std::io::Eprint;
@@ -193,8 +193,8 @@ where
     server.shared.live.fetch_add(1, Ordering::SeqCst);
     let started = thread::spawn(&rt, move || {
         let line = Line::new(alloc, writer);
-        let (end, counts) = run_connection(rt, alloc, theirs, conn, reader, line, wire);
-        tell_end(&lines, peer, end, &counts);
+        let outcome = run_connection(rt, alloc, theirs, conn, reader, line, wire);
+        tell_end(&lines, peer, &outcome);
         leave(&same);
     });
     match started {
@@ -207,13 +207,18 @@ where
 }
 
 /// A warning where a connection ended by a fault, a failed read or write, or for want of memory or a thread, and a line
-/// where packets were lost or refused, or waited for players.
-pub fn tell_end<R: Log>(rt: &R, peer: SocketAddr, end: ConnectionEnd, counts: &Counts) {
-    if end != ConnectionEnd::Done {
+/// with its part in a mount where packets were lost or refused, or waited for players.
+pub fn tell_end<R: Log>(rt: &R, peer: SocketAddr, outcome: &Outcome) {
+    let Outcome { end, counts, part } = outcome;
+    if *end != ConnectionEnd::Done {
         warn!(rt; "{peer}: {end}");
     }
-    if counts.has_losses() || counts.slowed > 0 {
-        info!(rt; "{peer}: {counts}");
+    if !counts.has_losses() && counts.slowed == 0 {
+        return;
+    }
+    match part {
+        Some(part) => info!(rt; "{peer}: {part}: {counts}"),
+        None => info!(rt; "{peer}: {counts}"),
     }
 }
 

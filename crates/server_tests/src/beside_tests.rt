@@ -41,8 +41,8 @@ where
     let told = Arc::new(alloc, Mutex::new(Vec::new(alloc))).expect(&rt, "memory");
     let line = line_to(rt, alloc, &told, 1000);
     let other = ListSource::new(said, 7, None);
-    let (end, _) = run_connection(rt, alloc, shared, 2, other, line, Open);
-    assert!(rt; end == ConnectionEnd::Done);
+    let outcome = run_connection(rt, alloc, shared, 2, other, line, Open);
+    assert!(rt; outcome.end == ConnectionEnd::Done);
     assert!(rt; told.lock(&rt).as_slice() == text);
 }
 

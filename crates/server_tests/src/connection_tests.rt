@@ -52,12 +52,12 @@ where
         None
     };
     let source = ListSource::new(peer.said, 7, fail_at);
-    let (end, counts) = run_connection(rt, alloc, shared, 1, source, line, Open);
+    let outcome = run_connection(rt, alloc, shared, 1, source, line, Open);
     let written = Vec::from_slice(alloc, bytes.lock(&rt).as_slice()).expect(&rt, "memory");
     let book = book.lock(&rt);
     Served {
-        end,
-        counts,
+        end: outcome.end,
+        counts: outcome.counts,
         written,
         kept: book.kept(),
         is_open: book.is_open(1),

@@ -3,7 +3,7 @@ use crate::devices::{Bytes, Flag, Open, Rings, Staged, Written};
 use interleaved::{Reading, Sink, Writing};
 use packet_ring::Pass;
 use relay_server::{
-    ConnectionEnd, Counts, Line, OpenGate, Seat, Shared, SharedBook, run_connection,
+    ConnectionEnd, Counts, Line, OpenGate, Outcome, Seat, Shared, SharedBook, run_connection,
 };
 use session_lock::Book;
 use session_state::Words;
@@ -79,7 +79,7 @@ impl Watch {
 #[derive(Drop)]
 pub(crate) struct Serving {
     pub(crate) watch: Watch,
-    pub(crate) thread: JoinHandle<(ConnectionEnd, Counts)>,
+    pub(crate) thread: JoinHandle<Outcome>,
 }
 
 impl Serving {
@@ -88,8 +88,8 @@ impl Serving {
         let Serving { watch, thread } = self;
         let Watch { written, let_on } = watch;
         let_on.store(true, Ordering::SeqCst);
-        let (end, counts) = thread.join(rt);
-        (end, counts, written)
+        let outcome = thread.join(rt);
+        (outcome.end, outcome.counts, written)
     }
 }
 
@@ -101,7 +101,7 @@ pub(crate) fn serve_in_thread<R, V, W>(
     conn: u64,
     source: Staged<R>,
     line: Line<W>,
-) -> JoinHandle<(ConnectionEnd, Counts)>
+) -> JoinHandle<Outcome>
 where
     R: Threads + Wait + Clock + Abort + Copy + Drop + Send + 'static,
     V: Words + Drop + Send + 'static,

@@ -1,7 +1,8 @@
 //! Texts of ends, refusals and counts, and the lines that tell of them.
+use base_syntax::Bytes;
 use log::sink::Memory;
 use log::warn;
-use relay_server::{ConnectionEnd, Counts, Lines, Refusal, tell_end};
+use relay_server::{ConnectionEnd, Counts, Lines, Outcome, Part, Refusal, tell_end};
 use rtsp_message::Fault;
 use std::alloc::Global;
 use std::fmt::Display;
@@ -147,11 +148,40 @@ fn an_end_is_a_line_and_so_are_losses(rt: HostRuntime) {
     for (end, text) in ENDS {
         for (counts, line) in TOLD {
             let sink = Memory::new(rt.alloc());
-            tell_end(&sink, peer, end, &counts);
+            let outcome = Outcome {
+                end,
+                counts,
+                part: None,
+            };
+            tell_end(&sink, peer, &outcome);
             let lines = sink.into_lines();
             assert!(rt; are_told(lines.as_slice(), end, text, line), "{text}");
         }
     }
+}
+
+/// Whether a line of counts names a connection's part so.
+fn is_named(rt: &impl Abort, alloc: Global, publishes: bool, named: &str) -> bool {
+    let sink = Memory::new(alloc);
+    let name = Bytes::from_slice(alloc, b"cam/1\x80").expect(rt, "memory");
+    let outcome = Outcome {
+        end: ConnectionEnd::Done,
+        counts: SLOWED,
+        part: Some(Part { name, publishes }),
+    };
+    tell_end(&sink, SocketAddr::from(([10, 0, 0, 1], 554)), &outcome);
+    let lines = sink.into_lines();
+    let rest = lines.as_slice().first().and_then(|line| line.strip_prefix(
+        "[INFO  relay_server::server] 10.0.0.1:554: ",
+    ));
+    rest.is_some_and(|rest| rest.starts_with(named))
+}
+
+#[test]
+fn a_line_of_counts_names_the_mount_and_the_part(rt: HostRuntime) {
+    let alloc = rt.alloc();
+    assert!(rt; is_named(&rt, alloc, true, r"publisher of cam/1\x80: published 9, "));
+    assert!(rt; is_named(&rt, alloc, false, r"player of cam/1\x80: published 9, "));
 }
 
 /// More lines than may wait are told, and nobody writes them.

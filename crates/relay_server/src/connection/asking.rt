@@ -8,16 +8,26 @@ use crate::notice::Notice;
 use crate::offers::{Busy, Offer};
 use crate::posting::Posting;
 use crate::socket::HangUp;
-use base_syntax::Items;
+use base_syntax::{Bytes, Items};
 use interleaved::Sink;
+use relay_accounts::Part;
 use rtsp_message::Request;
 use session_lock::{Answer, AskFault};
-use session_state::{Act, Given, Method, Words, read_method};
+use session_state::{Given, Method, Session, Words, read_method};
 use std::alloc::{AllocError, Global};
 use std::sync::{Arc, Wait};
 use std::thread::Threads;
 use std::time::Clock;
 use transport_header::Point;
+
+/// The part that a session has in its mount.
+fn part_of(alloc: Global, session: &Session) -> Option<Part> {
+    let name = Bytes::from_slice(alloc, session.name.as_slice()).ok()?;
+    Some(Part {
+        name,
+        publishes: session.recording,
+    })
+}
 
 /// The book has no answer, or there was no memory or no offer to ask it with.
 #[derive(Debug, Drop)]
@@ -160,7 +170,11 @@ where
         let given = Given { word, points };
         let mut book = self.shared.book.lock(&self.rt);
         let asked = book.ask(self.conn, request, &given, offer);
-        self.session = book.session_of(self.conn).map(Told::of);
+        let session = book.session_of(self.conn);
+        if let (None, Some(session)) = (&self.session, session) {
+            self.part = part_of(self.alloc, session);
+        }
+        self.session = session.map(Told::of);
         drop(book);
         match asked {
             Ok(answer) => Ok(answer),

@@ -1,0 +1,34 @@
+//! What became of a connection, as lines tell it.
+use crate::counts::Counts;
+use crate::ending::ConnectionEnd;
+use base_syntax::Bytes;
+use std::fmt;
+
+/// Which part a connection has in a mount.
+#[derive(Drop)]
+pub struct Part {
+    /// The mount's name.
+    pub name: Bytes,
+    /// Whether it publishes the mount; else it plays it.
+    pub publishes: bool,
+}
+
+impl fmt::Display for Part {
+    fn fmt<W: fmt::Write>(&self, f: &mut fmt::Formatter<W>) -> fmt::Result {
+        let role = if self.publishes {
+            "publisher"
+        } else {
+            "player"
+        };
+        write!(f, "{role} of {}", self.name.as_slice().escape_ascii())
+    }
+}
+
+/// How a connection ended, and what became of its packets.
+#[derive(Drop)]
+pub struct Outcome {
+    pub end: ConnectionEnd,
+    pub counts: Counts,
+    /// Its part in the mount of its last session. `None` where it had none, or there was no memory for the name.
+    pub part: Option<Part>,
+}
