@@ -1,6 +1,6 @@
 -- The mounts by their places.
-use Rattle.std.proofs.Common.{◌≡◌, ◌≢◌, ℕ, zero, suc, ◌<◌, ◌==◌, Bool, true, false, ◌||◌, cond, None, Some, List, [], ◌∷◌, ◌++◌, subst, Vec, Global, length, map, refl, sym, ap, ◌∙◌, arith, get_or, slice_get, slice_set, position, remove}
-use Rattle.std.specs.List.{AllByRecursion, list_any}
+use Rattle.std.proofs.Common.{◌≡◌, ◌≢◌, ℕ, zero, suc, ◌<◌, ◌==◌, Bool, true, false, ◌||◌, cond, None, Some, List, [], ◌∷◌, ◌++◌, subst, Vec, Global, length, map, refl, sym, ap, ◌∙◌, arith, get_or, slice_get, slice_set, position, remove, vec_len}
+use Rattle.std.specs.List.{AllByRecursion, AllZip, each_same, list_any}
 use Rattle.std.specs.Str.{bytes_eq}
 use Rattle.std.specs.Cmp.Lexicographic.{bytes_decides}
 use Rattle.std.proofs.lemmas.Bool.{eqb-true}
@@ -107,3 +107,10 @@ names_more keys more key mounts mount same e is free =
     not_there : (ks : List (Vec ℕ Global)) → AllByRecursion (λ n. n ≢ key.items) (map (λ k. k.items) ks) → list_any (λ k. bytes_eq key.items k.items) ks ≡ false
     not_there [] h = refl
     not_there (k ∷ ks) h = ap (λ b. b || list_any (λ k. bytes_eq key.items k.items) ks) (unequal_bytes key.items k.items (λ e. h.0 (sym e))) ∙ not_there ks h.1
+
+-- the names of a copy
+pub names_copied : (names copied : List (Vec ℕ Global)) → AllZip (λ v w. AllZip (λ x y. y ≡ x) v.items w.items × (vec_len w ≡ vec_len v)) names copied → map (λ key. key.items) copied ≡ map (λ key. key.items) names
+names_copied [] [] all = refl
+names_copied [] (copy ∷ copied) all = absurd all
+names_copied (name ∷ names) [] all = absurd all
+names_copied (name ∷ names) (copy ∷ copied) all = ap (λ items. items ∷ map (λ key. key.items) copied) (each_same name.items copy.items all.0.0) ∙ ap (λ others. name.items ∷ others) (names_copied names copied all.1)

@@ -2,7 +2,7 @@
 ghost use Rattle.std.specs.Prelude.{◌≡◌, ◌≤◌, ◌↔◌, ℕ, Bool, true, false, None, Some, IfOk, IfSome, IfNone, OnOk, OnErr, IsTrue, MatchBool, if◌then◌else◌, ◌==◌, ◌<◌, length, take, slice_index};
 ghost use Rattle.std.specs.Option.{option_copied};
 
-use crate::mount::Mount;
+use crate::mount::{Mount, copy_mounts};
 use crate::names::MAX_NAME;
 use crate::seats::Seats;
 use base_syntax::Bytes;
@@ -58,6 +58,26 @@ impl Mounts {
             next: 1,
             seats,
         }
+    }
+
+    /// A copy, or want of memory: of at most `MAX_MOUNTS` mounts with their names and seats. Their descriptions are shared.
+    pub fn copy(&self) -> Result<Mounts, AllocError>
+        ensures { IfOk result (λ copied. copied ≡ self.now) }
+    {
+        Ok(Mounts {
+            alloc: self.alloc,
+            names: self.names.clone()?,
+            mounts: copy_mounts(self.alloc, self.mounts.as_slice())?,
+            next: self.next,
+            seats: self.seats,
+        })
+    }
+
+    /// The number that the next mount gets. It is above those of all mounts so far.
+    pub fn next_number(&self) -> u64
+        ensures { result ≡ self.now.next }
+    {
+        self.next
     }
 
     /// The live mounts, in the order in which they were announced: at most `MAX_MOUNTS`.

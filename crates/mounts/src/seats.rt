@@ -38,6 +38,16 @@ impl Seats {
         Ok(Seats { out, free })
     }
 
+    /// A copy, or want of memory. As here, there is room in it for each seat to be free.
+    pub(crate) fn copy(&self, alloc: Global) -> Result<Seats, AllocError>
+        ensures { IfOk result (λ copied. copied ≡ self.now) }
+    {
+        let out = Vec::from_slice(alloc, self.out.as_slice())?;
+        let mut free = Vec::with_capacity(alloc, self.out.len())?;
+        free.extend_from_slice(self.free.as_slice())?;
+        Ok(Seats { out, free })
+    }
+
     /// How many seats there are: at most `MAX_SEATS`.
     pub fn len(&self) -> usize
         ensures count { result ≡ length self.now }

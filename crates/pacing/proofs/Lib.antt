@@ -1,1 +1,2 @@
+mod Bounding
 mod GivingUp

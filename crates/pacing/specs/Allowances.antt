@@ -1,5 +1,5 @@
 -- For how long a publisher may wait, in microseconds. Time is cut into windows of 50 milliseconds, counted from 5.
-use Rattle.std.specs.Prelude.{ℕ, List, [], ◌∷◌, ◌+◌, ◌-◌, ◌/◌, ◌^◌, max, min, nat_le, slice_index, if◌then◌else◌}
+use Rattle.std.specs.Prelude.{ℕ, List, [], ◌∷◌, ◌≤◌, ◌+◌, ◌-◌, ◌/◌, ◌^◌, max, min, nat_le, slice_index, if◌then◌else◌}
 use Rattle.pacing.specs.declared.allowance.Allowance.{Allowance}
 
 -- the window of a moment
@@ -26,3 +26,7 @@ left_at allowance now = 20000 - waited_up_to allowance (counted_in allowance now
 -- what is known of the windows once a wait of such a length counted in this one, the last window first
 abbrev pub spent : Allowance → (window length : ℕ) → List ℕ
 spent allowance window length = min (waited_in allowance window + length) (2 ^ 64 - 1) ∷ waited_in allowance (window - 1) ∷ waited_in allowance (window - 2) ∷ waited_in allowance (window - 3) ∷ waited_in allowance (window - 4) ∷ []
+
+-- in the last window that is known and the four before no more was waited than 20 milliseconds
+abbrev pub IsWithin : Allowance → Type 0
+IsWithin allowance = waited_up_to allowance allowance.window ≤ 20000

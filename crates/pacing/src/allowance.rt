@@ -1,6 +1,6 @@
 //! For how long a publisher may wait.
-ghost use Rattle.std.specs.Prelude.{◌≡◌, ◌∷◌, [], ◌-◌};
-ghost use Rattle.pacing.specs.Allowances.{counted_in, left_at, spent, waited_in};
+ghost use Rattle.std.specs.Prelude.{◌≡◌, ◌≤◌, ◌∷◌, [], ◌-◌};
+ghost use Rattle.pacing.specs.Allowances.{IsWithin, counted_in, left_at, spent, waited_in};
 
 /// How long may be waited in five windows that follow one another, in microseconds.
 const MOST: u64 = 20_000;
@@ -21,7 +21,8 @@ pub struct Allowance {
 impl Allowance {
     /// Nothing was waited.
     pub fn new() -> Allowance
-        ensures { result ≡ record { window = 0; waited = 0 ∷ 0 ∷ 0 ∷ 0 ∷ 0 ∷ [] } }
+        ensures new { result ≡ record { window = 0; waited = 0 ∷ 0 ∷ 0 ∷ 0 ∷ 0 ∷ [] } }
+        ensures within { IsWithin result }
     {
         Allowance {
             window: 0,
@@ -44,9 +45,11 @@ impl Allowance {
     }
 
     /// A wait began and ended at these moments. What was waited in the four windows before the one that it counts in stays, and
-    /// nothing is known of earlier ones.
+    /// nothing is known of earlier ones. Where no wait lasts longer than was left when it began, no five windows in a row, and so
+    /// no 200 milliseconds, have more than 20 milliseconds of waits.
     pub fn spend(&mut self, began: u64, ended: u64)
-        ensures { self.new ≡ record { window = counted_in self.old ended; waited = spent self.old (counted_in self.old ended) (ended - began) } }
+        ensures within { IsWithin self.old → began ≤ ended → ended - began ≤ left_at self.old began → IsWithin self.new }
+        ensures new { self.new ≡ record { window = counted_in self.old ended; waited = spent self.old (counted_in self.old ended) (ended - began) } }
     {
         let window = self.window.max(ended / WINDOW + 5);
         let waited = self

@@ -27,6 +27,10 @@ seats_of z = z.limits.0
 abbrev pub packet_bytes_of : RingId → ℕ
 packet_bytes_of z = z.limits.1 - 1
 
+-- how many bytes a ring's block has: each unit is a word and its cells, of eight bytes each
+abbrev pub block_bytes : RingId → ℕ
+block_bytes z = z.units * (8 * (z.width + 1))
+
 -- no two of a ring's words, the head's and the slots', share a cache line of 64 bytes, at whatever address its memory
 -- begins
 abbrev pub HasOwnLines : RingId → Type 0

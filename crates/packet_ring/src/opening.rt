@@ -2,7 +2,7 @@
 ghost use Rattle.std.specs.Prelude.{◌≡◌, ◌+◌, ◌*◌, ◌%◌, ◌^◌, ◌<◌, ◌≤◌, [], length, replicate, IfOk};
 ghost use Rattle.std.specs.Arc.{arc_value};
 ghost use Rattle.packet_ring.specs.Rule.{seat_views};
-ghost use Rattle.packet_ring.specs.Views.{HasOwnLines, keep_of, new_pass, packet_bytes_of, seats_of};
+ghost use Rattle.packet_ring.specs.Views.{HasOwnLines, block_bytes, keep_of, new_pass, packet_bytes_of, seats_of};
 
 use crate::allocated::Block;
 use crate::block::Spares;
@@ -11,7 +11,7 @@ use crate::publishers::Publisher;
 use std::alloc::{AllocError, Global};
 use std::sync::Arc;
 
-#[tactic(auto, using(crate::proofs::Lines::own_lines))]
+#[tactic(auto, using(crate::proofs::Lines::own_lines, crate::proofs::Lines::few_bytes))]
 /// A ring that keeps `keep` packets of at most `packet_bytes` bytes each, with its publisher and a pass
 /// for each of its seats. No two of the words that its threads share lie in one cache line of 64 bytes.
 /// No other call of this crate takes memory.
@@ -26,6 +26,7 @@ pub fn new(
     requires packet_bytes { (1 ≤ packet_bytes) × (packet_bytes ≤ 65535) }
     ensures sizes { IfOk result (λ r. (keep_of r.0.ring ≡ keep) × (seats_of r.0.ring ≡ seats) × (packet_bytes_of r.0.ring ≡ packet_bytes)) }
     ensures lines { IfOk result (λ r. HasOwnLines r.0.ring) }
+    ensures room { IfOk result (λ r. block_bytes r.0.ring ≤ (keep + 2) * (packet_bytes + 80)) }
     ensures publisher { IfOk result (λ r. (r.0.log ≡ []) × (r.0.failed ≡ 0) × (r.0.pins ≡ 0)) }
     ensures passes { IfOk result (λ r. r.1.items ≡ replicate seats (new_pass r.0.ring)) }
 {
@@ -48,6 +49,7 @@ fn width_for(packet_bytes: usize) -> usize
     ensures fits { packet_bytes + 9 ≤ 8 * result }
     ensures narrow { result ≤ 16384 }
     ensures lines { 8 * (result + 1) % 64 ≡ 0 }
+    ensures room { 8 * (result + 1) ≤ packet_bytes + 80 }
 {
     (packet_bytes / 8 + 10) / 8 * 8 - 1
 }

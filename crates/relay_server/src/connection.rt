@@ -4,17 +4,12 @@ mod carrying_out;
 mod incoming;
 mod told;
 
-use crate::closing::close_behind_text;
-use crate::frames::{Frames, Hand};
 use crate::gate::Gate;
-use crate::line::Line;
-use crate::maker::Maker;
-use crate::posting::Posting;
 use crate::shared::Shared;
-use crate::socket::HangUp;
 use interleaved::{Sink, Source};
 use publisher::InStop;
 use relay_accounts::{ConnectionEnd, Counts, Outcome, Part, end_of, status_of};
+use relay_fanout::{Frames, Hand, HangUp, Line, Maker, Posting, close_behind_text};
 use rtsp_message::{Intake, Request, Status};
 use session_state::{Act, Method, Words, read_method};
 use std::alloc::Global;

@@ -1,8 +1,8 @@
 //! The threads of a server that no connection has.
-use crate::bell::wake_players;
 use crate::gate::Gate;
 use crate::server::Server;
 use log::Log;
+use relay_fanout::wake_players;
 use session_state::Words;
 use std::alloc::AllocError;
 use std::io::Eprint;

@@ -1,9 +1,9 @@
 //! Peers that can't be served, and what is told of them.
 use crate::refusal::Refusal;
-use crate::socket::{HangUp, Socket};
 use interleaved::{Reading, Source, Writing, write_all};
 use log::{Log, warn};
 use relay_accounts::Tally;
+use relay_fanout::{HangUp, Socket};
 use rtsp_message::{Status, put_plain};
 use std::alloc::{AllocError, Global};
 use std::collections::VecDeque;

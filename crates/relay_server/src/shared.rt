@@ -1,10 +1,7 @@
 //! What all threads of a server share.
 ghost use Rattle.std.specs.Prelude.{◌≤◌};
 
-use crate::bell::Bell;
-use crate::board::Board;
-use crate::maker::{Maker, Seat};
-use crate::offers::Offers;
+use relay_fanout::{Bell, Board, Maker, Offers, Seat};
 use session_lock::Book;
 use std::alloc::{AllocError, Global};
 use std::collections::hash_map::RandomState;
@@ -15,6 +12,10 @@ use std::time::Duration;
 /// A book that threads share. Each call of it is made whole under its lock, and no other lock is taken meanwhile.
 pub type SharedBook<P> = Arc<Mutex<Book<P>>, Global>;
 
+/// How many entries of its history a server keeps before they are cut off: under 24 MB of the largest requests that are taken,
+/// which come to some 500 KB each with all of their fields and the reply.
+const KEPT: usize = 40;
+
 /// A book for threads to share, in which nothing has happened. Each mount that is announced has so many seats.
 pub fn shared_book<P: Drop>(
     alloc: Global,
@@ -23,7 +24,7 @@ pub fn shared_book<P: Drop>(
 ) -> Result<SharedBook<P>, AllocError>
     requires { seats ≤ 1024 }
 {
-    let book = Book::new(alloc, seats, hasher);
+    let book = Book::with_cut(alloc, seats, hasher, KEPT);
     match Arc::new(alloc, Mutex::new(book)) {
         Ok(shared) => Ok(shared),
         Err(_) => Err(AllocError),

@@ -39,5 +39,5 @@ pub fn read(alloc: Global, bytes: &[u8]) -> Result<Description, SdpFault>
     if sections.tracks.as_slice().is_empty() {
         return Err(SdpFault::NoMedia);
     }
-    Ok(Description::new(sections))
+    Ok(Description::new(alloc, sections)?)
 }

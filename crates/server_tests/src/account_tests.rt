@@ -1,16 +1,17 @@
 //! What becomes of the packets of a player that is too slow, and of its mount.
 use crate::connection_tests::{ANNOUNCE, SETUP};
-use crate::devices::{Bytes, Flag, Held, Rings, Staged, has_come, joined};
-use crate::scripted::FRAME;
+use crate::devices::{Count, Flag, Held, Staged, count, flag, has_come, joined};
+use crate::packets::FRAME;
+use crate::rings::Rings;
 use crate::serving::{
-    Serving, SharedRings, Watch, book_of, serve_camera, serve_in_thread, shared_over,
+    Serving, SharedRings, Watch, book_of, serve_in_thread, serve_source, shared_over,
 };
 use crate::words::CountedWords;
 use interleaved::Writing;
 use relay_server::{ConnectionEnd, Line};
 use std::alloc::{AllocError, Global};
 use std::process::Abort;
-use std::sync::atomic::{AtomicBool, Ordering};
+use std::sync::atomic::Ordering;
 use std::sync::{Arc, Wait};
 use std::thread::Threads;
 use std::time::Clock;
@@ -27,22 +28,28 @@ const PLAY: &[u8] = b"PLAY rtsp://h/a RTSP/1.0\nCSeq: 3\nSession: 00000002000000
 /// The reply to RECORD.
 const RECORDING: &[u8] = b"RTSP/1.0 200 OK\r\nCSeq: 3\r\nSession: 0000000100000002\r\n\r\n";
 
+/// What a publisher asks behind its packets, and the end of the reply.
+const OPTIONS: &[u8] = b"OPTIONS * RTSP/1.0\nCSeq: 4\n\n";
+
+pub(crate) const PUBLIC_END: &[u8] = b", GET_PARAMETER\r\n\r\n";
+
 /// The last packet.
-const LAST: &[u8] = b"\x24\x00\x00\x0c\x80\x60\x00\x08\x00\x00\x23\x28\x00\x00\x00\x00";
+pub(crate) const LAST: &[u8] = b"\x24\x00\x00\x0c\x80\x60\x00\x08\x00\x00\x23\x28\x00\x00\x00\x00";
 
 /// How many packets are published: more than are taken at once and a ring of four keeps.
-const PACKETS: u64 = 40;
+pub(crate) const PACKETS: u64 = 40;
 
 /// More bytes than the reply to a player's SETUP has, and fewer than this and the reply to its PLAY.
 pub(crate) const SET_UP: usize = 150;
 
-/// The frames of a publisher.
+/// The frames of a publisher, and its question behind them.
 fn packets(alloc: Global) -> Result<Vec<u8>, AllocError> {
     let mut all = Vec::new(alloc);
     for _ in 1..PACKETS {
         all.extend_from_slice(FRAME)?;
     }
     all.extend_from_slice(LAST)?;
+    all.extend_from_slice(OPTIONS)?;
     Ok(all)
 }
 
@@ -53,52 +60,90 @@ fn player<R: Abort + Drop>(rt: R, alloc: Global, let_on: &Flag) -> Staged<R> {
     Staged::new(rt, said, Vec::new(alloc), let_on)
 }
 
+/// When a player reads on, and how many writes were made to it.
+#[derive(Drop)]
+pub(crate) struct Stall {
+    pub(crate) read: Flag,
+    pub(crate) writes: Count,
+}
+
+impl Stall {
+    /// It doesn't read yet.
+    pub(crate) fn new(rt: &impl Abort, alloc: Global) -> Stall {
+        Stall {
+            read: flag(rt, alloc),
+            writes: count(rt, alloc),
+        }
+    }
+
+    pub(crate) fn end(&self) {
+        self.read.store(true, Ordering::SeqCst);
+    }
+}
+
 /// A line of a player that reads nothing behind the reply to its PLAY until it is let on.
 fn stalled_line<R: Wait + Clock + Abort + Drop>(
     rt: R,
     alloc: Global,
-    bytes: &Bytes,
-    let_on: &Flag,
+    watch: &Watch,
+    stall: &Stall,
 ) -> Line<Writing<Held<R>>> {
-    let bytes = Arc::try_clone(bytes).expect(&rt, "a count of its users");
-    let let_on = Arc::try_clone(let_on).expect(&rt, "a count of its users");
+    let bytes = Arc::try_clone(&watch.written).expect(&rt, "a count of its users");
+    let let_on = Arc::try_clone(&stall.read).expect(&rt, "a count of its users");
+    let writes = Arc::try_clone(&stall.writes).expect(&rt, "a count of its users");
     let sink = Held {
         rt,
         bytes,
         free: SET_UP,
         let_on,
+        writes,
     };
     Line::new(alloc, Writing::new(sink))
 }
 
-/// Connection 1, which records. Once it is let on it sends its packets, and then closes.
-fn recording<R>(rt: R, alloc: Global, shared: &SharedRings<CountedWords>) -> Serving
+/// Connection 1, which records. Once it is let on it sends its packets, and then closes; where `stay` is given, once that is
+/// set.
+pub(crate) fn recording<R>(
+    rt: R,
+    alloc: Global,
+    shared: &SharedRings<CountedWords>,
+    stay: Option<&Flag>,
+) -> Serving
 where
     R: Threads + Wait + Clock + Abort + Copy + Drop + Send + 'static,
 {
     let first = joined(&rt, alloc, &[ANNOUNCE, SETUP, RECORD]);
     let then = packets(alloc).expect(&rt, "memory");
-    let camera = serve_camera(rt, alloc, shared, first, then);
+    let watch = Watch::new(&rt, alloc);
+    let let_on = Arc::try_clone(&watch.let_on).expect(&rt, "a count of its users");
+    let stay = Arc::try_clone(stay.unwrap_or(&let_on)).expect(&rt, "a count of its users");
+    let source = Staged::new(rt, first, then, let_on).until(stay);
+    let camera = serve_source(rt, alloc, shared, watch, source);
     assert!(rt; has_come(&rt, &camera.watch.written, 0, RECORDING));
     assert!(rt; shared.recorded(&rt) == 1);
     camera
 }
 
-/// Connection 2, which plays, and reads nothing more until `read` is set. Once it is let on it closes.
-fn playing<R>(rt: R, alloc: Global, shared: &SharedRings<CountedWords>, read: &Flag) -> Serving
+/// Connection 2, which plays, and reads nothing more until its stall ends. Once it is let on it closes.
+pub(crate) fn playing<R>(
+    rt: R,
+    alloc: Global,
+    shared: &SharedRings<CountedWords>,
+    stall: &Stall,
+) -> Serving
 where
     R: Threads + Wait + Clock + Abort + Copy + Drop + Send + 'static,
 {
     let watch = Watch::new(&rt, alloc);
     let source = player(rt, alloc, &watch.let_on);
-    let line = stalled_line(rt, alloc, &watch.written, read);
+    let line = stalled_line(rt, alloc, &watch, stall);
     let thread = serve_in_thread(rt, alloc, shared, 2, source, line);
     assert!(rt; has_come(&rt, &watch.written, SET_UP, b"\r\n\r\n"));
     Serving { watch, thread }
 }
 
 /// How many packets a publisher has published up to its end, behind which its mount isn't recorded.
-fn published<R: Threads + Wait + Abort>(
+pub(crate) fn published<R: Threads + Wait + Abort>(
     rt: &R,
     shared: &SharedRings<CountedWords>,
     camera: Serving,
@@ -109,13 +154,17 @@ fn published<R: Threads + Wait + Abort>(
     came.published
 }
 
-/// What a player has taken was written behind so many bytes of replies, and the rest of what was published is lost.
-fn adds_up<R: Threads + Wait + Abort>(rt: &R, player: Serving, replies: usize, published: u64) {
+/// How many packets a player has taken or lost up to its end. What it has taken was written behind so many bytes of replies.
+pub(crate) fn accounted<R: Threads + Wait + Abort>(
+    rt: &R,
+    player: Serving,
+    replies: usize,
+) -> Option<u64> {
     let (end, counts, written) = player.end(rt);
     assert!(rt; end == ConnectionEnd::Done && counts.lost > 0);
-    assert!(rt; counts.taken.checked_add(counts.lost) == Some(published));
     let frames = written.lock(rt).len().saturating_sub(replies) / LAST.len();
     assert!(rt; frames as u64 == counts.taken);
+    counts.taken.checked_add(counts.lost)
 }
 
 /// Connection 1 publishes while connection 2 reads nothing; then 2 reads to the end of the mount, and closes. Each
@@ -131,12 +180,12 @@ fn a_slow_players_account_adds_up(rt: HostRuntime) {
         Rings::of(&rt, alloc, 1),
         CountedWords(1),
     );
-    let camera = recording(rt, alloc, &shared);
-    let read = Arc::new(alloc, AtomicBool::new(false)).expect(&rt, "memory");
-    let player = playing(rt, alloc, &shared, &read);
+    let camera = recording(rt, alloc, &shared, None);
+    let stall = Stall::new(&rt, alloc);
+    let player = playing(rt, alloc, &shared, &stall);
     let replies = player.watch.written.lock(&rt).len();
     let published = published(&rt, &shared, camera);
-    read.store(true, Ordering::SeqCst);
+    stall.end();
     assert!(rt; has_come(&rt, &player.watch.written, replies, LAST));
-    adds_up(&rt, player, replies, published);
+    assert!(rt; accounted(&rt, player, replies) == Some(published));
 }

@@ -1,9 +1,10 @@
 //! A connection that records while another one is refused a ring, or its mount.
 use crate::connection_tests::{
-    ANNOUNCE, ANNOUNCED, IN_SESSION, NO_RING, PAUSE, RECORD, SET_UP, SETUP,
+    ANNOUNCE, ANNOUNCED, IN_SESSION, NO_RING, OTHER, PAUSE, RECORD, SET_UP, SETUP,
 };
-use crate::devices::{Open, Rings, has_come, joined};
-use crate::scripted::FRAME;
+use crate::devices::{Open, has_come, joined};
+use crate::packets::FRAME;
+use crate::rings::Rings;
 use crate::serving::{Serving, SharedRings, book_of, line_to, serve_camera, shared_over};
 use crate::words::OneWord;
 use interleaved::ListSource;
@@ -14,10 +15,6 @@ use std::sync::atomic::Ordering;
 use std::sync::{Arc, Mutex, Wait};
 use std::thread::Threads;
 use std::time::Clock;
-
-/// The second connection's ANNOUNCE, of another mount.
-const OTHER: &[u8] =
-    b"ANNOUNCE rtsp://h/b RTSP/1.0\nCSeq: 1\nContent-Length: 26\n\nv=0\nm=audio 0 RTP/AVP 0  \n";
 
 const PAUSED: &[u8] = b"RTSP/1.0 200 OK\r\nCSeq: 4\r\nSession: 000000010000abcd\r\n\r\n";
 

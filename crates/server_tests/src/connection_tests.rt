@@ -1,5 +1,6 @@
 //! A connection over devices in memory.
-use crate::devices::{Open, Rings, joined};
+use crate::devices::{Open, joined};
+use crate::rings::Rings;
 use crate::serving::{book_of, line_to, shared_over};
 use crate::words::OneWord;
 use interleaved::ListSource;
@@ -99,6 +100,10 @@ fn each_frame_of_a_connection_is_counted(rt: HostRuntime) {
 pub(crate) const ANNOUNCE: &[u8] =
     b"ANNOUNCE rtsp://h/a RTSP/1.0\nCSeq: 1\nContent-Length: 26\n\nv=0\nm=audio 0 RTP/AVP 0  \n";
 
+/// An ANNOUNCE of another mount.
+pub(crate) const OTHER: &[u8] =
+    b"ANNOUNCE rtsp://h/b RTSP/1.0\nCSeq: 1\nContent-Length: 26\n\nv=0\nm=audio 0 RTP/AVP 0  \n";
+
 pub(crate) const ANNOUNCED: &[u8] = b"RTSP/1.0 200 OK\r\nCSeq: 1\r\n\r\n";
 
 pub(crate) const NO_RING: &[u8] = b"RTSP/1.0 503 Service Unavailable\r\nCSeq: 1\r\n\r\n";
@@ -135,7 +140,7 @@ struct Row {
     strangers: u64,
 }
 
-const ROWS: [Row; 10] = [
+const ROWS: [Row; 11] = [
     // Frames before any SETUP, and the end in the middle of one.
     Row {
         said: &[FRAME, FRAME, FRAME, b"$\x00\x00\x0c\x80\x60"],
@@ -192,6 +197,16 @@ const ROWS: [Row; 10] = [
         answered: &[NO_RING, ANNOUNCED, SET_UP],
         write_fails: false,
         refused: Some(0),
+        end: ConnectionEnd::Done,
+        strangers: 0,
+    },
+    // Behind a 503 the session is known as before: it records, and a frame on its channel is no stranger.
+    Row {
+        said: &[ANNOUNCE, SETUP, RECORD, OTHER, b"$\x01\x00\x00"],
+        read_fails: false,
+        answered: &[ANNOUNCED, SET_UP, IN_SESSION, NO_RING],
+        write_fails: false,
+        refused: Some(1),
         end: ConnectionEnd::Done,
         strangers: 0,
     },

@@ -1,8 +1,6 @@
 //! Devices in memory, for tests.
-use cursor::Left;
-use packet_ring::{Pass, Publisher, Subscriber};
-use relay_server::{HangUp, Maker, RingMaker};
-use std::alloc::{AllocError, Global};
+use relay_server::HangUp;
+use std::alloc::Global;
 use std::io::{Read, Write};
 use std::process::Abort;
 use std::sync::atomic::{AtomicBool, AtomicU64, Ordering};
@@ -18,6 +16,16 @@ pub(crate) type Flag = Arc<AtomicBool, Global>;
 
 /// A number that is counted up.
 pub(crate) type Count = Arc<AtomicU64, Global>;
+
+/// A word that isn't set.
+pub(crate) fn flag(rt: &impl Abort, alloc: Global) -> Flag {
+    Arc::new(alloc, AtomicBool::new(false)).expect(rt, "memory")
+}
+
+/// A number that is 0.
+pub(crate) fn count(rt: &impl Abort, alloc: Global) -> Count {
+    Arc::new(alloc, AtomicU64::new(0)).expect(rt, "memory")
+}
 
 /// A connection that needs no hanging up.
 #[derive(Clone, Copy, Drop)]
@@ -52,14 +60,15 @@ impl<R: Wait> Write for Written<R> {
     }
 }
 
-/// Keeps what is written for whoever shares it. Behind so many bytes it takes nothing until it is let on, for which it
-/// waits at most 10,000 turns of a millisecond.
+/// Keeps what is written for whoever shares it, and counts the writes. Behind so many bytes it takes nothing until it is let
+/// on, for which it waits at most 10,000 turns of a millisecond.
 #[derive(Drop)]
 pub(crate) struct Held<R> {
     pub(crate) rt: R,
     pub(crate) bytes: Bytes,
     pub(crate) free: usize,
     pub(crate) let_on: Flag,
+    pub(crate) writes: Count,
 }
 
 impl<R: Wait + Clock> Write for Held<R> {
@@ -67,6 +76,7 @@ impl<R: Wait + Clock> Write for Held<R> {
         if self.bytes.lock(&self.rt).len() >= self.free {
             wait_for(&self.rt, &self.let_on);
         }
+        self.writes.fetch_add(1, Ordering::SeqCst);
         self.bytes.lock(&self.rt).extend_from_slice(buf)?;
         Ok(buf.len())
     }
@@ -86,63 +96,6 @@ pub(crate) fn wait_for<R: Clock>(rt: &R, word: &AtomicBool) {
     }
 }
 
-/// Makes rings, of which one is refused memory.
-#[derive(Drop)]
-pub(crate) struct Rings {
-    maker: RingMaker,
-    /// How many were made or refused.
-    pub(crate) made: Count,
-    /// Which one is refused, counted from 0.
-    refused: Option<u64>,
-}
-
-impl Rings {
-    /// Rings of so many seats that keep four packets of at most 16 bytes, none of which is refused.
-    pub(crate) fn of(rt: &impl Abort, alloc: Global, seats: usize) -> Rings {
-        Rings {
-            maker: RingMaker::new(4, seats.min(1024), 16),
-            made: Arc::new(alloc, AtomicU64::new(0)).expect(rt, "memory"),
-            refused: None,
-        }
-    }
-
-    /// Rings of one seat, of which this one is refused.
-    pub(crate) fn refusing(rt: &impl Abort, alloc: Global, refused: Option<u64>) -> Rings {
-        Rings {
-            refused,
-            ..Rings::of(rt, alloc, 1)
-        }
-    }
-}
-
-impl Maker for Rings {
-    type In = Publisher;
-
-    type Pass = Pass;
-
-    type Out = Subscriber;
-
-    fn make(&self, alloc: Global) -> Result<(Publisher, Vec<Pass>), AllocError> {
-        let place = self.made.fetch_add(1, Ordering::SeqCst);
-        if self.refused == Some(place) {
-            return Err(AllocError);
-        }
-        self.maker.make(alloc)
-    }
-
-    fn attach(&self, pass: Pass) -> Subscriber {
-        self.maker.attach(pass)
-    }
-
-    fn detach(&self, out: Subscriber) -> (Pass, Left) {
-        self.maker.detach(out)
-    }
-
-    fn keep(&self) -> u64 {
-        self.maker.keep()
-    }
-}
-
 /// Gives the one part, and the other once it is let on, for which it waits at most 10,000 turns of a millisecond.
 #[derive(Drop)]
 pub(crate) struct Staged<R> {
@@ -150,6 +103,8 @@ pub(crate) struct Staged<R> {
     first: Vec<u8>,
     then: Vec<u8>,
     let_on: Flag,
+    /// The end comes once this is set, too.
+    close: Option<Flag>,
     /// How many bytes were given.
     given: usize,
 }
@@ -162,7 +117,16 @@ impl<R> Staged<R> {
             first,
             then,
             let_on,
+            close: None,
             given: 0,
+        }
+    }
+
+    /// The end waits, too, for at most 10,000 turns of a millisecond.
+    pub(crate) fn until(self, close: Flag) -> Staged<R> {
+        Staged {
+            close: Some(close),
+            ..self
         }
     }
 
@@ -181,6 +145,11 @@ impl<R: Clock> Read for Staged<R> {
     fn read(&mut self, buf: &mut [u8]) -> io::Result<usize> {
         if self.given >= self.first.len() {
             wait_for(&self.rt, &self.let_on);
+        }
+        if self.rest().is_empty() {
+            if let Some(close) = &self.close {
+                wait_for(&self.rt, close);
+            }
         }
         let rest = self.rest();
         let count = rest.len().min(buf.len());

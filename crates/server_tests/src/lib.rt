@@ -1,4 +1,4 @@
-//! Tests of the server, over what `relay_server` makes public: over devices in memory, and over loopback.
+//! Tests of the server, over devices in memory, over what `relay_server` makes public.
 //!
 //! They stand in a crate of their own, so that the server isn't proved twice.
 #![tactic(auto)]
@@ -8,27 +8,17 @@ mod account_tests;
 #[cfg(test)]
 mod beside_tests;
 #[cfg(test)]
-mod burst_tests;
-#[cfg(test)]
 mod connection_tests;
 #[cfg(test)]
 mod devices;
 #[cfg(test)]
-mod ending_tests;
-#[cfg(test)]
-mod leaving_tests;
-#[cfg(test)]
-mod loopback;
-#[cfg(test)]
-mod loopback_tests;
-#[cfg(test)]
-mod mounts_tests;
-#[cfg(test)]
 mod pacing_tests;
 #[cfg(test)]
-mod row_tests;
+mod packets;
 #[cfg(test)]
-mod scripted;
+mod parting_tests;
+#[cfg(test)]
+mod rings;
 #[cfg(test)]
 mod serving;
 #[cfg(test)]

@@ -1,5 +1,6 @@
 //! Connections over devices in memory, for tests.
-use crate::devices::{Bytes, Flag, Open, Rings, Staged, Written};
+use crate::devices::{Bytes, Flag, Open, Staged, Written, flag};
+use crate::rings::{Owned, Rings};
 use interleaved::{Reading, Sink, Writing};
 use packet_ring::Pass;
 use relay_server::{
@@ -11,7 +12,7 @@ use std::alloc::Global;
 use std::collections::hash_map::RandomState;
 use std::process::Abort;
 use std::random::RandomSource;
-use std::sync::atomic::{AtomicBool, Ordering};
+use std::sync::atomic::Ordering;
 use std::sync::{Arc, Mutex, Wait};
 use std::thread;
 use std::thread::{JoinHandle, Threads};
@@ -26,7 +27,7 @@ pub(crate) fn book_of<R: RandomSource + Wait + Abort>(
     alloc: Global,
     seats: usize,
     connections: u32,
-) -> SharedBook<Seat<Pass>> {
+) -> SharedBook<Seat<Owned<Pass>>> {
     let hasher = RandomState::new(rt).expect(rt, "random bytes");
     let book = Mutex::new(Book::new(alloc, seats.min(1024), hasher));
     let book = Arc::new(alloc, book).expect(rt, "memory");
@@ -40,7 +41,7 @@ pub(crate) fn book_of<R: RandomSource + Wait + Abort>(
 pub(crate) fn shared_over<V: Words + Drop>(
     rt: &impl Abort,
     alloc: Global,
-    book: SharedBook<Seat<Pass>>,
+    book: SharedBook<Seat<Owned<Pass>>>,
     rings: Rings,
     words: V,
 ) -> SharedRings<V> {
@@ -70,7 +71,7 @@ impl Watch {
     /// Nothing is written, and the peer waits.
     pub(crate) fn new(rt: &impl Abort, alloc: Global) -> Watch {
         let written = Arc::new(alloc, Mutex::new(Vec::new(alloc))).expect(rt, "memory");
-        let let_on = Arc::new(alloc, AtomicBool::new(false)).expect(rt, "memory");
+        let let_on = flag(rt, alloc);
         Watch { written, let_on }
     }
 }
@@ -129,6 +130,21 @@ where
     let watch = Watch::new(&rt, alloc);
     let let_on = Arc::try_clone(&watch.let_on).expect(&rt, "a count of its users");
     let source = Staged::new(rt, first, then, let_on);
+    serve_source(rt, alloc, shared, watch, source)
+}
+
+/// Serves connection 1, whose peer says what this source gives.
+pub(crate) fn serve_source<R, V>(
+    rt: R,
+    alloc: Global,
+    shared: &SharedRings<V>,
+    watch: Watch,
+    source: Staged<R>,
+) -> Serving
+where
+    R: Threads + Wait + Clock + Abort + Copy + Drop + Send + 'static,
+    V: Words + Drop + Send + 'static,
+{
     let line = line_to(rt, alloc, &watch.written, 1000);
     let thread = serve_in_thread(rt, alloc, shared, 1, source, line);
     Serving { watch, thread }

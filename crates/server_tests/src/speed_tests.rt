@@ -1,8 +1,9 @@
 //! Players at four speeds, and their accounts.
 use crate::account_tests::{SET_UP, SETUP_OUT};
 use crate::connection_tests::{ANNOUNCE, IN_SESSION, RECORD, SETUP};
-use crate::devices::{Bytes, Rings, Staged, has_come, joined};
-use crate::scripted::{number_in, small_frames};
+use crate::devices::{Bytes, Staged, has_come, joined};
+use crate::packets::{number_in, small_frames};
+use crate::rings::Rings;
 use crate::serving::{
     Serving, SharedRings, Watch, book_of, serve_camera, serve_in_thread, shared_over,
 };

@@ -28,14 +28,14 @@ use Rattle.session_state.proofs.Announced.{owned_none}
 use Rattle.session_state.proofs.Plays.{plays_free}
 use Rattle.session_lock.specs.declared.spares.MountPasses.{MountPasses}
 use Rattle.session_lock.specs.Books.{IsKept, IsOffer}
-use Rattle.session_lock.specs.Entries.{Written, method_accepted}
+use Rattle.session_lock.specs.Entries.{Adds, Written, method_accepted}
 use Rattle.session_lock.specs.Held.{Held}
 use Rattle.session_lock.specs.Requests.{CanBegin, passes_after, pass_after}
 use Rattle.session_lock.specs.Spares.{AreSpare, IsSpareOf, handed_out, left_by, of_owner, out_count, pass_at, unended, without}
 use Rattle.session_state.proofs.OneReply.{one_reply}
 use Rattle.session_lock.proofs.Played.{out_counted, plays_on}
 use Rattle.session_lock.proofs.Spared.{begun_so, ended_so, moved_so, unnumbered}
-use Rattle.session_lock.proofs.Standing.{flip, none_ended, same_filter}
+use Rattle.session_lock.proofs.Standing.{base_after, flip, next_is, none_ended, same_filter}
 
 not_true : (b : Bool) → (b ≡ true → ⊥) → b ≡ false
 not_true true never = absurd (never refl)
@@ -249,32 +249,30 @@ kept_open history tables conn stands there = stands.are_open conn ∙ there
 
 module _ {P : Type 0} (seats : ℕ) (tables after : Tables) (written later : Written) (held left : Held P) (kept : IsKept seats tables written held) (same : after.mounts.seats ≡ tables.mounts.seats) where
   -- What a request leaves.
-  pub requested : (conn : ℕ) (request : messages.Request) (given : Given) (reply : Reply) (act : Act) (offer : Option (List P)) → IsOffer seats request.method offer
+  pub requested : (due : Bool) (next : Option Tables) (conn : ℕ) (request : messages.Request) (given : Given) (reply : Reply) (act : Act) (offer : Option (List P)) → next ≡ next_is due tables
+      → IsOffer seats request.method offer
       → IsReplyOf tables.mounts.seats written.history conn request given reply act × Stands (Request conn request given reply act ∷ written.history) after
-      → later.history ≡ Request conn request given reply act ∷ written.history
+      → Adds next (Request conn request given reply act) written later
       → left.mounts ≡ passes_after conn (how_many (accepts is_announce) written.history + 1) (method_accepted request reply) act offer held.mounts
       → open_count written.history + out_count left.mounts ≤ later.room → IsKept seats after later left
-  requested conn request given reply act offer offered replied is settled enough =
+  requested due next conn request given reply act offer of offered replied adds settled enough =
+      let is = adds.history in
       let follows = subst (λ n. IsReplyOf n written.history conn request given reply act) kept.seats_are replied.0 in
       record {
         legal = subst (IsLegal seats) (sym is) (kept.legal, follows);
         stands = subst (λ h. Stands h after) (sym is) replied.1;
         seats_are = same ∙ kept.seats_are;
+        base = base_after seats tables after written later held kept same due next (Request conn request given reply act) of adds;
         spare = subst (λ h. AreSpare seats h left.mounts) (sym is) (subst (AreSpare seats (Request conn request given reply act ∷ written.history)) (sym settled)
             (requested_so conn request given reply act seats written.history follows held.mounts offer (method_accepted request reply) refl kept.legal offered kept.spare));
         room = let open_after = ap open_count is in omega (arith, open_after, enough);
       }
 
 -- the entry that is written down, of what was copied
-pub entered : (written : Entry) (shown history : History) (conn : ℕ) (copied request : messages.Request) (same given : Given) (told reply : Reply) (act : Act) → written ≡ Request conn copied same told act → copied ≡ request
-    → same ≡ given → told ≡ reply → shown ≡ history → (written ∷ shown) ≡ (Request conn request given reply act ∷ history)
-entered written shown history conn copied request same given told reply act is of handed reply_is shown_is =
-    ap (λ e. e ∷ shown) (is ∙ ap (λ r. Request conn r same told act) of ∙ ap (λ g. Request conn request g told act) handed ∙ ap (λ r. Request conn request given r act) reply_is)
-    ∙ ap (λ h. Request conn request given reply act ∷ h) shown_is
-
--- the number that the next mount gets
-pub numbered : (count : ℕ) (shown history : History) → count ≡ how_many (accepts is_announce) shown → shown ≡ history → count + 1 ≡ how_many (accepts is_announce) history + 1
-numbered count shown history is same = ap (λ n. n + 1) (is ∙ ap (how_many (accepts is_announce)) same)
+pub entered : (written : Entry) (conn : ℕ) (copied request : messages.Request) (same given : Given) (told reply : Reply) (act : Act) → written ≡ Request conn copied same told act → copied ≡ request
+    → same ≡ given → told ≡ reply → written ≡ Request conn request given reply act
+entered written conn copied request same given told reply act is of handed reply_is =
+    is ∙ ap (λ r. Request conn r same told act) of ∙ ap (λ g. Request conn request g told act) handed ∙ ap (λ r. Request conn request given r act) reply_is
 
 pub settled_so : {P : Type 0} (left shown mounts : List (MountPasses P)) (number : ℕ) (method : Option Method) (conn : ℕ) (request : messages.Request) (reply : Reply) (act : Act) (offer : Option (List P)) (history : History)
     → left ≡ passes_after conn number method act offer shown → number ≡ how_many (accepts is_announce) history + 1 → method ≡ method_accepted request reply → shown ≡ mounts

@@ -1,7 +1,7 @@
 -- What each call leaves of a book.
-use Rattle.std.proofs.Common.{◌≡◌, ℕ, ◌+◌, ◌≤◌, ◌<◌, ◌==◌, ◌&&◌, Bool, true, false, not, cond, List, [], ◌∷◌, length, is_none, is_some, Option, None, Some, refl, ap, sym, ◌∙◌, subst, arith}
+use Rattle.std.proofs.Common.{◌≡◌, ℕ, suc, ◌+◌, ◌≤◌, ◌<◌, ◌==◌, ◌&&◌, Bool, true, false, not, cond, if◌then◌else◌, List, [], ◌∷◌, length, drop, is_none, is_some, Option, None, Some, refl, ap, sym, ◌∙◌, subst, arith}
 use Rattle.std.specs.List.{filter}
-use Rattle.std.specs.Option.{option_and_then, option_map, option_map_or}
+use Rattle.std.specs.Option.{option_and_then, option_map, option_map_or, unwrap_or}
 use Rattle.std.proofs.lemmas.Bool.{eq-eqb, eqb-true}
 use Rattle.mounts.proofs.Differing.{unequal}
 use Rattle.mounts.proofs.Firsts.{found_all, found_passes}
@@ -18,8 +18,8 @@ use Rattle.session_state.specs.Streams.{ends_of, is_out, takes_or_gives_back}
 use Rattle.session_state.proofs.Coming.{none_lives}
 use Rattle.session_state.proofs.Plays.{out_below}
 use Rattle.session_lock.specs.declared.spares.MountPasses.{MountPasses}
-use Rattle.session_lock.specs.Books.{IsKept}
-use Rattle.session_lock.specs.Entries.{Written}
+use Rattle.session_lock.specs.Books.{IsKept, IsLedTo}
+use Rattle.session_lock.specs.Entries.{Adds, Written}
 use Rattle.session_lock.specs.Held.{Held, IsOutOf}
 use Rattle.session_lock.specs.Spares.{AreSpare, IsSpareOf, out_count, unended, with_pass, without}
 use Rattle.session_lock.proofs.Spared.{ended_so, moved_so}
@@ -76,15 +76,53 @@ out_after history of given mount seat = by (of == mount && given == seat)
     by true = refl
     by false = refl
 
+-- Where a new base is due, it is the world as it stood.
+abbrev pub next_is : (due : Bool) → Tables → Option Tables
+next_is due tables = if due then Some tables else None
+
+left_out : (entry : Entry) (kept : ℕ) (history : History) → drop (kept + 1) (entry ∷ history) ≡ drop kept history
+left_out entry kept history = let more : kept + 1 ≡ suc kept = omega arith in ap (λ k. drop k (entry ∷ history)) more
+
+-- the base after one entry more
+base_on : (seats : ℕ) (tables : Tables) (written later : Written) (due : Bool) (next : Option Tables) (entry : Entry) → IsLedTo seats written.history tables
+    → IsLedTo seats (drop written.kept written.history) written.base → next ≡ next_is due tables → Adds next entry written later → IsLedTo seats (drop later.kept later.history) later.base
+base_on seats tables written later due next entry now base is adds =
+    let after : ℕ = (if is_some next then 0 else written.kept) + 1 in
+    let left : drop later.kept later.history ≡ drop after (entry ∷ written.history) = ap (λ k. drop k later.history) adds.kept ∙ ap (drop after) adds.history in
+    subst (IsLedTo seats (drop later.kept later.history)) (sym adds.base) (subst (λ h. IsLedTo seats h (unwrap_or next written.base)) (sym left) (by due next is))
+  where
+    by : (due : Bool) (next : Option Tables) → next ≡ next_is due tables → IsLedTo seats (drop ((if is_some next then 0 else written.kept) + 1) (entry ∷ written.history)) (unwrap_or next written.base)
+    by true next is = subst (λ n. IsLedTo seats (drop ((if is_some n then 0 else written.kept) + 1) (entry ∷ written.history)) (unwrap_or n written.base)) (sym is) now
+    by false next is = subst (λ n. IsLedTo seats (drop ((if is_some n then 0 else written.kept) + 1) (entry ∷ written.history)) (unwrap_or n written.base)) (sym is)
+        (subst (λ h. IsLedTo seats h written.base) (sym (left_out entry written.kept written.history)) base)
+
+-- how many entries are kept after one more
+pub kept_so : (due : Bool) (next : Option Tables) (tables : Tables) (kept : ℕ) → next ≡ next_is due tables → (if is_some next then 0 else kept) + 1 ≡ (if due then 1 else kept + 1)
+kept_so true next tables kept is = ap (λ n. (if is_some n then 0 else kept) + 1) is
+kept_so false next tables kept is = ap (λ n. (if is_some n then 0 else kept) + 1) is
+
 module _ {P : Type 0} (seats : ℕ) where
   -- a new book
-  pub opens : (tables : Tables) (written : Written) (held : Held P) → Stands [] tables → tables.mounts.seats ≡ seats → written.history ≡ [] → held.mounts ≡ [] → IsKept seats tables written held
-  opens tables written held stands same none empty = record {
+  pub opens : (tables : Tables) (written : Written) (held : Held P) → Stands [] tables → tables.mounts.seats ≡ seats → Stands [] written.base → written.base.mounts.seats ≡ seats
+      → written.history ≡ [] → written.kept ≡ 0 → held.mounts ≡ [] → IsKept seats tables written held
+  opens tables written held stands same base_stands base_same none no_kept empty = record {
     legal = subst (IsLegal seats) (sym none) tt;
     stands = subst (λ h. Stands h tables) (sym none) stands;
     seats_are = same;
+    base = subst (λ h. IsLedTo seats h written.base) (sym (ap (λ k. drop k written.history) no_kept ∙ none)) (record { legal = tt; stands = base_stands; seats_are = base_same });
     spare = subst (λ h. AreSpare seats h held.mounts) (sym none) (subst (AreSpare seats []) (sym empty) (record { each = tt; all = λ number owner live. absurd (none_lives number owner live); once = tt }));
     room = let few = ap open_count none in let out = ap out_count empty in omega (arith, few, out);
+  }
+
+  -- a book with more room
+  pub roomier : (tables : Tables) (written more : Written) (held : Held P) → IsKept seats tables written held → more ≡ record written { room = more.room } → written.room ≤ more.room → IsKept seats tables more held
+  roomier tables written more held kept is grown = record {
+    legal = subst (λ (w : Written). IsLegal seats w.history) (sym is) kept.legal;
+    stands = subst (λ (w : Written). Stands w.history tables) (sym is) kept.stands;
+    seats_are = kept.seats_are;
+    base = subst (λ (w : Written). IsLedTo seats (drop w.kept w.history) w.base) (sym is) kept.base;
+    spare = subst (λ (w : Written). AreSpare seats w.history held.mounts) (sym is) kept.spare;
+    room = let open_same = ap (λ (w : Written). open_count w.history) is in let enough = kept.room in omega (arith, open_same, enough, grown);
   }
 
   pub none_ended : (entry : Entry) (mounts : List (MountPasses P)) → ((owner : ℕ) → ends_of owner entry ≡ false) → unended entry mounts ≡ mounts
@@ -94,30 +132,36 @@ module _ {P : Type 0} (seats : ℕ) where
     pub legal_there : IsLegal tables.mounts.seats written.history
     legal_there = subst (λ n. IsLegal n written.history) (sym kept.seats_are) kept.legal
 
-    pub connected : (conn : ℕ) → Comes written.history conn × Stands (Connect conn ∷ written.history) after → later.history ≡ Connect conn ∷ written.history
-        → open_count written.history + out_count held.mounts + 1 ≤ later.room → IsKept seats after later held
-    connected conn come is enough = record {
+    pub base_after : (due : Bool) (next : Option Tables) (entry : Entry) → next ≡ next_is due tables → Adds next entry written later → IsLedTo seats (drop later.kept later.history) later.base
+    base_after due next entry is adds = base_on seats tables written later due next entry (record { legal = kept.legal; stands = kept.stands; seats_are = kept.seats_are }) kept.base is adds
+
+    pub connected : (due : Bool) (next : Option Tables) (conn : ℕ) → next ≡ next_is due tables → Comes written.history conn × Stands (Connect conn ∷ written.history) after
+        → Adds next (Connect conn) written later → open_count written.history + out_count held.mounts + 1 ≤ later.room → IsKept seats after later held
+    connected due next conn of come adds enough = let is = adds.history in record {
       legal = subst (IsLegal seats) (sym is) (kept.legal, come.0);
       stands = subst (λ h. Stands h after) (sym is) come.1;
       seats_are = same ∙ kept.seats_are;
+      base = base_after due next (Connect conn) of adds;
       spare = subst (λ h. AreSpare seats h held.mounts) (sym is) (subst (AreSpare seats (Connect conn ∷ written.history)) (none_ended (Connect conn) held.mounts (λ owner. refl))
           (ended_so seats written.history (Connect conn) held.mounts refl (λ mount seat. refl) kept.spare));
       room = let open_after = ap open_count is in omega (arith, open_after, enough);
     }
 
     pub hung_up : (conn : ℕ) (act : Act) (left : Held P) → IsHangUp tables.mounts.seats written.history conn act × Stands (HangUp conn act ∷ written.history) after
-        → later.history ≡ HangUp conn act ∷ written.history → left.mounts ≡ without conn held.mounts → out_count left.mounts ≤ out_count held.mounts → written.room ≤ later.room + 1
+        → Adds None (HangUp conn act) written later → left.mounts ≡ without conn held.mounts → out_count left.mounts ≤ out_count held.mounts
         → is_open conn written.history ≡ true → IsKept seats after later left
-    hung_up conn act left gone is dropped fewer room there = record {
+    hung_up conn act left gone adds dropped fewer there = let is = adds.history in record {
       legal = subst (IsLegal seats) (sym is) (kept.legal, subst (λ n. IsHangUp n written.history conn act) kept.seats_are gone.0);
       stands = subst (λ h. Stands h after) (sym is) gone.1;
       seats_are = same ∙ kept.seats_are;
+      base = base_after false None (HangUp conn act) refl adds;
       spare = subst (λ h. AreSpare seats h left.mounts) (sym is) (subst (AreSpare seats (HangUp conn act ∷ written.history)) (sym (dropped ∙ without_is conn act held.mounts))
           (ended_so seats written.history (HangUp conn act) held.mounts refl (λ mount seat. refl) kept.spare));
       room =
           let open_after = ap open_count is in
           let one = one_open written.history tables conn kept.stands there in
           let enough = kept.room in
+          let room = adds.room in
           omega (arith, open_after, one, enough, fewer, room);
     }
       where
@@ -125,15 +169,16 @@ module _ {P : Type 0} (seats : ℕ) where
         without_is conn act mounts = same_filter (λ (one : MountPasses P). not (one.owner == conn)) (λ one. not (conn == one.owner)) mounts (λ one. ap not (flip one.owner conn))
 
     pub given_back : (mount seat : ℕ) (pass : P) (left : Held P) → IsBack written.history mount seat × Stands (Back mount seat ∷ written.history) after
-        → later.history ≡ Back mount seat ∷ written.history → left.mounts ≡ with_pass mount seat (Some pass) held.mounts → out_count left.mounts + 1 ≡ out_count held.mounts
-        → written.room ≤ later.room + 1 → IsKept seats after later left
-    given_back mount seat pass left back is put fewer room = record {
+        → Adds None (Back mount seat) written later → left.mounts ≡ with_pass mount seat (Some pass) held.mounts → out_count left.mounts + 1 ≡ out_count held.mounts
+        → IsKept seats after later left
+    given_back mount seat pass left back adds put fewer = let is = adds.history in record {
       legal = subst (IsLegal seats) (sym is) (kept.legal, back.0);
       stands = subst (λ h. Stands h after) (sym is) back.1;
       seats_are = same ∙ kept.seats_are;
+      base = base_after false None (Back mount seat) refl adds;
       spare = subst (λ h. AreSpare seats h left.mounts) (sym is) (subst (AreSpare seats (Back mount seat ∷ written.history)) (sym put)
           (moved_so seats written.history (Back mount seat) mount seat (Some pass) held.mounts refl (λ owner. refl) (λ of other. out_after written.history mount seat of other) kept.spare));
-      room = let open_after = ap open_count is in let enough = kept.room in omega (arith, open_after, enough, fewer, room);
+      room = let open_after = ap open_count is in let enough = kept.room in let room = adds.room in omega (arith, open_after, enough, fewer, room);
     }
 
   -- a seat that is out in the history has no pass

@@ -1,5 +1,5 @@
 -- What a book remembers, and how it is kept.
-use Rattle.std.specs.Prelude.{◌≡◌, ◌≢◌, ◌+◌, ◌≤◌, ℕ, List, length, Option, None, Some}
+use Rattle.std.specs.Prelude.{◌≡◌, ◌≢◌, ◌+◌, ◌≤◌, nat_le, if◌then◌else◌, ℕ, List, length, drop, Option, None, Some}
 use Rattle.session_state.specs.declared.method.Method.TheVariants as methods
 use Rattle.session_state.specs.History.{History}
 use Rattle.session_state.specs.Legal.{IsLegal}
@@ -11,22 +11,37 @@ use Rattle.session_lock.specs.Entries.{Written}
 use Rattle.session_lock.specs.Held.{Held}
 use Rattle.session_lock.specs.Spares.{AreSpare, out_count}
 
--- How many seats each mount has, what has happened, and the spare passes of the mounts that live.
+-- How many seats each mount has; what has happened, and how many of the newest entries are kept; how many are kept when
+-- they are cut off before the next one; and the spare passes of the mounts that live.
 pub record Remembered (P : Type 0) : Type 0 where
   pub seats : ℕ
+  pub cut : ℕ
   pub history : History
+  pub kept : ℕ
   pub spares : List (MountPasses P)
+
+-- how many entries are kept after one more request or coming: it alone, where those before it are cut off
+abbrev pub kept_after : {P : Type 0} → Remembered P → ℕ
+kept_after book = if nat_le book.cut book.kept then 1 else book.kept + 1
 
 -- an offer of passes comes with ANNOUNCE, one for each seat, and with no other method
 abbrev pub IsOffer : {P : Type 0} → (seats : ℕ) → (method : List ℕ) → Option (List P) → Type 0
 IsOffer seats method None = method_of method ≢ Some methods.Announce
 IsOffer seats method (Some offer) = (method_of method ≡ Some methods.Announce) × (length offer ≡ seats)
 
--- The history is legal, the tables stand for it, the passes are the spare ones, and there is room for the hang-up of each
--- connection that is open and for the return of each seat that is out.
+-- A world that a history has led to: it is legal, and the tables answer each look-up as it does.
+pub record IsLedTo (seats : ℕ) (history : History) (tables : Tables) : Type 0 where
+  pub legal : IsLegal seats history
+  pub stands : Stands history tables
+  pub seats_are : tables.mounts.seats ≡ seats
+
+-- The history is legal, the tables stand for it, the base is what the entries that are no longer kept have led to, the
+-- passes are the spare ones, and there is room for the hang-up of each connection that is open and for the return of each
+-- seat that is out.
 pub record IsKept {P : Type 0} (seats : ℕ) (tables : Tables) (written : Written) (held : Held P) : Type 0 where
   pub legal : IsLegal seats written.history
   pub stands : Stands written.history tables
   pub seats_are : tables.mounts.seats ≡ seats
+  pub base : IsLedTo seats (drop written.kept written.history) written.base
   pub spare : AreSpare seats written.history held.mounts
   pub room : open_count written.history + out_count held.mounts ≤ written.room

@@ -1,22 +1,35 @@
 -- The history as it is written down.
-use Rattle.std.specs.Prelude.{◌≡◌, ℕ, ◌==◌, if◌then◌else◌, Option, None}
+use Rattle.std.specs.Prelude.{◌≡◌, ℕ, ◌+◌, ◌≤◌, ◌==◌, if◌then◌else◌, List, ◌∷◌, length, take, reverse, is_some, Option, None}
+use Rattle.std.specs.Option.{unwrap_or}
 use Rattle.rtsp_message.specs.declared.request.Request as messages
 use Rattle.rtsp_message.specs.declared.reply.Reply.{Reply}
 use Rattle.rtsp_message.specs.Reply.{code_of}
+use Rattle.session_state.specs.declared.entry.Entry.{Entry}
 use Rattle.session_state.specs.declared.method.Method.{Method}
-use Rattle.session_state.specs.Methods.{is_announce, method_of}
-use Rattle.session_state.specs.History.{History, accepts, how_many, is_connect, is_hang_up}
+use Rattle.session_state.specs.Methods.{method_of}
+use Rattle.session_state.specs.History.{History}
+use Rattle.session_state.specs.Stands.{Tables}
 
--- A history, and for how many more entries there is room.
+-- A history; how many of its newest entries are kept, and how many are kept when they are cut off; the world that those
+-- before them led to; and for how many more there is room.
 pub record Written : Type 0 where
   pub history : History
+  pub cut : ℕ
+  pub kept : ℕ
+  pub base : Tables
   pub room : ℕ
 
--- What is counted: who came, who has gone, and the mounts that were announced.
-pub record IsCounted (history : History) (came gone announced : ℕ) : Type 0 where
-  pub came_is : came ≡ how_many is_connect history
-  pub gone_is : gone ≡ how_many is_hang_up history
-  pub announced_is : announced ≡ how_many (accepts is_announce) history
+-- the entries that are kept, the newest last, are the newest of the history
+abbrev pub AreNewest : (entries history : List Entry) → Type 0
+AreNewest entries history = take (length entries) history ≡ reverse entries
+
+-- An entry is added, in room that was made for it, behind those that are kept, or behind a new base.
+pub record Adds (next : Option Tables) (entry : Entry) (old new : Written) : Type 0 where
+  pub history : new.history ≡ entry ∷ old.history
+  pub cut : new.cut ≡ old.cut
+  pub kept : new.kept ≡ (if is_some next then 0 else old.kept) + 1
+  pub base : new.base ≡ unwrap_or next old.base
+  pub room : old.room ≤ new.room + 1
 
 -- the method of a request that was answered 200
 abbrev pub method_accepted : messages.Request → Reply → Option Method

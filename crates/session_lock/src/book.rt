@@ -1,5 +1,5 @@
 //! The book.
-ghost use Rattle.std.specs.Prelude.{◌≡◌, ◌≤◌, ◌+◌, ◌∷◌, [], ℕ, true, false, None, Some, IfOk, IfErr, IfSome, IfNone, IsSome, MatchBool, OnErr, length, Option};
+ghost use Rattle.std.specs.Prelude.{◌≡◌, ◌≤◌, ◌+◌, ◌∷◌, [], ℕ, true, false, None, Some, IfOk, IfErr, IfSome, IfNone, IsSome, MatchBool, OnErr, drop, length, reverse, take, Option};
 ghost use Rattle.std.specs.Option.{option_copied, option_map};
 ghost use Rattle.session_state.specs.declared.act.Act.TheVariants as acts;
 ghost use Rattle.session_state.specs.declared.entry.Entry.TheVariants as entries;
@@ -10,7 +10,7 @@ ghost use Rattle.session_state.specs.Legal.{Comes, IsBack, IsHangUp, IsLegal, Is
 ghost use Rattle.session_state.specs.Methods.{is_announce};
 ghost use Rattle.session_state.specs.Lookups.{IsSessionOf, came, is_open};
 ghost use Rattle.session_lock.specs.Asks.{IsFaultOf};
-ghost use Rattle.session_lock.specs.Books.{IsOffer};
+ghost use Rattle.session_lock.specs.Books.{IsLedTo, IsOffer, kept_after};
 ghost use Rattle.session_lock.specs.Entries.{method_accepted};
 ghost use Rattle.session_lock.specs.Requests.{back_after, passes_after};
 ghost use Rattle.session_lock.specs.Spares.{AreSpare, handed_out, unended, with_pass};
@@ -25,8 +25,15 @@ use std::alloc::Global;
 use std::collections::hash_map::RandomState;
 use std::marker::Model;
 
-/// A server's memory: all that has happened, entry by entry, what that comes to, and the spare passes of the mounts that
-/// live. A contract sees how many seats each mount has, the history, and the passes. The history is legal; `kept` says so.
+/// How many entries a book keeps before it cuts them off.
+pub const CUT: usize = 4096;
+
+/// A server's memory: what has happened since its base, entry by entry, the world that this comes to, and the spare passes
+/// of the mounts that live. The base is a world, too: what all entries before led to, which no memory holds any more.
+///
+/// A contract sees how many seats each mount has, the whole history, how many of its newest entries are kept, how many may
+/// be before they are cut off, and the passes. The history is legal, `kept` says so, and the base stands for what isn't
+/// kept of it, as `base` says.
 #[derive(Drop)]
 pub struct Book<P> {
     alloc: Global,
@@ -41,33 +48,60 @@ impl<P> Model for Book<P> {
 
     ghost Value = { Remembered P };
 
-    ghost view = { λ b. record { seats = b.seats; history = b.entries.history; spares = b.spares.mounts } };
+    ghost view = { λ b. record { seats = b.seats; cut = b.entries.cut; history = b.entries.history; kept = b.entries.kept; spares = b.spares.mounts } };
 
     ghost invariant = { λ b. IsKept b.seats b.world b.entries b.spares };
 }
 
 impl<P: Drop> Book<P> {
-    /// A book in which nothing has happened. Each mount that is announced has so many seats. Takes no memory.
+    /// A book in which nothing has happened, which keeps `CUT` entries before it cuts them off. Each mount that is announced
+    /// has so many seats. Takes no memory.
     pub fn new(alloc: Global, seats: usize, hasher: RandomState) -> Book<P>
         requires { seats ≤ 1024 }
-        ensures { result ≡ record { seats = seats; history = []; spares = [] } }
+        ensures { result ≡ record { seats = seats; cut = 4096; history = []; kept = 0; spares = [] } }
     {
+        Book::with_cut(alloc, seats, hasher, CUT)
+    }
+
+    /// A book in which nothing has happened. Where so many entries are kept, or more, the next coming or request that is
+    /// accepted into the history cuts them off: the world as it stood before it is the new base. Takes no memory.
+    pub fn with_cut(alloc: Global, seats: usize, hasher: RandomState, cut: usize) -> Book<P>
+        requires seats { seats ≤ 1024 }
+        requires cut { 1 ≤ cut }
+        ensures { result ≡ record { seats = seats; cut = cut; history = []; kept = 0; spares = [] } }
+    {
+        let base = World::new(alloc, seats, hasher);
         Book {
             alloc,
             seats,
             world: World::new(alloc, seats, hasher),
-            entries: Entries::new(alloc),
+            entries: Entries::new(alloc, cut, base),
             spares: Spares::new(alloc),
         }
     }
 
-    /// How many entries the history has.
+    /// How many entries are kept: the newest of the history.
     pub fn kept(&self) -> usize
-        ensures count { result ≡ length self.now.history }
+        ensures count { result ≡ self.now.kept }
+        ensures few { result ≤ length self.now.history }
         ensures legal { IsLegal self.now.seats self.now.history }
         ensures spare { AreSpare self.now.seats self.now.history self.now.spares }
     {
-        self.entries.len()
+        self.entries.kept()
+    }
+
+    /// The entries that are kept, the newest last.
+    pub fn entries(&self) -> &[Entry]
+        ensures { take self.now.kept self.now.history ≡ reverse result.now }
+    {
+        self.entries.newest()
+    }
+
+    /// The world that the entries before those that are kept led to.
+    pub fn base(&self) -> &World
+        ensures { IsLedTo self.now.seats (drop self.now.kept self.now.history) result.now }
+    {
+        self.entries.base()
     }
 
     /// Whether a connection is open.
@@ -95,21 +129,22 @@ impl<P: Drop> Book<P> {
 
     /// Lets a connection come, and tells its number: from 1 on, and never used again. `Full` comes exactly where
     /// `MAX_CONNECTIONS` are open or the numbers are used up, and want of memory only where they aren't; after an error
-    /// nothing has changed. Makes the room for its hang-up.
+    /// nothing has changed. Makes the room for its hang-up, and a new base where the kept entries are cut off.
     pub fn connect(&mut self) -> Result<u64, ConnectFault>
         ensures comes { IfOk result (λ conn. Comes self.old.history conn) }
-        ensures ok { IfOk result (λ conn. self.new ≡ record { seats = self.old.seats; history = entries.Connect conn ∷ self.old.history; spares = self.old.spares }) }
+        ensures ok { IfOk result (λ conn. self.new ≡ record self.old { history = entries.Connect conn ∷ self.old.history; kept = kept_after self.old }) }
         ensures full { result ≡ Err faults.Full → Comes self.old.history (came self.old.history + 1) → ⊥ }
         ensures memory { result ≡ Err faults.OutOfMemory → Comes self.old.history (came self.old.history + 1) }
         ensures err { OnErr result (self.new ≡ self.old) }
     {
-        if !self.entries.may_come() {
+        if !self.world.may_come() {
             return Err(ConnectFault::Full);
         }
-        let promised = self.entries.open() + self.spares.count_out();
-        self.entries.reserve(promised + 2)?;
+        let next = self.entries.next_base(self.alloc, &self.world)?;
+        self.entries
+            .reserve(self.world.count_open(), self.spares.count_out())?;
         let conn = self.world.connect()?;
-        self.entries.add(Entry::Connect(conn));
+        self.entries.add(next, Entry::Connect(conn));
         Ok(conn)
     }
 
@@ -118,7 +153,7 @@ impl<P: Drop> Book<P> {
     pub fn hangup(&mut self, conn: u64) -> Act
         ensures is { is_open conn self.old.history ≡ true → IsHangUp self.old.seats self.old.history conn result }
         ensures open { is_open conn self.old.history ≡ true
-            → self.new ≡ record { seats = self.old.seats; history = entries.HangUp conn result ∷ self.old.history; spares = unended (entries.HangUp conn result) self.old.spares } }
+            → self.new ≡ record self.old { history = entries.HangUp conn result ∷ self.old.history; kept = self.old.kept + 1; spares = unended (entries.HangUp conn result) self.old.spares } }
         ensures unknown { is_open conn self.old.history ≡ false → (result ≡ acts.None) × (self.new ≡ self.old) }
     {
         if !self.world.is_open(conn) {
@@ -126,7 +161,7 @@ impl<P: Drop> Book<P> {
         }
         let act = self.world.hangup(conn);
         self.spares.end_of(conn);
-        self.entries.add(Entry::HangUp { conn, act });
+        self.entries.add(None, Entry::HangUp { conn, act });
         act
     }
 
@@ -134,7 +169,7 @@ impl<P: Drop> Book<P> {
     /// is handed back, and nothing has changed. Takes no memory.
     pub fn give_back(&mut self, mount: u64, seat: usize, pass: P) -> Option<P>
         ensures is { IfNone result (IsBack self.old.history mount seat) }
-        ensures taken { IfNone result (self.new ≡ record { seats = self.old.seats; history = entries.Back mount seat ∷ self.old.history; spares = with_pass mount seat (Some pass) self.old.spares }) }
+        ensures taken { IfNone result (self.new ≡ record self.old { history = entries.Back mount seat ∷ self.old.history; kept = self.old.kept + 1; spares = with_pass mount seat (Some pass) self.old.spares }) }
         ensures refused { IfSome result (λ back. IsBack self.old.history mount seat → ⊥) }
         ensures back { IfSome result (λ back. (back ≡ pass) × (self.new ≡ self.old)) }
     {
@@ -142,14 +177,14 @@ impl<P: Drop> Book<P> {
             return Some(pass);
         }
         self.spares.put(mount, seat, pass);
-        self.entries.add(Entry::Back { mount, seat });
+        self.entries.add(None, Entry::Back { mount, seat });
         None
     }
 
     /// Answers a request of an open connection. An ANNOUNCE comes with an offer of passes, one for each seat, and is given
     /// them back unless it is accepted; a PLAY that takes a seat is handed its pass. The only error is want of memory, and
-    /// then nothing has changed: all copies and all room are made before anything is decided. Makes the room for the return
-    /// of the seat.
+    /// then nothing has changed: all copies, a new base where the kept entries are cut off, and all room are made before
+    /// anything is decided. Makes the room for the return of the seat.
     pub fn call(
         &mut self,
         conn: u64,
@@ -161,11 +196,13 @@ impl<P: Drop> Book<P> {
         requires offer { IsOffer self.old.seats request.now.method (option_map (λ passes. passes.items) offer) }
         ensures reply { IfOk result (λ answer. IsReplyOf self.old.seats self.old.history conn request.now given.now answer.reply answer.act) }
         ensures history { IfOk result (λ answer. self.new.history ≡ entries.Request conn request.now given.now answer.reply answer.act ∷ self.old.history) }
+        ensures kept { IfOk result (λ answer. self.new.kept ≡ kept_after self.old) }
         ensures spares { IfOk result (λ answer. self.new.spares ≡ passes_after conn (how_many (accepts is_announce) self.old.history + 1) (method_accepted request.now answer.reply) answer.act (option_map (λ passes. passes.items) offer) self.old.spares) }
         ensures pass { IfOk result (λ answer. answer.pass ≡ handed_out answer.act self.old.spares) }
         ensures play { IfOk result (λ answer. (mount seat : ℕ) → answer.act ≡ acts.Play mount seat → IsSome answer.pass) }
         ensures back { IfOk result (λ answer. answer.back ≡ back_after (method_accepted request.now answer.reply) offer) }
         ensures seats { self.new.seats ≡ self.old.seats }
+        ensures cut { self.new.cut ≡ self.old.cut }
         ensures err { OnErr result (self.new ≡ self.old) }
         ensures handed_back { IfErr result (λ refused. refused.back ≡ offer) }
     {
@@ -175,15 +212,19 @@ impl<P: Drop> Book<P> {
         let Ok(room) = room_for(self.alloc, &offer) else {
             return Err(NoMemory { back: offer });
         };
-        let Ok(()) = make_room(&mut self.entries, &mut self.spares) else {
+        let Ok(next) = self.entries.next_base(self.alloc, &self.world) else {
             return Err(NoMemory { back: offer });
         };
+        let opened = self.world.count_open();
+        let Ok(()) = make_room(opened, &mut self.entries, &mut self.spares) else {
+            return Err(NoMemory { back: offer });
+        };
+        let number = self.world.next_mount();
         let Ok((reply, act)) = self.world.decide(self.alloc, conn, request, given) else {
             return Err(NoMemory { back: offer });
         };
         let method = accepted_method(request, &reply);
-        let number = self.entries.announced() + 1;
-        self.entries.add(copies.into_entry(conn, act));
+        self.entries.add(next, copies.into_entry(conn, act));
         let (pass, back) = self.spares.settle(conn, number, method, act, offer, room);
         Ok(Answer {
             reply,
@@ -206,11 +247,13 @@ impl<P: Drop> Book<P> {
         ensures offered { IfOk result (λ answer. IsOffer self.old.seats request.now.method (option_map (λ passes. passes.items) offer)) }
         ensures reply { IfOk result (λ answer. IsReplyOf self.old.seats self.old.history conn request.now given.now answer.reply answer.act) }
         ensures history { IfOk result (λ answer. self.new.history ≡ entries.Request conn request.now given.now answer.reply answer.act ∷ self.old.history) }
+        ensures kept { IfOk result (λ answer. self.new.kept ≡ kept_after self.old) }
         ensures spares { IfOk result (λ answer. self.new.spares ≡ passes_after conn (how_many (accepts is_announce) self.old.history + 1) (method_accepted request.now answer.reply) answer.act (option_map (λ passes. passes.items) offer) self.old.spares) }
         ensures pass { IfOk result (λ answer. answer.pass ≡ handed_out answer.act self.old.spares) }
         ensures play { IfOk result (λ answer. (mount seat : ℕ) → answer.act ≡ acts.Play mount seat → IsSome answer.pass) }
         ensures back { IfOk result (λ answer. answer.back ≡ back_after (method_accepted request.now answer.reply) offer) }
         ensures seats { self.new.seats ≡ self.old.seats }
+        ensures cut { self.new.cut ≡ self.old.cut }
         ensures fault { IfErr result (IsFaultOf self.old.seats self.old.history conn request.now.method offer) }
         ensures err { OnErr result (self.new ≡ self.old) }
     {

@@ -3,7 +3,6 @@ ghost use Rattle.std.specs.Prelude.{◌≡◌, ◌≤◌, ◌<◌, ◌+◌, ◌^
 ghost use Rattle.session_state.specs.History.{History};
 ghost use Rattle.session_state.specs.Judged.{IsReplyIn};
 ghost use Rattle.session_state.specs.Legal.{IsLegal};
-ghost use Rattle.session_state.specs.Lookups.{open_count};
 ghost use Rattle.session_state.specs.Stands.{Stands, kept_of};
 ghost use Rattle.session_lock.specs.Spares.{out_count};
 
@@ -59,21 +58,21 @@ pub(crate) fn copies_of(
 }
 
 /// Makes the room that a request may need: for its entry, for the return of the seat that it takes, and for the passes of
-/// the mount that it announces.
+/// the mount that it announces, beside what was promised to those who are open.
 pub(crate) fn make_room<P: Drop>(
+    opened: usize,
     entries: &mut Entries,
     spares: &mut Spares<P>,
 ) -> Result<(), AllocError>
-    requires { open_count entries.old.history + out_count spares.old.mounts ≤ entries.old.room }
-    ensures entries { OnOk result (open_count entries.new.history + out_count spares.new.mounts + 2 ≤ entries.new.room) }
+    requires { opened + out_count spares.old.mounts ≤ entries.old.room }
+    ensures entries { OnOk result (opened + out_count spares.new.mounts + 2 ≤ entries.new.room) }
     ensures spares { OnOk result (0 < spares.new.room) }
-    ensures history { entries.new.history ≡ entries.old.history }
+    ensures same { entries.new ≡ record entries.old { room = entries.new.room } }
     ensures mounts { spares.new.mounts ≡ spares.old.mounts }
     ensures kept { entries.old.room ≤ entries.new.room }
     ensures bounded { out_count spares.new.mounts < 2 ^ 63 }
 {
-    let promised = entries.open() + spares.count_out();
-    entries.reserve(promised + 2)?;
+    entries.reserve(opened, spares.count_out())?;
     spares.reserve()
 }
 

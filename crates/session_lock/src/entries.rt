@@ -1,104 +1,110 @@
 //! The history as it is written down.
-ghost use Rattle.std.specs.Prelude.{◌≡◌, ◌≤◌, ◌<◌, ◌+◌, ◌^◌, ◌∷◌, [], OnOk, MatchBool, length};
-ghost use Rattle.session_state.specs.History.{accepts, how_many};
-ghost use Rattle.session_state.specs.Legal.{Comes};
-ghost use Rattle.session_state.specs.Lookups.{came, open_count};
-ghost use Rattle.session_state.specs.Methods.{is_announce};
-ghost use Rattle.session_lock.specs.Entries.{method_accepted};
+ghost use Rattle.std.specs.Prelude.{◌≡◌, ◌≤◌, ◌<◌, ◌+◌, ◌^◌, [], None, Some, IfOk, OnOk, length, take, reverse, nat_le, if◌then◌else◌};
+ghost use Rattle.session_lock.specs.Entries.{Adds, method_accepted};
 
+use crate::chronicle::Chronicle;
 use rtsp_message::{Reply, Request};
-use session_state::{Entry, MAX_CONNECTIONS, Method, read_method};
+use session_state::{Entry, Method, World, read_method};
 use std::alloc::{AllocError, Global};
 use std::marker::Model;
 
-/// The history as it is written down, and what is counted of it.
+/// The history as it is written down: its newest entries, and the world that those before them led to.
 #[derive(Drop)]
 pub(crate) struct Entries {
+    // How many entries are kept, or more, when all are cut off before the next one.
+    cut: usize,
+    base: World,
     // The newest entry is the last.
     entries: Vec<Entry>,
-    came: u64,
-    gone: u64,
-    announced: u64,
+    history: Chronicle<Entry>,
 }
 
 impl Model for Entries {
-    ghost use Rattle.std.specs.Prelude.{◌-◌, reverse, vec_capacity, vec_len};
-    ghost use Rattle.session_lock.specs.Entries.{IsCounted, Written};
+    ghost use Rattle.std.specs.Prelude.{◌-◌, length, vec_capacity, vec_len};
+    ghost use Rattle.session_lock.specs.Entries.{AreNewest, Written};
 
     ghost Value = { Written };
 
-    ghost view = { λ e. record { history = reverse e.entries.items; room = vec_capacity e.entries - vec_len e.entries } };
+    ghost view = { λ e. record { history = e.history.items; cut = e.cut; kept = length e.entries.items; base = e.base; room = vec_capacity e.entries - vec_len e.entries } };
 
-    ghost invariant = { λ e. IsCounted (reverse e.entries.items) e.came e.gone e.announced };
+    ghost invariant = { λ e. AreNewest e.entries.items e.history.items };
 }
 
 impl Entries {
     /// Nothing has happened. Takes no memory.
-    pub(crate) fn new(alloc: Global) -> Entries
-        ensures { result.history ≡ [] }
+    pub(crate) fn new(alloc: Global, cut: usize, base: World) -> Entries
+        ensures history { result.history ≡ [] }
+        ensures kept { result.kept ≡ 0 }
+        ensures base { result.base ≡ base }
+        ensures cut { result.cut ≡ cut }
     {
         Entries {
+            cut,
+            base,
             entries: Vec::new(alloc),
-            came: 0,
-            gone: 0,
-            announced: 0,
+            history: Chronicle::new(),
         }
     }
 
-    /// How many entries there are.
-    pub(crate) fn len(&self) -> usize
-        ensures { result ≡ length self.now.history }
+    /// How many entries are kept.
+    pub(crate) fn kept(&self) -> usize
+        ensures count { result ≡ self.now.kept }
+        ensures few { result ≤ length self.now.history }
     {
         self.entries.len()
     }
 
-    /// How many connections are open.
-    pub(crate) fn open(&self) -> usize
-        ensures count { result ≡ open_count self.now.history }
-        ensures bounded { self.now.room < 2 ^ 63 }
+    /// The entries that are kept, the newest last.
+    pub(crate) fn newest(&self) -> &[Entry]
+        ensures { take self.now.kept self.now.history ≡ reverse result.now }
     {
-        self.came.saturating_sub(self.gone) as usize
+        self.entries.as_slice()
     }
 
-    /// Whether one more connection may come.
-    pub(crate) fn may_come(&self) -> bool
-        ensures { MatchBool result (Comes self.now.history (came self.now.history + 1)) (Comes self.now.history (came self.now.history + 1) → ⊥) }
+    /// The world that the entries before those that are kept led to.
+    pub(crate) fn base(&self) -> &World
+        ensures { result.now ≡ self.now.base }
     {
-        self.open() < MAX_CONNECTIONS && self.came < 1 << 63
+        &self.base
     }
 
-    /// How many mounts have been announced.
-    pub(crate) fn announced(&self) -> u64
-        ensures { result ≡ how_many (accepts is_announce) self.now.history }
+    /// A copy of the world as it stands now, where all entries are cut off before the next one: it is their new base.
+    pub(crate) fn next_base(
+        &self,
+        alloc: Global,
+        world: &World,
+    ) -> Result<Option<World>, AllocError>
+        ensures { IfOk result (λ next. next ≡ (if nat_le self.now.cut self.now.kept then Some world.now else None)) }
     {
-        self.announced
-    }
-
-    /// Makes room for so many entries more.
-    pub(crate) fn reserve(&mut self, count: usize) -> Result<(), AllocError>
-        ensures ok { OnOk result (count ≤ self.new.room) }
-        ensures kept { self.new.history ≡ self.old.history }
-        ensures room { self.old.room ≤ self.new.room }
-    {
-        self.entries.reserve(count)
-    }
-
-    /// Writes an entry down, in room that was made for it. Takes no memory.
-    pub(crate) fn add(&mut self, entry: Entry)
-        requires { 0 < self.old.room }
-        ensures history { self.new.history ≡ entry ∷ self.old.history }
-        ensures room { self.old.room ≤ self.new.room + 1 }
-    {
-        match &entry {
-            Entry::Connect(_) => self.came += 1,
-            Entry::HangUp { .. } => self.gone += 1,
-            Entry::Request { request, reply, .. } => {
-                if accepted_method(request, reply) == Some(Method::Announce) {
-                    self.announced += 1;
-                }
-            }
-            Entry::Back { .. } => {}
+        if self.entries.len() < self.cut {
+            return Ok(None);
         }
+        Ok(Some(world.copy(alloc)?))
+    }
+
+    /// Makes room for two entries more than it was promised for: for the hang-ups of those that are open, and for the
+    /// returns of the seats that are out.
+    pub(crate) fn reserve(&mut self, opened: usize, out: usize) -> Result<(), AllocError>
+        requires { opened + out ≤ self.old.room }
+        ensures ok { OnOk result (opened + out + 2 ≤ self.new.room) }
+        ensures kept { self.new ≡ record self.old { room = self.new.room } }
+        ensures more { self.old.room ≤ self.new.room }
+        ensures bounded { self.new.room < 2 ^ 63 }
+    {
+        self.entries.reserve(opened + out + 2)
+    }
+
+    /// Writes an entry down, in room that was made for it; where a new base is given, all entries before it are cut off
+    /// first. The room stays. Takes no memory.
+    pub(crate) fn add(&mut self, next: Option<World>, entry: Entry)
+        requires { 0 < self.old.room }
+        ensures { Adds next entry self.old self.new }
+    {
+        if let Some(base) = next {
+            self.base = base;
+            self.entries.clear();
+        }
+        self.history = self.history.and(&entry);
         self.entries.push(entry).unwrap();
     }
 }

@@ -3,6 +3,7 @@
 
 mod answer;
 mod book;
+mod chronicle;
 mod copies;
 mod entries;
 mod passes;

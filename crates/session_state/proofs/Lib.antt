@@ -35,3 +35,4 @@ pub mod CheckedPlay
 pub mod CheckedMethods
 pub mod CheckedWorld
 pub mod OneReply
+pub mod Copying

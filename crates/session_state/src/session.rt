@@ -1,6 +1,8 @@
 //! Sessions (RFC 2326, 3.4 and A.2).
+ghost use Rattle.std.specs.Prelude.{◌≡◌, IfOk};
 
 use base_syntax::Bytes;
+use std::alloc::{AllocError, Global};
 use transport_header::TrackChannels;
 
 /// The state of a session (RFC 2326, A.2). A connection without a session is in Init.
@@ -28,4 +30,34 @@ pub struct Session {
     /// The channels of the tracks that are set up.
     pub channels: TrackChannels,
     pub state: State,
+}
+
+impl Session {
+    /// A copy, or want of memory.
+    fn copy(&self, alloc: Global) -> Result<Session, AllocError>
+        ensures { IfOk result (λ copied. copied ≡ self.now) }
+    {
+        Ok(Session {
+            number: self.number,
+            word: self.word,
+            mount: self.mount,
+            name: Bytes::from_slice(alloc, self.name.as_slice())?,
+            recording: self.recording,
+            channels: self.channels.copy(),
+            state: self.state,
+        })
+    }
+}
+
+/// A copy of a connection's session, where it has one.
+pub(crate) fn copy_session(
+    alloc: Global,
+    session: &Option<Session>,
+) -> Result<Option<Session>, AllocError>
+    ensures { IfOk result (λ copied. copied ≡ session.now) }
+{
+    match session {
+        Some(session) => Ok(Some(session.copy(alloc)?)),
+        None => Ok(None),
+    }
 }

@@ -1,10 +1,10 @@
 //! What a server remembers to decide.
-ghost use Rattle.std.specs.Prelude.{◌≡◌, ◌≤◌, ◌+◌, ◌∷◌, [], true, false, MatchBool, IfOk, OnErr, IfErr, List};
+ghost use Rattle.std.specs.Prelude.{◌≡◌, ◌≤◌, ◌<◌, ◌+◌, ◌^◌, ◌∷◌, [], true, false, length, MatchBool, IfOk, OnErr, IfErr, List};
 
 use crate::act::Act;
 use crate::fault::ConnectFault;
 use crate::given::Given;
-use crate::session::{Session, State};
+use crate::session::{Session, State, copy_session};
 use mounts::Mounts;
 use rtsp_message::{Reply, Request};
 use std::alloc::{AllocError, Global};
@@ -41,9 +41,10 @@ impl World {
     ghost use Rattle.std.specs.Option.{option_copied, option_map};
     ghost use Rattle.std.specs.Prelude.{IsSome};
     ghost use Rattle.session_state.specs.declared.fault.ConnectFault.TheVariants.{Full, OutOfMemory};
-    ghost use Rattle.session_state.specs.History.{History};
+    ghost use Rattle.session_state.specs.History.{History, accepts, how_many};
     ghost use Rattle.session_state.specs.Legal.{Comes, IsBack, IsHangUp, IsLegal, IsReplyOf};
-    ghost use Rattle.session_state.specs.Lookups.{came, is_open};
+    ghost use Rattle.session_state.specs.Lookups.{came, is_open, open_count};
+    ghost use Rattle.session_state.specs.Methods.{is_announce};
     ghost use Rattle.session_state.specs.Stands.{Stands, kept_of, session_kept};
 
     /// The opening world: nobody has come yet. Each mount that is announced has so many seats. Takes no memory.
@@ -58,6 +59,42 @@ impl World {
             came: 0,
             begun: 0,
         }
+    }
+
+    /// A copy, or want of memory: of at most `MAX_CONNECTIONS` sessions and of the table of mounts, whose descriptions are
+    /// shared.
+    pub fn copy(&self, alloc: Global) -> Result<World, AllocError>
+        ensures { IfOk result (λ copied. copied ≡ self.now) }
+    {
+        Ok(World {
+            mounts: self.mounts.copy()?,
+            connections: copy_connections(alloc, &self.connections)?,
+            came: self.came,
+            begun: self.begun,
+        })
+    }
+
+    /// How many connections are open.
+    pub fn count_open(&self) -> usize
+        ensures { (history : History) → Stands history self.now → result ≡ open_count history }
+    {
+        self.connections.len()
+    }
+
+    /// Whether one more connection may come: fewer than `MAX_CONNECTIONS` are open, and a number up to 2^63 is left.
+    pub fn may_come(&self) -> bool
+        ensures comes { (history : History) → Stands history self.now → MatchBool result (Comes history (came history + 1)) (Comes history (came history + 1) → ⊥) }
+        ensures few { result ≡ true → length self.now.connections < 1024 }
+        ensures left { result ≡ true → self.now.came < 2 ^ 63 }
+    {
+        self.connections.len() < MAX_CONNECTIONS && self.came < 1 << 63
+    }
+
+    /// The number of the mount that is announced next.
+    pub fn next_mount(&self) -> u64
+        ensures { (history : History) → Stands history self.now → result ≡ how_many (accepts is_announce) history + 1 }
+    {
+        self.mounts.next_number()
     }
 
     /// Whether a connection is open. Looks it up by its number, in a B-tree.
@@ -79,7 +116,7 @@ impl World {
         ensures err { OnErr result (self.new ≡ self.old) }
         ensures seats { self.new.mounts.seats ≡ self.old.mounts.seats }
     {
-        if self.connections.len() >= MAX_CONNECTIONS || self.came >= 1 << 63 {
+        if !self.may_come() {
             return Err(ConnectFault::Full);
         }
         let number = self.came + 1;
@@ -170,6 +207,20 @@ impl World {
     {
         self.mounts.give_back(mount, seat)
     }
+}
+
+/// A copy of the open connections with their sessions.
+fn copy_connections(
+    alloc: Global,
+    connections: &BTreeMap<u64, Option<Session>>,
+) -> Result<BTreeMap<u64, Option<Session>>, AllocError>
+    ensures { IfOk result (λ copied. copied.entries ≡ connections.now.entries) }
+{
+    let mut copied = BTreeMap::new(alloc);
+    for (conn, session) in connections {
+        copied.insert(*conn, copy_session(alloc, session)?)?;
+    }
+    Ok(copied)
 }
 
 ghost use Rattle.std.specs.Option.{option_copied};

@@ -79,6 +79,18 @@ pub(crate) fn is_accepted<P: Drop>(
     accepted(book, alloc, conn, text, offer).is_some()
 }
 
+/// The status of the answer to a request, whatever the book keeps of it.
+pub(crate) fn status_of<P: Drop>(
+    book: &mut Book<P>,
+    alloc: Global,
+    conn: u64,
+    text: &[u8],
+) -> Option<u16> {
+    let request = request_of(alloc, text)?;
+    let answer = book.ask(conn, &request, &given_word(alloc, 7), None).ok()?;
+    Some(answer.reply.status.code())
+}
+
 /// How many passes there are.
 pub(crate) fn count_of<P>(passes: &Option<Vec<P>>) -> usize {
     match passes {

@@ -1,5 +1,5 @@
-//! Books of many connections and many requests.
-use crate::asking::{connects, is_accepted};
+//! Books of many connections and many requests, and what they keep of them.
+use crate::asking::{connects, is_accepted, status_of};
 use session_lock::{AskFault, Book};
 use session_state::{Act, ConnectFault};
 use std::collections::hash_map::RandomState;
@@ -19,7 +19,8 @@ fn who_hangs_up_gives_room_to_others(rt: HostRuntime) -> Result<(), Fail> {
         assert!(rt; book.connect() == Ok(IN_TURN + number));
     }
     assert!(rt; book.connect() == Err(ConnectFault::Full));
-    assert!(rt; book.kept() == 2 * 5000 + 1024);
+    // Before the 2,049th and the 4,097th there were 4,096.
+    assert!(rt; book.kept() == 2 * (5000 - 4096) + 1024);
     Ok(())
 }
 
@@ -49,6 +50,25 @@ fn many_requests_are_answered(rt: HostRuntime) -> Result<(), Fail> {
         assert!(rt; is_accepted(&mut book, alloc, 1, OPTIONS, None));
     }
     assert!(rt; book.kept() == MANY + 1);
+    Ok(())
+}
+
+#[test]
+fn comings_and_requests_cut_the_entries_off(rt: HostRuntime) -> Result<(), Fail> {
+    let alloc = rt.alloc();
+    let mut book: Book<u16> = Book::with_cut(alloc, 1, RandomState::new(&rt)?, 2);
+    for kept in [1, 2, 1] {
+        assert!(rt; book.connect().is_ok());
+        assert!(rt; book.kept() == kept);
+    }
+    // It stood at the base.
+    assert!(rt; book.base().is_open(2) && !book.base().is_open(3));
+    assert!(rt; book.hangup(2) == Act::None && book.kept() == 2);
+    assert!(rt; book.hangup(1) == Act::None && book.kept() == 3);
+    assert!(rt; book.base().is_open(2));
+    assert!(rt; status_of(&mut book, alloc, 3, OPTIONS) == Some(200) && book.kept() == 1);
+    assert!(rt; !book.base().is_open(2) && book.base().is_open(3));
+    assert!(rt; book.connect() == Ok(4) && book.kept() == 2);
     Ok(())
 }
 

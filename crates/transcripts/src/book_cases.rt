@@ -3,6 +3,7 @@
 use crate::arguments::{Arguments, short_of};
 use crate::fault::Fault;
 use crate::told::Told;
+use crate::words::meaning;
 use base_syntax::{Items, cut, read_number};
 use rtsp_message::{Reader, Reply, Request, Unit, put_reply};
 use session_lock::{Answer, AskFault, Book};
@@ -14,13 +15,44 @@ use transport_header::Point;
 /// The most seats that a mount may have.
 const MOST_SEATS: u32 = 1024;
 
-/// A book and a world in which the same has happened.
+/// What a word of a book's case asks for.
+#[derive(Clone, Copy, Drop)]
+enum BookWord {
+    Seats,
+    Word,
+    Points,
+    Offer,
+    Connect,
+    Hangup,
+    Back,
+    Kept,
+    Open,
+    Mount,
+    State,
+}
+
+const WORDS: [(&str, BookWord); 11] = [
+    ("seats", BookWord::Seats),
+    ("word", BookWord::Word),
+    ("points", BookWord::Points),
+    ("offer", BookWord::Offer),
+    ("connect", BookWord::Connect),
+    ("hangup", BookWord::Hangup),
+    ("back", BookWord::Back),
+    ("kept", BookWord::Kept),
+    ("open", BookWord::Open),
+    ("mount", BookWord::Mount),
+    ("state", BookWord::State),
+];
+
+/// A book, one that keeps no more entries than it has to, and a world, in which the same has happened.
 #[derive(Drop)]
 pub struct BookCase {
     alloc: Global,
     hasher: RandomState,
     seats: usize,
     book: Book<u16>,
+    short: Book<u16>,
     world: World,
     /// What the following requests are decided with.
     given: Given,
@@ -38,6 +70,7 @@ impl BookCase {
             hasher,
             seats: 1,
             book: Book::new(alloc, 1, hasher),
+            short: Book::with_cut(alloc, 1, hasher, 1),
             world: World::new(alloc, 1, hasher),
             given: Given {
                 word: 7,
@@ -54,65 +87,58 @@ impl BookCase {
         arguments: &mut Arguments<'_>,
         told: &mut Told,
     ) -> Result<(), Fault> {
-        match word {
-            b"seats" => self.seat(arguments),
-            b"word" => {
+        match meaning(&WORDS, word).ok_or(Fault::UnknownWord)? {
+            BookWord::Seats => self.seat(arguments),
+            BookWord::Word => {
                 self.given.word = arguments.hex()?;
                 Ok(())
             }
-            b"points" => self.place(arguments),
-            b"offer" => {
+            BookWord::Points => self.place(arguments),
+            BookWord::Offer => {
                 self.offer = Some(arguments.number()?);
                 Ok(())
             }
-            b"connect" => self.connect(arguments.number_or(1)?, told),
-            b"hangup" => self.hangup(u64::from(arguments.number()?), told),
-            b"back" => self.give_back(arguments, told),
-            b"kept" => Ok(told.number(Some(self.book.kept() as u64))?),
-            _ => self.look_up(word, arguments, told),
-        }
-    }
-
-    /// Tells something of a connection.
-    fn look_up(
-        &self,
-        word: &[u8],
-        arguments: &mut Arguments<'_>,
-        told: &mut Told,
-    ) -> Result<(), Fault> {
-        match word {
-            b"open" | b"mount" | b"state" => {
+            BookWord::Connect => self.connect(arguments.number_or(1)?, told),
+            BookWord::Hangup => self.hangup(u64::from(arguments.number()?), told),
+            BookWord::Back => self.give_back(arguments, told),
+            BookWord::Kept => Ok(told.number(Some(self.book.kept() as u64))?),
+            word => {
                 let conn = u64::from(arguments.number()?);
                 Ok(self.tell_connection(word, conn, told)?)
             }
-            _ => Err(Fault::UnknownWord),
         }
     }
 
     /// Tells what a word asks of a connection.
-    fn tell_connection(&self, word: &[u8], conn: u64, told: &mut Told) -> Result<(), AllocError> {
+    fn tell_connection(
+        &self,
+        word: BookWord,
+        conn: u64,
+        told: &mut Told,
+    ) -> Result<(), AllocError> {
         let agrees = match word {
-            b"open" => {
+            BookWord::Open => {
                 let is_open = self.book.is_open(conn);
                 told.truth(is_open)?;
-                is_open == self.world.is_open(conn)
+                is_open == self.world.is_open(conn) && is_open == self.short.is_open(conn)
             }
-            b"mount" => {
+            BookWord::Mount => {
                 let mount = self.book.mount_of(conn);
                 told.number(mount)?;
-                mount == self.world.mount_of(conn)
+                mount == self.world.mount_of(conn) && mount == self.short.mount_of(conn)
             }
             _ => self.tell_state(conn, told)?,
         };
         tell_agreement(agrees, told)
     }
 
-    /// Tells the state of a connection's session. Whether it is the same in the book.
+    /// Tells the state of a connection's session. Whether it is the same in both books.
     fn tell_state(&self, conn: u64, told: &mut Told) -> Result<bool, AllocError> {
         let of_book = state_text(self.alloc, self.book.session_of(conn))?;
+        let of_short = state_text(self.alloc, self.short.session_of(conn))?;
         let of_world = state_text(self.alloc, self.world.session_of(conn))?;
         told.fact(of_world.as_bytes())?;
-        Ok(of_book.as_str() == of_world.as_str())
+        Ok(of_book.as_str() == of_world.as_str() && of_short.as_str() == of_world.as_str())
     }
 
     /// Begins anew, with so many seats a mount.
@@ -120,6 +146,7 @@ impl BookCase {
         let seats = arguments.number_to(MOST_SEATS)? as usize;
         self.seats = seats;
         self.book = Book::new(self.alloc, seats, self.hasher);
+        self.short = Book::with_cut(self.alloc, seats, self.hasher, 1);
         self.world = World::new(self.alloc, seats, self.hasher);
         Ok(())
     }
@@ -141,6 +168,7 @@ impl BookCase {
             let kept = self.book.kept();
             let came = connected(self.book.connect())?;
             tell_agreement(connected(self.world.connect())? == came, told)?;
+            tell_same(connected(self.short.connect())? == came, told)?;
             self.tell_rise(kept, usize::from(came.is_some()), told)?;
             last = came;
         }
@@ -157,6 +185,7 @@ impl BookCase {
         let act = self.book.hangup(conn);
         told.fact(act_text(self.alloc, act)?.as_bytes())?;
         tell_agreement(self.world.hangup(conn) == act, told)?;
+        tell_same(self.short.hangup(conn) == act, told)?;
         self.tell_rise(kept, usize::from(was_open), told)
     }
 
@@ -175,6 +204,7 @@ impl BookCase {
         }
         let taken = back.is_none();
         tell_agreement(self.world.back(mount, seat) == taken, told)?;
+        tell_same(self.short.give_back(mount, seat, pass) == back, told)?;
         self.tell_rise(kept, usize::from(taken), told)
     }
 
@@ -187,13 +217,39 @@ impl BookCase {
     /// Asks what a request says, for a connection.
     fn ask_request(&mut self, conn: u64, request: &Request, told: &mut Told) -> Result<(), Fault> {
         let offer = self.next_offer(request)?;
+        let of_short = self.asked_short(conn, request, &offer)?;
         let kept = self.book.kept();
-        let (rise, is_told) = match self.book.ask(conn, request, &self.given, offer) {
+        let asked = self.book.ask(conn, request, &self.given, offer);
+        tell_same(
+            of_short.as_slice() == outcome(self.alloc, &asked)?.as_slice(),
+            told,
+        )?;
+        let (rise, is_told) = match asked {
             Ok(answer) => (1, self.tell_answer(conn, request, &answer, told)),
             Err(fault) => (0, tell_refusal(self.alloc, &fault, told)),
         };
         is_told?;
         self.tell_rise(kept, rise, told)
+    }
+
+    /// What the book that keeps few entries answers to a request, with the same offer. Where it adds an entry, this is the
+    /// only one.
+    fn asked_short(
+        &mut self,
+        conn: u64,
+        request: &Request,
+        offer: &Option<Vec<u16>>,
+    ) -> Result<Vec<u8>, Fault> {
+        let offer = match offer {
+            Some(passes) => Some(Vec::from_slice(self.alloc, passes.as_slice())?),
+            None => None,
+        };
+        let asked = self.short.ask(conn, request, &self.given, offer);
+        let mut text = outcome(self.alloc, &asked)?;
+        if asked.is_ok() && self.short.kept() != 1 {
+            text.clear();
+        }
+        Ok(text)
     }
 
     /// Tells what the book answers to a request, and where the world answers it otherwise.
@@ -264,6 +320,15 @@ fn tell_agreement(agrees: bool, told: &mut Told) -> Result<(), AllocError> {
     }
 }
 
+/// Tells where the book that keeps few entries told something else.
+fn tell_same(is_same: bool, told: &mut Told) -> Result<(), AllocError> {
+    if is_same {
+        Ok(())
+    } else {
+        told.fact(b"short book differs")
+    }
+}
+
 /// The number of a connection that came. `None` where there are too many.
 fn connected(came: Result<u64, ConnectFault>) -> Result<Option<u64>, Fault> {
     match came {
@@ -325,6 +390,19 @@ fn answer_text(alloc: Global, answer: &Answer<u16>) -> Result<String, AllocError
         text.push_str(format!(in alloc; " pass {pass}")?.as_str())?;
     }
     push_back(&mut text, alloc, &answer.back)?;
+    Ok(text)
+}
+
+/// All that a request is answered: the reply, the act and the passes, or why there is none.
+fn outcome(alloc: Global, asked: &Result<Answer<u16>, AskFault<u16>>) -> Result<Vec<u8>, Fault> {
+    let mut text = Vec::new(alloc);
+    match asked {
+        Ok(answer) => {
+            put_reply(&mut text, &answer.reply)?;
+            text.extend_from_slice(answer_text(alloc, answer)?.as_bytes())?;
+        }
+        Err(fault) => text.extend_from_slice(refusal_text(alloc, fault)?.as_bytes())?,
+    }
     Ok(text)
 }
 

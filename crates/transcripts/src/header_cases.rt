@@ -5,12 +5,44 @@ use crate::escapes::resolved;
 use crate::fault::Fault;
 use crate::told::Told;
 use crate::track_cases::call_tracks;
+use crate::words::meaning;
 use base_syntax::{Bytes, read_number};
 use std::alloc::{AllocError, Global};
 use transport_header::{
     ChannelPair, Channels, Chosen, InfoEntry, Mode, Protocol, Spec, TrackChannels, choose,
     put_rtp_info, put_session, put_transport, read_session, read_transport,
 };
+
+/// What a word of a header's case asks for.
+#[derive(Clone, Copy, Drop)]
+enum HeaderWord {
+    Used,
+    Free,
+    Text(TextWord),
+    Transport,
+    Identifier,
+    RtpInfo,
+}
+
+/// What is asked of the text of a header.
+#[derive(Clone, Copy, Drop)]
+enum TextWord {
+    Read,
+    Choose,
+    Session,
+}
+
+/// The words of a header's case, but those over tracks.
+const WORDS: [(&str, HeaderWord); 8] = [
+    ("used", HeaderWord::Used),
+    ("free", HeaderWord::Free),
+    ("read", HeaderWord::Text(TextWord::Read)),
+    ("choose", HeaderWord::Text(TextWord::Choose)),
+    ("session", HeaderWord::Text(TextWord::Session)),
+    ("transport", HeaderWord::Transport),
+    ("identifier", HeaderWord::Identifier),
+    ("rtp-info", HeaderWord::RtpInfo),
+];
 
 /// The channels that are in use, and those of a session's tracks.
 #[derive(Drop)]
@@ -34,17 +66,17 @@ impl HeaderCase {
         arguments: &mut Arguments<'_>,
         told: &mut Told,
     ) -> Result<(), Fault> {
-        match word {
-            b"used" => self.set_used(&arguments.words(told.alloc())?),
-            b"free" => Ok(self.tell_free(told)?),
-            b"read" | b"choose" | b"session" => {
+        match meaning(&WORDS, word) {
+            Some(HeaderWord::Used) => self.set_used(&arguments.words(told.alloc())?),
+            Some(HeaderWord::Free) => Ok(self.tell_free(told)?),
+            Some(HeaderWord::Text(word)) => {
                 let text = arguments.text(told.alloc())?;
                 self.tell_text(word, &text, told)
             }
-            b"transport" => tell_transport(arguments, told),
-            b"identifier" => tell_identifier(arguments, told),
-            b"rtp-info" => tell_rtp_info(arguments, told),
-            _ => call_tracks(&mut self.tracks, word, arguments, told),
+            Some(HeaderWord::Transport) => tell_transport(arguments, told),
+            Some(HeaderWord::Identifier) => tell_identifier(arguments, told),
+            Some(HeaderWord::RtpInfo) => tell_rtp_info(arguments, told),
+            None => call_tracks(&mut self.tracks, word, arguments, told),
         }
     }
 
@@ -55,11 +87,11 @@ impl HeaderCase {
     }
 
     /// Tells what a word asks of the text of a header.
-    fn tell_text(&self, word: &[u8], text: &[u8], told: &mut Told) -> Result<(), Fault> {
+    fn tell_text(&self, word: TextWord, text: &[u8], told: &mut Told) -> Result<(), Fault> {
         match word {
-            b"read" => tell_specs(text, told),
-            b"choose" => self.tell_choice(text, told),
-            _ => Ok(told.fact(read_session(text))?),
+            TextWord::Read => tell_specs(text, told),
+            TextWord::Choose => self.tell_choice(text, told),
+            TextWord::Session => Ok(told.fact(read_session(text))?),
         }
     }
 

@@ -4,8 +4,49 @@ ghost use Rattle.cursor.specs.Plain.{IsAttached};
 use crate::arguments::Arguments;
 use crate::fault::Fault;
 use crate::told::Told;
+use crate::words::meaning;
 use cursor::{Account, Left, Packet, PlainLog, PlainTap, Refused, Taken, pump};
 use std::alloc::{AllocError, Global};
+
+/// What a word of a log's case asks for.
+#[derive(Clone, Copy, Drop)]
+enum LogWord {
+    Log,
+    Pump,
+    Publish,
+    Many,
+    Close,
+    Closed,
+    Seat(SeatWord),
+}
+
+/// What is asked of a seat.
+#[derive(Clone, Copy, Drop)]
+enum SeatWord {
+    Attached,
+    Free,
+    Attach,
+    Take,
+    Detach,
+    Cursor,
+    Account,
+}
+
+const WORDS: [(&str, LogWord); 13] = [
+    ("log", LogWord::Log),
+    ("pump", LogWord::Pump),
+    ("publish", LogWord::Publish),
+    ("many", LogWord::Many),
+    ("close", LogWord::Close),
+    ("closed", LogWord::Closed),
+    ("attached", LogWord::Seat(SeatWord::Attached)),
+    ("free", LogWord::Seat(SeatWord::Free)),
+    ("attach", LogWord::Seat(SeatWord::Attach)),
+    ("take", LogWord::Seat(SeatWord::Take)),
+    ("detach", LogWord::Seat(SeatWord::Detach)),
+    ("cursor", LogWord::Seat(SeatWord::Cursor)),
+    ("account", LogWord::Seat(SeatWord::Account)),
+];
 
 /// A log, once one was made.
 #[derive(Drop)]
@@ -25,10 +66,10 @@ impl LogCase {
         arguments: &mut Arguments<'_>,
         told: &mut Told,
     ) -> Result<(), Fault> {
-        match word {
-            b"log" => self.make(told.alloc(), arguments),
-            b"pump" => self.pump(arguments, told),
-            _ => match &mut self.log {
+        match meaning(&WORDS, word).ok_or(Fault::UnknownWord)? {
+            LogWord::Log => self.make(told.alloc(), arguments),
+            LogWord::Pump => self.pump(arguments, told),
+            word => match &mut self.log {
                 Some(log) => call_log(log, word, arguments, told),
                 None => Err(Fault::NoLog),
             },
@@ -60,45 +101,54 @@ impl LogCase {
 
 fn call_log(
     log: &mut PlainLog,
-    word: &[u8],
+    word: LogWord,
     arguments: &mut Arguments<'_>,
     told: &mut Told,
 ) -> Result<(), Fault> {
     match word {
-        b"publish" => publish(log, 1, arguments, told),
-        b"many" => {
+        LogWord::Publish => publish(log, 1, arguments, told),
+        LogWord::Many => {
             let count = arguments.number()?;
             publish(log, count, arguments, told)
         }
-        b"close" => Ok(close(log, told)?),
-        b"closed" => Ok(told.truth(log.is_closed())?),
-        _ if is_of_seat(word) => call_seat(log, word, arguments.short()?, told),
-        _ => Err(Fault::UnknownWord),
+        LogWord::Close => Ok(close(log, told)?),
+        LogWord::Closed => Ok(told.truth(log.is_closed())?),
+        LogWord::Seat(word) => Ok(call_seat(log, word, arguments.short()?, told)?),
+        LogWord::Log | LogWord::Pump => Err(Fault::UnknownWord),
     }
 }
 
-/// Whether a word calls something over a seat.
-fn is_of_seat(word: &[u8]) -> bool {
-    matches!(
-        word,
-        b"attached" | b"free" | b"attach" | b"take" | b"detach" | b"cursor" | b"account"
-    )
+/// A call over a seat.
+fn call_seat(
+    log: &mut PlainLog,
+    word: SeatWord,
+    seat: u16,
+    told: &mut Told,
+) -> Result<(), AllocError> {
+    match word {
+        SeatWord::Attached => told.truth(log.is_attached(seat)),
+        SeatWord::Free => told.truth(log.is_free(seat)),
+        SeatWord::Attach => attach(log, seat, told),
+        _ if log.is_attached(seat) => call_attached(log, word, seat, told),
+        _ => told.fact(b"no"),
+    }
 }
 
-/// A call over a seat.
-fn call_seat(log: &mut PlainLog, word: &[u8], seat: u16, told: &mut Told) -> Result<(), Fault> {
-    let is_told = match word {
-        b"attached" => told.truth(log.is_attached(seat)),
-        b"free" => told.truth(log.is_free(seat)),
-        b"attach" => attach(log, seat, told),
-        _ if !log.is_attached(seat) => told.fact(b"no"),
-        b"take" => take(log, seat, told),
-        b"detach" => tell_left(log.detach(seat), told),
-        b"cursor" => told.number(Some(log.account(seat).cursor())),
-        b"account" => tell_account(log.account(seat), told),
-        _ => return Err(Fault::UnknownWord),
-    };
-    Ok(is_told?)
+/// A call over a seat that is attached.
+fn call_attached(
+    log: &mut PlainLog,
+    word: SeatWord,
+    seat: u16,
+    told: &mut Told,
+) -> Result<(), AllocError>
+    requires { IsAttached log.old seat }
+{
+    match word {
+        SeatWord::Take => take(log, seat, told),
+        SeatWord::Detach => tell_left(log.detach(seat), told),
+        SeatWord::Cursor => told.number(Some(log.account(seat).cursor())),
+        _ => tell_account(log.account(seat), told),
+    }
 }
 
 fn tell_left(left: Left, told: &mut Told) -> Result<(), AllocError> {

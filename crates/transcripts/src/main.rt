@@ -23,6 +23,7 @@ mod subject;
 mod told;
 mod track_cases;
 mod uri_cases;
+mod words;
 
 use fault::Fault;
 use running::{Outcome, outcome_of};

@@ -4,6 +4,7 @@ use crate::arguments::Arguments;
 use crate::fault::Fault;
 use crate::told::Told;
 use crate::uri_cases::call_uris;
+use crate::words::meaning;
 use mounts::{
     MAX_SEATS, Mount, Mounts, Target, Uri, UriFault, ends_in_track, is_name, read_uri, rest_after,
 };
@@ -13,6 +14,41 @@ use std::collections::hash_map::RandomState;
 
 /// The description that mounts have where none is told.
 const ONE_TRACK: &[u8] = b"v=0\r\nm=video 0 RTP/AVP 96\r\n";
+
+/// What a word of a case of mounts asks for.
+#[derive(Clone, Copy, Drop)]
+enum MountWord {
+    Seats,
+    Announce,
+    EndMount,
+    Take,
+    Back,
+    BackAll,
+    Find,
+    Owned,
+    Numbered,
+    SeatsOf,
+    Live,
+    Room,
+    Track,
+}
+
+/// The words of a case of mounts, but those over URIs.
+const WORDS: [(&str, MountWord); 13] = [
+    ("seats", MountWord::Seats),
+    ("announce", MountWord::Announce),
+    ("end-mount", MountWord::EndMount),
+    ("take", MountWord::Take),
+    ("back", MountWord::Back),
+    ("back-all", MountWord::BackAll),
+    ("find", MountWord::Find),
+    ("owned", MountWord::Owned),
+    ("numbered", MountWord::Numbered),
+    ("seats-of", MountWord::SeatsOf),
+    ("live", MountWord::Live),
+    ("room", MountWord::Room),
+    ("track", MountWord::Track),
+];
 
 /// A table of mounts.
 #[derive(Drop)]
@@ -47,43 +83,45 @@ impl MountCase {
         arguments: &mut Arguments<'_>,
         told: &mut Told,
     ) -> Result<(), Fault> {
-        match word {
-            b"seats" => {
-                let seats = arguments.number_to(1024)? as usize;
-                self.mounts = Mounts::new(self.alloc, seats, self.hasher);
-                Ok(())
-            }
-            b"announce" => self.call_announce(arguments, told),
-            b"end-mount" | b"take" | b"back" | b"back-all" => {
-                let number = u64::from(arguments.number()?);
-                self.call_mount(word, number, arguments, told)
-            }
-            _ => self.look_up(word, arguments, told),
+        match meaning(&WORDS, word) {
+            Some(word) => self.call_mounts(word, arguments, told),
+            None => call_uris(word, arguments, told),
         }
     }
 
-    /// Calls what a word names, of the mount with this number.
-    fn call_mount(
+    /// Calls what a word names, of the table or of a mount.
+    fn call_mounts(
         &mut self,
-        word: &[u8],
-        number: u64,
+        word: MountWord,
         arguments: &mut Arguments<'_>,
         told: &mut Told,
     ) -> Result<(), Fault> {
         match word {
-            b"take" => {
+            MountWord::Seats => {
+                let seats = arguments.number_to(1024)? as usize;
+                self.mounts = Mounts::new(self.alloc, seats, self.hasher);
+                Ok(())
+            }
+            MountWord::Announce => self.call_announce(arguments, told),
+            MountWord::EndMount => {
+                self.mounts.end(u64::from(arguments.number()?));
+                Ok(())
+            }
+            MountWord::Take => {
+                let number = u64::from(arguments.number()?);
                 let times = arguments.number_or(1)?;
                 Ok(self.take_seats(number, times, told)?)
             }
-            b"back" => {
+            MountWord::Back => {
+                let number = u64::from(arguments.number()?);
                 let seat = arguments.number()? as usize;
                 Ok(told.truth(self.mounts.give_back(number, seat))?)
             }
-            b"back-all" => Ok(self.give_all_back(number, told)?),
-            _ => {
-                self.mounts.end(number);
-                Ok(())
+            MountWord::BackAll => {
+                let number = u64::from(arguments.number()?);
+                Ok(self.give_all_back(number, told)?)
             }
+            _ => self.look_up(word, arguments, told),
         }
     }
 
@@ -101,33 +139,37 @@ impl MountCase {
     /// Looks something up, which changes nothing.
     fn look_up(
         &self,
-        word: &[u8],
+        word: MountWord,
         arguments: &mut Arguments<'_>,
         told: &mut Told,
     ) -> Result<(), Fault> {
         match word {
-            b"find" => Ok(self.find(&arguments.text(self.alloc)?, told)?),
-            b"owned" | b"numbered" | b"seats-of" => {
+            MountWord::Find => Ok(self.find(&arguments.text(self.alloc)?, told)?),
+            MountWord::Live => Ok(self.tell_live(told)?),
+            MountWord::Room => Ok(told.truth(self.mounts.has_room())?),
+            MountWord::Track => self.call_track(arguments, told),
+            _ => {
                 let number = u64::from(arguments.number()?);
                 Ok(self.tell_numbered(word, number, told)?)
             }
-            b"live" => Ok(self.tell_live(told)?),
-            b"room" => Ok(told.truth(self.mounts.has_room())?),
-            b"track" => self.call_track(arguments, told),
-            _ => call_uris(word, arguments, told),
         }
     }
 
     /// Tells what a word asks of the mount of an owner, or of a mount with this number.
-    fn tell_numbered(&self, word: &[u8], number: u64, told: &mut Told) -> Result<(), AllocError> {
-        if word == b"owned".as_slice() {
+    fn tell_numbered(
+        &self,
+        word: MountWord,
+        number: u64,
+        told: &mut Told,
+    ) -> Result<(), AllocError> {
+        if let MountWord::Owned = word {
             let mount = self.mounts.owned_by(number);
             return told.number(mount.map(|mount| mount.number));
         }
-        match self.mounts.numbered(number) {
-            Some(mount) if word == b"seats-of".as_slice() => tell_seats(mount, told),
-            Some(mount) => told.fact(mount.name.as_slice()),
-            None => told.fact(b"none"),
+        match (word, self.mounts.numbered(number)) {
+            (MountWord::SeatsOf, Some(mount)) => tell_seats(mount, told),
+            (_, Some(mount)) => told.fact(mount.name.as_slice()),
+            (_, None) => told.fact(b"none"),
         }
     }
 

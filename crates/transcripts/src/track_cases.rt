@@ -4,8 +4,29 @@ use crate::arguments::Arguments;
 use crate::fault::Fault;
 use crate::header_cases::pair_text;
 use crate::told::Told;
+use crate::words::meaning;
 use std::alloc::AllocError;
 use transport_header::{ChannelPair, Channels, MOST_TRACKS, TrackChannels};
+
+/// What a word asks of the channels of tracks.
+#[derive(Clone, Copy, Drop)]
+enum TrackWord {
+    Set,
+    Remove,
+    Channel,
+    Tag,
+    Pair,
+    Others,
+}
+
+const WORDS: [(&str, TrackWord); 6] = [
+    ("set", TrackWord::Set),
+    ("remove", TrackWord::Remove),
+    ("channel", TrackWord::Channel),
+    ("tag", TrackWord::Tag),
+    ("pair", TrackWord::Pair),
+    ("others", TrackWord::Others),
+];
 
 /// Calls what a word names, of the channels of tracks.
 pub fn call_tracks(
@@ -14,53 +35,31 @@ pub fn call_tracks(
     arguments: &mut Arguments<'_>,
     told: &mut Told,
 ) -> Result<(), Fault> {
-    match word {
-        b"set" => set_up(tracks, arguments, told),
-        b"remove" => {
+    match meaning(&WORDS, word).ok_or(Fault::UnknownWord)? {
+        TrackWord::Set => set_up(tracks, arguments, told),
+        TrackWord::Remove => {
             let track = arguments.number()? as usize;
             if track < MOST_TRACKS {
                 tracks.remove(track);
             }
             Ok(())
         }
-        b"channel" | b"tag" => {
-            let byte = arguments.byte()?;
-            Ok(tell_byte(tracks, word, byte, told)?)
+        TrackWord::Channel => {
+            let channel = tracks.channel_of(arguments.byte()?);
+            Ok(told.number(channel.map(u64::from))?)
         }
-        b"pair" | b"others" => {
+        TrackWord::Tag => {
+            let tag = tracks.tag_on(arguments.byte()?);
+            Ok(told.number(tag.map(u64::from))?)
+        }
+        TrackWord::Pair => {
             let track = arguments.number()? as usize;
-            Ok(tell_track(tracks, word, track, told)?)
+            Ok(tell_pair(tracks.pair_of(track), told)?)
         }
-        _ => Err(Fault::UnknownWord),
-    }
-}
-
-/// Tells the channel of a tag, or the tag on a channel.
-fn tell_byte(
-    tracks: &TrackChannels,
-    word: &[u8],
-    byte: u8,
-    told: &mut Told,
-) -> Result<(), AllocError> {
-    let found = if word == b"tag".as_slice() {
-        tracks.tag_on(byte)
-    } else {
-        tracks.channel_of(byte)
-    };
-    told.number(found.map(u64::from))
-}
-
-/// Tells the channels of a track, or those of all others.
-fn tell_track(
-    tracks: &TrackChannels,
-    word: &[u8],
-    track: usize,
-    told: &mut Told,
-) -> Result<(), AllocError> {
-    if word == b"pair".as_slice() {
-        tell_pair(tracks.pair_of(track), told)
-    } else {
-        tell_channels(&tracks.others(track), told)
+        TrackWord::Others => {
+            let track = arguments.number()? as usize;
+            Ok(tell_channels(&tracks.others(track), told)?)
+        }
     }
 }
 

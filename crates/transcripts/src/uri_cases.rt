@@ -4,32 +4,57 @@ use crate::arguments::Arguments;
 use crate::escapes::resolved;
 use crate::fault::Fault;
 use crate::told::Told;
+use crate::words::meaning;
 use mounts::{
     Uri, UriFault, ends_in_track, is_name, read_uri, resource_text, rest_after, track_number,
 };
 
+/// What a word asks of URIs, paths and names.
+#[derive(Clone, Copy, Drop)]
+enum UriWord {
+    Text(TextWord),
+    Rest,
+    TrackNumber,
+}
+
+/// What is asked of one text.
+#[derive(Clone, Copy, Drop)]
+enum TextWord {
+    Uri,
+    Base,
+    Name,
+    EndsInTrack,
+}
+
+const WORDS: [(&str, UriWord); 6] = [
+    ("uri", UriWord::Text(TextWord::Uri)),
+    ("base", UriWord::Text(TextWord::Base)),
+    ("name", UriWord::Text(TextWord::Name)),
+    ("ends-in-track", UriWord::Text(TextWord::EndsInTrack)),
+    ("rest", UriWord::Rest),
+    ("track-number", UriWord::TrackNumber),
+];
+
 /// Calls what a word names, of URIs, paths and names.
 pub fn call_uris(word: &[u8], arguments: &mut Arguments<'_>, told: &mut Told) -> Result<(), Fault> {
-    match word {
-        b"uri" | b"base" | b"name" | b"ends-in-track" => {
+    match meaning(&WORDS, word).ok_or(Fault::UnknownWord)? {
+        UriWord::Text(word) => {
             let text = arguments.text(told.alloc())?;
             tell_text(word, &text, told)
         }
-        b"rest" => call_rest(arguments, told),
-        b"track-number" => call_track_number(arguments, told),
-        _ => Err(Fault::UnknownWord),
+        UriWord::Rest => call_rest(arguments, told),
+        UriWord::TrackNumber => call_track_number(arguments, told),
     }
 }
 
 /// Tells what a word asks of a text.
-fn tell_text(word: &[u8], text: &[u8], told: &mut Told) -> Result<(), Fault> {
-    let holds = match word {
-        b"uri" => return tell_uri(text, told),
-        b"base" => return tell_base(text, told),
-        b"name" => is_name(text),
-        _ => ends_in_track(text),
-    };
-    Ok(told.truth(holds)?)
+fn tell_text(word: TextWord, text: &[u8], told: &mut Told) -> Result<(), Fault> {
+    match word {
+        TextWord::Uri => tell_uri(text, told),
+        TextWord::Base => tell_base(text, told),
+        TextWord::Name => Ok(told.truth(is_name(text))?),
+        TextWord::EndsInTrack => Ok(told.truth(ends_in_track(text))?),
+    }
 }
 
 /// `rest NAME PATH`.

@@ -1,16 +1,11 @@
 //! How a connection's requests are decided.
 use super::Connection;
 use super::told::Told;
-use crate::bell::Bell;
 use crate::gate::Gate;
-use crate::maker::{Maker, Seat};
-use crate::notice::Notice;
-use crate::offers::{Busy, Offer};
-use crate::posting::Posting;
-use crate::socket::HangUp;
 use base_syntax::{Bytes, Items};
 use interleaved::Sink;
 use relay_accounts::Part;
+use relay_fanout::{Bell, Busy, HangUp, Maker, Notice, Offer, Posting, Seat};
 use rtsp_message::Request;
 use session_lock::{Answer, AskFault};
 use session_state::{Given, Method, Session, Words, read_method};

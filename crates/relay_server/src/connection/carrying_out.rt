@@ -1,12 +1,9 @@
 //! What is done for an answer, and how it is written.
 use super::Connection;
-use crate::frames::{Frames, TapPlace};
 use crate::gate::Gate;
-use crate::maker::{Maker, Seat};
-use crate::posting::Posting;
-use crate::socket::HangUp;
 use interleaved::Sink;
 use relay_accounts::{ConnectionEnd, FrameEnd};
+use relay_fanout::{Frames, HangUp, Maker, Posting, Seat, TapPlace};
 use rtsp_message::{Reply, Status, put_reply};
 use session_lock::Answer;
 use session_state::{Act, Words};
@@ -75,12 +72,12 @@ where
         let (Some(feed), Some(session)) = (&mut self.publishing, &self.session) else {
             return;
         };
-        if !feed.posted {
+        if !feed.is_posted() {
             let added = self
                 .shared
                 .board
                 .add(&self.rt, session.mount, feed.notice());
-            feed.posted = added.is_ok();
+            feed.set_posted(added.is_ok());
             self.mount = Some(session.mount);
         }
     }

@@ -5,11 +5,10 @@ ghost use Rattle.relay_accounts.specs.Incoming.{DropsFrames, PublishesFrames};
 
 use super::Connection;
 use crate::gate::Gate;
-use crate::maker::Maker;
-use crate::socket::HangUp;
 use interleaved::{Sink, Source};
 use publisher::InStop;
 use relay_accounts::{publish_frames, skip_frames};
+use relay_fanout::{HangUp, Maker};
 use rtsp_message::Intake;
 use session_state::Words;
 use std::sync::Wait;
@@ -28,7 +27,7 @@ where
 {
     /// The next request. Frames before it are published while the session records, and else dropped.
     pub(super) fn next_message<S: Source + Drop>(&mut self, intake: &mut Intake<S>) -> InStop
-        ensures published { IfSome self.old.session (λ told. told.recording ≡ true → IfSome self.old.publishing (λ feed. PublishesFrames S.incoming S.failed (λ old packet answer new. PublishesAtLast M.In.publish_gives old.feed packet answer new.feed) told.channels (M.In.packet_bytes feed.feed.feed) M.In.may_refuse intake.old intake.new feed self.new.publishing self.old.counts self.new.counts result)) }
+        ensures published { IfSome self.old.session (λ told. told.recording ≡ true → IfSome self.old.publishing (λ feed. PublishesFrames S.incoming S.failed (PublishesAtLast M.In.publish_gives) told.channels (M.In.packet_bytes feed.feed) M.In.may_refuse intake.old intake.new feed self.new.publishing self.old.counts self.new.counts result)) }
         ensures dropped { (IsSomeAnd self.old.session (λ told. told.recording ≡ true) → ⊥) → (self.new.publishing ≡ self.old.publishing) × DropsFrames S.incoming S.failed intake.old intake.new self.old.counts self.new.counts result }
     {
         match (&mut self.publishing, &self.session) {

@@ -1,25 +1,25 @@
-use Rattle.std.proofs.Common.{◌≡◌, ◌+◌, ◌∷◌, true, is_some, ap, sym, subst, ◌∙◌, arith}
+use Rattle.std.proofs.Common.{◌≡◌, ◌∷◌, nat_le, true, is_some, ap, sym, subst, ◌∙◌, arith}
 use Rattle.std.specs.Option.{option_map}
 use Rattle.session_state.specs.declared.entry.Entry.TheVariants.{Request}
 use Rattle.session_state.specs.Legal.{IsLegal, IsReplyOf}
-use Rattle.session_state.specs.Lookups.{is_open, open_count}
+use Rattle.session_state.specs.Lookups.{is_open}
 use Rattle.session_lock.specs.Books.{IsOffer}
+use Rattle.session_lock.specs.Entries.{Adds, Written}
 use Rattle.session_lock.specs.Requests.{CanBegin}
 use Rattle.session_lock.specs.Spares.{AreSpare, handed_out}
-use Rattle.session_lock.proofs.Requested.{can_begin, entered, kept_open, numbered, pass_comes, pass_so, requested, same_reply, settled_so}
+use Rattle.session_lock.proofs.Requested.{can_begin, entered, kept_open, pass_comes, pass_so, requested, same_reply, settled_so}
+use Rattle.session_lock.proofs.Standing.{roomier}
 use Rattle.session_lock.proofs.book.Book.call.Goals as goal
 
 pub settle-pass-requires-clause-begins : goal.settle-pass-requires-clause-begins
 settle-pass-requires-clause-begins g c named =
-    let tables = c.self.inside.world in
     let written = c.self.inside.entries in
-    let held = c.self.inside.spares in
     let kept = c.self.invariant in
     let legal = subst (λ n. IsLegal n written.history) (sym kept.seats_are) kept.legal in
     let replied = c.in-Ok-decide.ensures.ok written.history legal kept.stands in
     let follows = subst (λ n. IsReplyOf n written.history c.args.conn c.args.request.now c.args.given.now c.in-Ok-decide.reply c.in-Ok-decide.act) kept.seats_are replied.0 in
     let spare = subst (AreSpare c.self.inside.seats written.history) (sym c.make_room.ensures.mounts) kept.spare in
-    subst (CanBegin c.make_room.new.spares c.args.conn) (sym (numbered c.announced-number.result c.make_room.new.entries.history written.history c.announced-number.ensures c.make_room.ensures.history))
+    subst (CanBegin c.make_room.new.spares c.args.conn) (sym (c.next_mount-number.ensures written.history kept.stands))
     (can_begin c.args.conn c.args.request.now c.args.given.now c.in-Ok-decide.reply c.in-Ok-decide.act c.self.inside.seats written.history follows c.make_room.new.spares spare c.in-Ok-make_room.ensures.spares
     (sym c.accepted_method-method.ensures ∙ named))
 
@@ -27,33 +27,35 @@ pub invariant_of-self-2 : goal.invariant_of-self-2
 invariant_of-self-2 g c =
     let tables = c.self.inside.world in
     let written = c.self.inside.entries in
+    let roomy = c.make_room.new.entries in
     let held = c.self.inside.spares in
     let kept = c.self.invariant in
+    let more = roomier c.self.inside.seats tables written roomy held kept c.make_room.ensures.same c.make_room.ensures.kept in
+    let same = ap (λ (w : Written). w.history) c.make_room.ensures.same in
     let legal = subst (λ n. IsLegal n written.history) (sym kept.seats_are) kept.legal in
-    let replied = c.in-Ok-decide.ensures.ok written.history legal kept.stands in
+    let legal_now = subst (λ n. IsLegal n roomy.history) (sym more.seats_are) more.legal in
+    let replied = c.in-Ok-decide.ensures.ok roomy.history legal_now more.stands in
     let there = subst (λ now. is_open c.args.conn now.history ≡ true) (sym c.self.view_is) c.requires.open in
     let reply : c.in-Ok.copies.reply ≡ c.in-Ok-decide.reply =
     same_reply written.history tables c.args.conn c.args.request.now c.args.given.now c.in-Ok.copies.reply c.in-Ok-decide.reply legal kept.stands (kept_open written.history tables c.args.conn kept.stands there)
     (c.in-Ok.ensures.reply written.history legal kept.stands) (c.in-Ok-decide.ensures.reply written.history legal kept.stands) in
-    let is = c.add.ensures.history
-    ∙ entered c.into_entry.result c.make_room.new.entries.history written.history c.args.conn c.in-Ok.copies.request c.args.request.now c.in-Ok.copies.given c.args.given.now c.in-Ok.copies.reply c.in-Ok-decide.reply c.in-Ok-decide.act
-    c.into_entry.ensures c.in-Ok.ensures.request c.in-Ok.ensures.given reply c.make_room.ensures.history in
+    let is = entered c.into_entry.result c.args.conn c.in-Ok.copies.request c.args.request.now c.in-Ok.copies.given c.args.given.now c.in-Ok.copies.reply c.in-Ok-decide.reply c.in-Ok-decide.act
+    c.into_entry.ensures c.in-Ok.ensures.request c.in-Ok.ensures.given reply in
+    let adds = subst (λ entry. Adds c.in-Ok-next_base.next entry roomy c.add.new.self) is c.add.ensures in
     let offered = subst (λ now. IsOffer now.seats c.args.request.now.method (option_map (λ passes. passes.items) c.args.offer)) (sym c.self.view_is) c.requires.offer in
-    let number = numbered c.announced-number.result c.make_room.new.entries.history written.history c.announced-number.ensures c.make_room.ensures.history in
-    let settled = settled_so c.settle-pass.new.self.mounts c.make_room.new.spares.mounts held.mounts (c.announced-number.result + 1) c.accepted_method-method.result c.args.conn c.args.request.now c.in-Ok-decide.reply
-    c.in-Ok-decide.act (option_map (λ passes. passes.items) c.args.offer) written.history c.settle-pass.ensures.mounts number c.accepted_method-method.ensures c.make_room.ensures.mounts in
+    let number = c.next_mount-number.ensures roomy.history more.stands in
+    let settled = settled_so c.settle-pass.new.self.mounts c.make_room.new.spares.mounts held.mounts c.next_mount-number.result c.accepted_method-method.result c.args.conn c.args.request.now c.in-Ok-decide.reply
+    c.in-Ok-decide.act (option_map (λ passes. passes.items) c.args.offer) roomy.history c.settle-pass.ensures.mounts number c.accepted_method-method.ensures c.make_room.ensures.mounts in
     let promised = c.in-Ok-make_room.ensures.entries in
-    let open_same = ap open_count c.make_room.ensures.history in
-    let more = c.settle-pass.ensures.out in
-    let room = c.add.ensures.room in
-    requested c.self.inside.seats tables c.decide.new.self written c.add.new.self held c.settle-pass.new.self kept c.decide.ensures.seats c.args.conn c.args.request.now c.args.given.now c.in-Ok-decide.reply c.in-Ok-decide.act
-    (option_map (λ passes. passes.items) c.args.offer) offered replied is settled (omega (arith, promised, open_same, more, room))
+    let there_are = c.count_open-opened.ensures roomy.history more.stands in
+    let out = c.settle-pass.ensures.out in
+    let room = adds.room in
+    requested c.self.inside.seats tables c.decide.new.self roomy c.add.new.self held c.settle-pass.new.self more c.decide.ensures.seats (nat_le written.cut written.kept) c.in-Ok-next_base.next c.args.conn c.args.request.now
+    c.args.given.now c.in-Ok-decide.reply c.in-Ok-decide.act (option_map (λ passes. passes.items) c.args.offer) c.in-Ok-next_base.ensures offered replied adds settled (omega (arith, promised, there_are, out, room))
 
 pub returns-clause-reply : goal.returns-clause-reply
 returns-clause-reply g c =
-    let tables = c.self.inside.world in
     let written = c.self.inside.entries in
-    let held = c.self.inside.spares in
     let kept = c.self.invariant in
     let legal = subst (λ n. IsLegal n written.history) (sym kept.seats_are) kept.legal in
     let replied = c.in-Ok-decide.ensures.ok written.history legal kept.stands in
@@ -64,24 +66,21 @@ pub returns-clause-history : goal.returns-clause-history
 returns-clause-history g c =
     let tables = c.self.inside.world in
     let written = c.self.inside.entries in
-    let held = c.self.inside.spares in
     let kept = c.self.invariant in
     let legal = subst (λ n. IsLegal n written.history) (sym kept.seats_are) kept.legal in
-    let replied = c.in-Ok-decide.ensures.ok written.history legal kept.stands in
     let there = subst (λ now. is_open c.args.conn now.history ≡ true) (sym c.self.view_is) c.requires.open in
     let reply : c.in-Ok.copies.reply ≡ c.in-Ok-decide.reply =
     same_reply written.history tables c.args.conn c.args.request.now c.args.given.now c.in-Ok.copies.reply c.in-Ok-decide.reply legal kept.stands (kept_open written.history tables c.args.conn kept.stands there)
     (c.in-Ok.ensures.reply written.history legal kept.stands) (c.in-Ok-decide.ensures.reply written.history legal kept.stands) in
-    let is = c.add.ensures.history
-    ∙ entered c.into_entry.result c.make_room.new.entries.history written.history c.args.conn c.in-Ok.copies.request c.args.request.now c.in-Ok.copies.given c.args.given.now c.in-Ok.copies.reply c.in-Ok-decide.reply c.in-Ok-decide.act
-    c.into_entry.ensures c.in-Ok.ensures.request c.in-Ok.ensures.given reply c.make_room.ensures.history in
-    is ∙ ap (λ now. Request c.args.conn c.args.request.now c.args.given.now c.in-Ok-decide.reply c.in-Ok-decide.act ∷ now.history) c.self.view_is
+    let is = entered c.into_entry.result c.args.conn c.in-Ok.copies.request c.args.request.now c.in-Ok.copies.given c.args.given.now c.in-Ok.copies.reply c.in-Ok-decide.reply c.in-Ok-decide.act
+    c.into_entry.ensures c.in-Ok.ensures.request c.in-Ok.ensures.given reply in
+    c.add.ensures.history ∙ ap (λ entry. entry ∷ c.make_room.new.entries.history) is
+    ∙ ap (λ (w : Written). Request c.args.conn c.args.request.now c.args.given.now c.in-Ok-decide.reply c.in-Ok-decide.act ∷ w.history) c.make_room.ensures.same
+    ∙ ap (λ now. Request c.args.conn c.args.request.now c.args.given.now c.in-Ok-decide.reply c.in-Ok-decide.act ∷ now.history) c.self.view_is
 
 pub returns-clause-pass : goal.returns-clause-pass
 returns-clause-pass g c =
-    let tables = c.self.inside.world in
     let written = c.self.inside.entries in
-    let held = c.self.inside.spares in
     let kept = c.self.invariant in
     let legal = subst (λ n. IsLegal n written.history) (sym kept.seats_are) kept.legal in
     let replied = c.in-Ok-decide.ensures.ok written.history legal kept.stands in
@@ -92,7 +91,6 @@ returns-clause-pass g c =
 
 pub returns-clause-play : goal.returns-clause-play
 returns-clause-play g c mount seat plays =
-    let tables = c.self.inside.world in
     let written = c.self.inside.entries in
     let held = c.self.inside.spares in
     let kept = c.self.invariant in

@@ -14,4 +14,4 @@ invariant_of-self-2 g c =
     let kept = c.self.invariant in
     let back = c.back.ensures.yes written.history kept.stands c.if-not-back.false in
     given_back c.self.inside.seats c.self.inside.world c.back.new.self written c.add.new.self c.self.inside.spares kept c.back.ensures.seats c.args.mount c.args.seat c.args.pass c.put.new.self back
-    c.add.ensures.history c.put.ensures.put c.put.ensures.out c.add.ensures.room
+    c.add.ensures c.put.ensures.put c.put.ensures.out

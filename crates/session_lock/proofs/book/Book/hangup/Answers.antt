@@ -11,4 +11,4 @@ invariant_of-self g c =
     let there = sym (c.is_open.ensures.open written.history kept.stands) ∙ c.if-not-is_open.false in
     let gone = c.hangup-act.ensures.ok written.history (legal_there c.self.inside.seats tables c.hangup-act.new.self written c.add.new.self held kept c.hangup-act.ensures.seats) kept.stands there in
     hung_up c.self.inside.seats tables c.hangup-act.new.self written c.add.new.self held kept c.hangup-act.ensures.seats c.args.conn c.hangup-act.result c.end_of.new.self gone
-    c.add.ensures.history c.end_of.ensures.dropped c.end_of.ensures.out c.add.ensures.room there
+    c.add.ensures c.end_of.ensures.dropped c.end_of.ensures.out there

@@ -1,0 +1,23 @@
+//! Tests of the server over loopback, over what `relay_server` makes public.
+//!
+//! They stand in a crate of their own, so that the server isn't proved twice.
+#![tactic(auto)]
+
+#[cfg(test)]
+mod burst_tests;
+#[cfg(test)]
+mod ending_tests;
+#[cfg(test)]
+mod leaving_tests;
+#[cfg(test)]
+mod loopback;
+#[cfg(test)]
+mod mounts_tests;
+#[cfg(test)]
+mod order_tests;
+#[cfg(test)]
+mod row_tests;
+#[cfg(test)]
+mod scripted;
+#[cfg(test)]
+mod serving_tests;

@@ -1,0 +1,288 @@
+//! Clients over loopback, for tests.
+use log::Log;
+use packet_ring::Pass;
+use relay_server::{Gate, Options, RingMaker, Seat, SharedBook, run_server};
+use relay_talk::FixedWord;
+use session_lock::Book;
+use std::alloc::{AllocError, Global};
+use std::collections::hash_map::RandomState;
+use std::io::{Eprint, Read, Write};
+use std::net::{Net, Shutdown, SocketAddr, TcpListener, TcpStream};
+use std::process::Abort;
+use std::random::RandomSource;
+use std::sync::{Arc, Mutex, Wait};
+use std::thread::{JoinHandle, Threads};
+use std::time::{Clock, Duration};
+use std::{io, thread};
+
+/// What is announced: one track of video.
+pub(crate) const ANNOUNCE: &str =
+    "ANNOUNCE rtsp://127.0.0.1:8554/cam RTSP/1.0\r\nCSeq: 2\r\nContent-Length: 137\r\n\r\nv=0\r\no=- 0 0 IN IP4 127.0.0.1\r\ns=No Name\r\nc=IN IP4 127.0.0.1\r\nt=0 0\r\nm=video 0 RTP/AVP 96\r\na=rtpmap:96 H264/90000\r\na=control:streamid=0\r\n";
+
+pub(crate) const OPTIONS: &[u8] = b"OPTIONS * RTSP/1.0\r\nCSeq: 9\r\n\r\n";
+
+/// The word in each session's identifier.
+const WORD: FixedWord = FixedWord(0x0000_abcd);
+
+/// A peer of a server, which gives up when nothing comes for thirty seconds.
+#[derive(Drop)]
+pub(crate) struct Client {
+    stream: TcpStream,
+    alloc: Global,
+    /// What was read and not asked for yet.
+    rest: Vec<u8>,
+}
+
+impl Client {
+    pub(crate) fn connect<R: Net<Stream = TcpStream> + Abort>(
+        rt: &R,
+        alloc: Global,
+        addr: SocketAddr,
+    ) -> Client {
+        let stream = TcpStream::connect(rt, addr).expect(rt, "a connection");
+        stream
+            .set_read_timeout(Some(Duration::from_secs(30)))
+            .expect(rt, "a limit to reads");
+        Client {
+            stream,
+            alloc,
+            rest: Vec::new(alloc),
+        }
+    }
+
+    pub(crate) fn say(&mut self, rt: &impl Abort, bytes: &[u8]) {
+        self.stream.write_all(bytes).expect(rt, "a write");
+    }
+
+    /// Reads a piece more. `false` at the end.
+    fn read_more(&mut self) -> io::Result<bool> {
+        let mut piece = [0; 4096];
+        let count = self.stream.read(&mut piece)?;
+        self.rest.extend_from_slice(&piece[..count])?;
+        Ok(count > 0)
+    }
+
+    /// The first so many bytes of what was read.
+    fn take(&mut self, rt: &impl Abort, count: usize) -> Vec<u8> {
+        let count = count.min(self.rest.len());
+        let taken = Vec::from_slice(self.alloc, &self.rest[..count]).expect(rt, "memory");
+        self.rest = Vec::from_slice(self.alloc, &self.rest[count..]).expect(rt, "memory");
+        taken
+    }
+
+    /// The next so many bytes, or fewer where there are no more.
+    pub(crate) fn bytes(&mut self, rt: &impl Abort, count: usize) -> Vec<u8> {
+        for _ in 0..100_000u32 {
+            if self.rest.len() >= count || !self.read_more().expect(rt, "a read") {
+                break;
+            }
+        }
+        self.take(rt, count)
+    }
+
+    /// The next bytes up to an empty line, or up to the end.
+    pub(crate) fn head(&mut self, rt: &impl Abort) -> Vec<u8> {
+        for _ in 0..100_000u32 {
+            let end = self
+                .rest
+                .as_slice()
+                .windows(4)
+                .position(|four| four == b"\r\n\r\n".as_slice());
+            if let Some(place) = end {
+                return self.take(rt, place.saturating_add(4));
+            }
+            if !self.read_more().expect(rt, "a read") {
+                break;
+            }
+        }
+        self.take(rt, usize::MAX)
+    }
+
+    /// Reads the frames before the next reply, and tells how many there are.
+    pub(crate) fn frames(&mut self, rt: &impl Abort) -> u32 {
+        let mut count = 0u32;
+        for _ in 0..100_000u32 {
+            let head = self.bytes(rt, 4);
+            let [b'$', _, high, low] = head.as_slice() else {
+                self.put_back(rt, head.as_slice());
+                break;
+            };
+            let len = usize::from(u16::from_be_bytes([*high, *low]));
+            self.bytes(rt, len);
+            count = count.saturating_add(1);
+        }
+        count
+    }
+
+    /// These come next again.
+    fn put_back(&mut self, rt: &impl Abort, bytes: &[u8]) {
+        let mut rest = Vec::from_slice(self.alloc, bytes).expect(rt, "memory");
+        rest.extend_from_slice(self.rest.as_slice())
+            .expect(rt, "memory");
+        self.rest = rest;
+    }
+
+    /// Says nothing more.
+    pub(crate) fn fall_silent(&self, rt: &impl Abort) {
+        self.stream
+            .shutdown(Shutdown::Write)
+            .expect(rt, "an end of writes");
+    }
+
+    /// Asks, and answers the head of the reply.
+    pub(crate) fn ask(&mut self, rt: &impl Abort, request: &[u8]) -> Vec<u8> {
+        self.say(rt, request);
+        self.head(rt)
+    }
+
+    /// Asks, and answers the status of the reply.
+    pub(crate) fn status_of(&mut self, rt: &impl Abort, request: &[u8]) -> u16 {
+        status(self.ask(rt, request).as_slice())
+    }
+
+    /// Whether just these bytes come next.
+    pub(crate) fn reads(&mut self, rt: &impl Abort, wanted: &[u8]) -> bool {
+        self.bytes(rt, wanted.len()).as_slice() == wanted
+    }
+
+    /// Whether nothing comes any more.
+    pub(crate) fn is_hung_up(&mut self, rt: &impl Abort) -> bool {
+        self.bytes(rt, 1).is_empty()
+    }
+}
+
+/// The number behind the status code's place in a reply.
+pub(crate) fn status(head: &[u8]) -> u16 {
+    let mut code = 0u16;
+    for byte in head.get(9..12).unwrap_or(b"") {
+        code = code
+            .wrapping_mul(10)
+            .wrapping_add(u16::from(byte.wrapping_sub(b'0')));
+    }
+    code
+}
+
+/// A server that is running in a thread of its own.
+#[derive(Drop)]
+pub(crate) struct Running {
+    pub(crate) addr: SocketAddr,
+    book: SharedBook<Seat<Pass>>,
+    thread: JoinHandle<Result<(), AllocError>>,
+}
+
+/// What the book of a server that has ended says.
+#[derive(Clone, Copy)]
+pub(crate) struct Ended {
+    /// How many calls it keeps.
+    pub(crate) kept: usize,
+    /// Whether connection 1 is open, and connection 2.
+    pub(crate) open: [bool; 2],
+}
+
+impl Running {
+    /// Opens as many connections as there may be.
+    pub(crate) fn fill<R: Wait>(&self, rt: &R) {
+        for _ in 0..1024 {
+            let _ = self.book.lock(rt).connect();
+        }
+    }
+
+    /// Waits until the server has ended.
+    pub(crate) fn end<R: Threads + Wait + Abort>(self, rt: &R) -> Ended {
+        let Running {
+            addr: _,
+            book,
+            thread,
+        } = self;
+        thread.join(rt).expect(rt, "the server's memory");
+        let book = book.lock(rt);
+        Ended {
+            kept: book.kept(),
+            open: [book.is_open(1), book.is_open(2)],
+        }
+    }
+}
+
+/// What a test's server is told.
+#[derive(Clone, Copy)]
+pub(crate) struct Set {
+    pub(crate) accept: u64,
+    pub(crate) seats: usize,
+    /// How many packets a mount's ring keeps.
+    pub(crate) keep: usize,
+    /// For so many milliseconds players may stay behind their mount's end; `None` for good.
+    pub(crate) after_end: Option<u64>,
+    /// The milliseconds for which packets gather.
+    pub(crate) gather: u64,
+    /// The milliseconds for which a write may move nothing.
+    pub(crate) write_wait: u64,
+}
+
+impl Set {
+    /// Rings keep 512 packets, packets gather for a millisecond, and players stay when their mount has ended.
+    pub(crate) fn of(accept: u64, seats: usize) -> Set {
+        Set {
+            accept,
+            seats,
+            keep: 512,
+            after_end: None,
+            gather: 1,
+            write_wait: 20_000,
+        }
+    }
+}
+
+/// Serves in a thread of its own.
+fn serve<R, G>(
+    rt: R,
+    alloc: Global,
+    listener: TcpListener,
+    options: Options,
+    maker: RingMaker,
+    book: SharedBook<Seat<Pass>>,
+    gate: G,
+) -> JoinHandle<Result<(), AllocError>>
+where
+    R: Threads + Wait + Clock + Log + Eprint + Abort + Copy + Send + Sync + 'static,
+    G: Gate + Drop + Send + Sync + 'static,
+{
+    thread::spawn(&rt, move || {
+        run_server(rt, alloc, &listener, options, maker, book, WORD, gate)
+    })
+    .expect(&rt, "a thread")
+}
+
+/// Starts a server whose packets have at most 16,384 bytes.
+pub(crate) fn start<R, G>(rt: R, alloc: Global, set: Set, gate: G) -> Running
+where
+    R: Threads
+        + Wait
+        + Clock
+        + Log
+        + Eprint
+        + RandomSource
+        + Abort
+        + Net<Listener = TcpListener, Stream = TcpStream>
+        + Copy
+        + Send
+        + Sync
+        + 'static,
+    G: Gate + Drop + Send + Sync + 'static,
+{
+    let listener = TcpListener::bind(&rt, "127.0.0.1:0").expect(&rt, "a listener");
+    let addr = listener.local_addr().expect(&rt, "its address");
+    let seats = set.seats.min(1024);
+    let hasher = RandomState::new(&rt).expect(&rt, "random bytes");
+    let book = Book::new(alloc, seats, hasher);
+    let book = Arc::new(alloc, Mutex::new(book)).expect(&rt, "memory");
+    let theirs = Arc::try_clone(&book).expect(&rt, "a count of the book's users");
+    let options = Options {
+        accept: Some(set.accept),
+        gather: set.gather,
+        after_end: set.after_end,
+        write_wait: set.write_wait,
+    };
+    let maker = RingMaker::new(set.keep.clamp(1, 4095), seats, 16_384);
+    let thread = serve(rt, alloc, listener, options, maker, theirs, gate);
+    Running { addr, book, thread }
+}

@@ -1,0 +1,103 @@
+//! The one thread that wakes players.
+use crate::board::Board;
+use std::sync::Wait;
+use std::sync::atomic::{AtomicBool, AtomicU64, Ordering};
+use std::thread;
+use std::time::{Clock, Duration};
+
+/// The waking thread sleeps or is about to.
+const QUIET: u64 = 0;
+
+/// Packets gather.
+const RUNG: u64 = 1;
+
+/// A mount has gathered as many packets as leave at once.
+const URGENT: u64 = 2;
+
+/// For how long packets gather yet where a mount has many, in milliseconds, so that the rest of a burst comes with them.
+const BURST: u64 = 1;
+
+/// What a publisher rings when it has published, and the waking thread sleeps on while nobody does.
+#[derive(Drop)]
+pub struct Bell {
+    /// `QUIET`, `RUNG` or `URGENT`.
+    rung: AtomicU64,
+    stopped: AtomicBool,
+}
+
+impl Bell {
+    /// Nobody rang.
+    pub fn new() -> Bell {
+        Bell {
+            rung: AtomicU64::new(QUIET),
+            stopped: AtomicBool::new(false),
+        }
+    }
+
+    /// Some mount was marked. Costs a load unless the waking thread sleeps.
+    pub(crate) fn ring(&self) {
+        if self.rung.load(Ordering::SeqCst) == QUIET
+            && self
+                .rung
+                .compare_exchange(QUIET, RUNG, Ordering::SeqCst, Ordering::SeqCst)
+                .is_ok()
+        {
+            self.rung.wake_one();
+        }
+    }
+
+    /// Some mount was marked so often that its packets needn't gather longer.
+    pub(crate) fn hurry(&self) {
+        if self.rung.swap(URGENT, Ordering::SeqCst) != URGENT {
+            self.rung.wake_one();
+        }
+    }
+
+    /// Ends the waking thread.
+    pub fn stop(&self) {
+        self.stopped.store(true, Ordering::SeqCst);
+        self.ring();
+    }
+
+    /// Sleeps until it is rung.
+    fn wait(&self, rt: &impl Wait) {
+        for _ in rt.forever() {
+            if self.rung.load(Ordering::SeqCst) != QUIET {
+                return;
+            }
+            self.rung.park(rt, QUIET as u32);
+        }
+    }
+
+    /// Lets packets gather for so long, or until a mount has many.
+    fn gather<R: Wait + Clock>(&self, rt: &R, time: Duration) {
+        if time.is_zero() {
+            return;
+        }
+        if self.rung.load(Ordering::SeqCst) == RUNG {
+            self.rung.park_timeout(rt, RUNG as u32, time);
+        }
+        if self.rung.load(Ordering::SeqCst) == URGENT {
+            thread::sleep(rt, time.min(Duration::from_millis(BURST)));
+        }
+    }
+}
+
+/// Wakes the players of mounts that packets came to, until it is stopped. Packets gather before that, so that a burst
+/// is one wake-up and few writes for each player; where as many have gathered as leave at once, they gather no longer
+/// than the rest of their burst takes.
+///
+/// Runs on a thread of its own, and takes the board's lock alone.
+pub fn wake_players<R: Wait + Clock>(rt: &R, bell: &Bell, board: &Board, gather: Duration) {
+    for _ in rt.forever() {
+        bell.wait(rt);
+        bell.gather(rt, gather);
+        // What is published from here on rings again; what was published before is marked already.
+        bell.rung.store(QUIET, Ordering::SeqCst);
+        board.wake_marked(rt);
+        // Looked at behind the clearing: a stop before it is seen here, and one after it rings.
+        if bell.stopped.load(Ordering::SeqCst) {
+            return;
+        }
+    }
+}

@@ -1,0 +1,95 @@
+//! The mounts that are being recorded, by number.
+use crate::notice::Notice;
+use base_syntax::Items;
+use std::alloc::{AllocError, Global};
+use std::sync::{Arc, Mutex, Wait};
+use transport_header::Point;
+
+/// As many mounts may live at a time.
+const MOST_MOUNTS: usize = 64;
+
+/// A mount that is being recorded.
+#[derive(Drop)]
+struct Posted {
+    mount: u64,
+    notice: Arc<Notice, Global>,
+}
+
+/// The mounts that are being recorded, each with what tells of its packets.
+///
+/// Its lock is held for a walk over the mounts, and no other lock is taken meanwhile. The room for as many as may live is
+/// made beforehand.
+#[derive(Drop)]
+pub struct Board {
+    mounts: Mutex<Vec<Posted>>,
+}
+
+impl Board {
+    /// No mount is being recorded.
+    pub fn new(alloc: Global) -> Result<Board, AllocError> {
+        let mounts = Vec::with_capacity(alloc, MOST_MOUNTS)?;
+        Ok(Board {
+            mounts: Mutex::new(mounts),
+        })
+    }
+
+    /// A mount is being recorded. Where memory is refused, its points aren't told and its players aren't woken by
+    /// the waker.
+    pub fn add(
+        &self,
+        rt: &impl Wait,
+        mount: u64,
+        notice: &Arc<Notice, Global>,
+    ) -> Result<(), AllocError> {
+        let notice = Arc::try_clone(notice)?;
+        let mut mounts = self.mounts.lock(rt);
+        mounts.push(Posted { mount, notice })?;
+        Ok(())
+    }
+
+    /// A mount has ended.
+    pub fn remove(&self, rt: &impl Wait, mount: u64) {
+        let mut mounts = self.mounts.lock(rt);
+        mounts.retain(|posted| posted.mount != mount);
+    }
+
+    /// How many mounts are being recorded.
+    pub fn len(&self, rt: &impl Wait) -> usize {
+        self.mounts.lock(rt).len()
+    }
+
+    /// Where the tracks of a mount stand. Nothing is told of a mount that isn't recorded.
+    pub fn points(
+        &self,
+        rt: &impl Wait,
+        alloc: Global,
+        mount: u64,
+    ) -> Result<Items<Option<Point>>, AllocError> {
+        match self.notice_of(rt, mount)? {
+            Some(notice) => notice.points(rt, alloc),
+            None => Ok(Items::empty(alloc)),
+        }
+    }
+
+    fn notice_of(
+        &self,
+        rt: &impl Wait,
+        mount: u64,
+    ) -> Result<Option<Arc<Notice, Global>>, AllocError> {
+        let mounts = self.mounts.lock(rt);
+        for posted in mounts.iter() {
+            if posted.mount == mount {
+                return Ok(Some(Arc::try_clone(&posted.notice)?));
+            }
+        }
+        Ok(None)
+    }
+
+    /// Wakes the players of each mount that packets came to.
+    pub(crate) fn wake_marked(&self, rt: &impl Wait) {
+        let mounts = self.mounts.lock(rt);
+        for posted in mounts.iter() {
+            posted.notice.wake_if_marked();
+        }
+    }
+}

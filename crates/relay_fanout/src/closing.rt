@@ -1,0 +1,17 @@
+//! How a connection is closed behind a fixed text.
+use crate::socket::HangUp;
+use interleaved::Source;
+
+/// Says nothing more, and reads what the peer still sends: at most so many reads, each for at most so many milliseconds.
+/// So the peer isn't told of a reset before it has read what was written last.
+pub fn close_behind_text<S: Source, H: HangUp>(wire: &H, source: &mut S, reads: u32, wait: u64) {
+    wire.limit_waits(wait);
+    wire.close_writes();
+    let mut buf = [0; 16_384];
+    for _ in 0..reads {
+        match source.read(&mut buf) {
+            Ok(count) if count > 0 => {}
+            _ => return,
+        }
+    }
+}

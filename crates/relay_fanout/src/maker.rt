@@ -1,0 +1,117 @@
+//! What packets of a mount go through.
+ghost use Rattle.std.specs.Prelude.{◌≤◌};
+
+use crate::notice::Notice;
+use cursor::{Feed, Left, Tap};
+use packet_ring::{Pass, Publisher, Subscriber};
+use std::alloc::{AllocError, Global};
+use std::sync::Arc;
+
+/// A tap that can be left for good: nobody takes its seat again.
+pub trait Leave {
+    /// Leaves the seat, with its account. What the tap was a part of may go with it.
+    fn leave_for_good(self) -> Left;
+}
+
+impl Leave for Subscriber {
+    fn leave_for_good(self) -> Left {
+        let (_pass, left) = self.detach();
+        left
+    }
+}
+
+/// Makes what the packets of a mount go through, from its publisher to its players.
+pub trait Maker {
+    type In: Feed + Drop + Send;
+
+    type Pass: Drop + Send;
+
+    type Out: Tap + Leave + Drop + Send;
+
+    /// A feed, and a pass for each seat.
+    fn make(&self, alloc: Global) -> Result<(Self::In, Vec<Self::Pass>), AllocError>;
+
+    /// Attaches a seat: what is published from now on comes out of the tap.
+    fn attach(&self, pass: Self::Pass) -> Self::Out;
+
+    /// Detaches it again.
+    fn detach(&self, out: Self::Out) -> (Self::Pass, Left);
+
+    /// How many packets are kept for a player that is behind.
+    fn keep(&self) -> u64;
+}
+
+/// Makes rings.
+#[derive(Clone, Copy, Drop)]
+pub struct RingMaker {
+    keep: usize,
+    seats: usize,
+    packet_bytes: usize,
+    ghost keeps: { (1 ≤ keep) × (keep ≤ 4095) },
+    ghost seated: { seats ≤ 1024 },
+    ghost bounded: { (1 ≤ packet_bytes) × (packet_bytes ≤ 65535) },
+}
+
+impl RingMaker {
+    /// Rings that keep so many packets of at most so many bytes, with so many seats.
+    pub fn new(keep: usize, seats: usize, packet_bytes: usize) -> RingMaker
+        requires keep { (1 ≤ keep) × (keep ≤ 4095) }
+        requires seats { seats ≤ 1024 }
+        requires packet_bytes { (1 ≤ packet_bytes) × (packet_bytes ≤ 65535) }
+    {
+        RingMaker {
+            keep,
+            seats,
+            packet_bytes,
+        }
+    }
+}
+
+impl Maker for RingMaker {
+    type In = Publisher;
+
+    type Pass = Pass;
+
+    type Out = Subscriber;
+
+    fn make(&self, alloc: Global) -> Result<(Publisher, Vec<Pass>), AllocError> {
+        packet_ring::new(alloc, self.keep, self.seats, self.packet_bytes)
+    }
+
+    fn attach(&self, pass: Pass) -> Subscriber {
+        pass.attach()
+    }
+
+    fn detach(&self, out: Subscriber) -> (Pass, Left) {
+        out.detach()
+    }
+
+    fn keep(&self) -> u64 {
+        self.keep as u64
+    }
+}
+
+/// A pass together with what tells of its mount's packets: so a player has both from the book.
+#[derive(Drop)]
+pub struct Seat<P> {
+    pub pass: P,
+    pub notice: Arc<Notice, Global>,
+}
+
+impl<P: Drop> Seat<P> {
+    /// A seat for each pass.
+    pub fn of(
+        alloc: Global,
+        passes: Vec<P>,
+        notice: &Arc<Notice, Global>,
+    ) -> Result<Vec<Seat<P>>, AllocError> {
+        let mut seats = Vec::with_capacity(alloc, passes.len())?;
+        for pass in passes {
+            seats.push(Seat {
+                pass,
+                notice: Arc::try_clone(notice)?,
+            })?;
+        }
+        Ok(seats)
+    }
+}

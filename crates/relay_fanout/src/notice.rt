@@ -1,0 +1,91 @@
+//! What tells the players of a mount that there are packets.
+ghost use Rattle.std.specs.Prelude.{◌≡◌, ◌%◌, ◌^◌};
+
+use crate::line::TAKES;
+use crate::pace::Pace;
+use base_syntax::Items;
+use std::alloc::{AllocError, Global};
+use std::sync::atomic::{AtomicU64, Ordering};
+use std::sync::{Mutex, Wait};
+use transport_header::{MOST_TRACKS, Point};
+
+/// What the publisher of a mount and its players share beside the ring: where each track stands, and the word that
+/// players sleep on while there is nothing to take.
+///
+/// Any thread of the server may use it. The points' lock is held for a copy of them or a change of one.
+#[derive(Drop)]
+pub struct Notice {
+    points: Mutex<[Option<Point>; MOST_TRACKS]>,
+    /// How many packets came since the players were last woken.
+    news: AtomicU64,
+    /// How often the players were woken.
+    wakes: AtomicU64,
+    /// Who keeps up with the publisher.
+    pub(crate) pace: Pace,
+}
+
+impl Notice {
+    /// Of a mount with so many seats.
+    pub fn new(alloc: Global, seats: usize) -> Result<Notice, AllocError> {
+        Ok(Notice {
+            points: Mutex::new([None; MOST_TRACKS]),
+            news: AtomicU64::new(0),
+            wakes: AtomicU64::new(0),
+            pace: Pace::new(alloc, seats)?,
+        })
+    }
+
+    /// The last packet of a track stands here.
+    pub(crate) fn post(&self, rt: &impl Wait, track: usize, point: Point) {
+        let mut points = self.points.lock(rt);
+        if let Some(place) = points.get_mut(track) {
+            *place = Some(point);
+        }
+    }
+
+    /// Where each track stands.
+    pub(crate) fn points(
+        &self,
+        rt: &impl Wait,
+        alloc: Global,
+    ) -> Result<Items<Option<Point>>, AllocError> {
+        let points = *self.points.lock(rt);
+        Ok(Items::new(Vec::from_slice(alloc, points.as_slice())?))
+    }
+
+    /// A packet came. The players aren't woken yet. Tells when as many have come as leave at once.
+    pub(crate) fn mark(&self) -> bool {
+        self.news.fetch_add(1, Ordering::SeqCst) == TAKES - 1
+    }
+
+    /// Wakes the players if packets came since they were last woken.
+    pub(crate) fn wake_if_marked(&self) {
+        if self.news.swap(0, Ordering::SeqCst) > 0 {
+            self.wake();
+        }
+    }
+
+    /// Wakes the players of the mount, to whatever came.
+    pub fn wake(&self) {
+        self.news.store(0, Ordering::SeqCst);
+        self.wakes.fetch_add(1, Ordering::SeqCst);
+        self.wakes.wake_all();
+    }
+
+    /// How often the players were woken: read before a look at the ring, it lets no wake be missed.
+    pub(crate) fn wakes(&self) -> u64 {
+        self.wakes.load(Ordering::SeqCst)
+    }
+
+    /// Sleeps until the players are woken once more than `wakes` times. It may also return for no reason.
+    pub(crate) fn sleep(&self, rt: &impl Wait, wakes: u64) {
+        self.wakes.park(rt, low_half(wakes));
+    }
+}
+
+/// The half of a word that a sleeper looks at.
+pub fn low_half(word: u64) -> u32
+    ensures { result ≡ word % 2 ^ 32 }
+{
+    (word % (1 << 32)) as u32
+}

@@ -1,0 +1,152 @@
+//! How a publisher is slowed to the players that keep up.
+use pacing::Round;
+use std::alloc::{AllocError, Global};
+use std::sync::atomic::{AtomicU64, Ordering};
+use std::sync::{Condvar, CondvarTimeouts, Mutex, Wait};
+use std::time::{Clock, Duration};
+
+/// The players of a mount as their publisher sees them, and what it waits on.
+///
+/// A player's thread writes its own cursor behind each of its writes, and changes its own standing only where it isn't known to
+/// keep up or a round was opened since. The publisher's thread opens a round, wakes the players, and sleeps until the last that
+/// it waits for has taken as many as the round asks for, or left. The lock is held for a look at each seat or a change of one;
+/// it may be taken under the lock of a frame thread's tap, and no other is taken meanwhile.
+#[derive(Drop)]
+pub(crate) struct Pace {
+    round: Mutex<Round>,
+    over: Condvar,
+    /// How often a round was opened or players were given up.
+    changes: AtomicU64,
+    /// How many packets the last round asks for.
+    target: AtomicU64,
+    /// How many packets each seat's player has taken.
+    cursors: Vec<AtomicU64>,
+}
+
+/// What a player's thread knows of its own standing: the number of changes at which it was level, if it was.
+#[derive(Clone, Copy, Drop)]
+pub(crate) struct KnownLevel(Option<u64>);
+
+impl KnownLevel {
+    /// A player that comes isn't known to keep up.
+    pub(crate) fn new() -> KnownLevel {
+        KnownLevel(None)
+    }
+}
+
+impl Pace {
+    /// Nobody has any of so many seats.
+    pub(crate) fn new(alloc: Global, seats: usize) -> Result<Pace, AllocError> {
+        let mut cursors = Vec::with_capacity(alloc, seats)?;
+        for _ in 0..seats {
+            cursors.push(AtomicU64::new(0))?;
+        }
+        Ok(Pace {
+            round: Mutex::new(Round::new(alloc, seats)?),
+            over: Condvar::new(),
+            changes: AtomicU64::new(0),
+            target: AtomicU64::new(0),
+            cursors,
+        })
+    }
+
+    /// A player begins to take from its seat. The player before it has left.
+    pub(crate) fn join(&self, rt: &impl Wait, seat: usize) {
+        let was_last = self.round.lock(rt).join(seat);
+        self.tell(was_last);
+    }
+
+    /// A player takes no more.
+    pub(crate) fn leave(&self, rt: &impl Wait, seat: usize) {
+        let was_last = self.round.lock(rt).leave(seat);
+        self.tell(was_last);
+    }
+
+    /// A player had nothing more to take at this cursor.
+    pub(crate) fn level(&self, rt: &impl Wait, seat: usize, cursor: u64, known: &mut KnownLevel) {
+        let changes = self.follow_me(seat, cursor);
+        if known.0 == Some(changes) {
+            return;
+        }
+        let mut round = self.round.lock(rt);
+        let was_last = round.level(seat, cursor);
+        // One that is awaited yet goes on telling how far it is.
+        if round.is_level(seat) {
+            known.0 = Some(changes);
+        }
+        drop(round);
+        self.tell(was_last);
+    }
+
+    /// A player has come to this cursor, and may have more to take. One that isn't known to keep up has to take all first.
+    pub(crate) fn reach(&self, rt: &impl Wait, seat: usize, cursor: u64, known: &mut KnownLevel) {
+        let changes = self.follow_me(seat, cursor);
+        if known.0.is_none()
+            || known.0 == Some(changes)
+            || cursor < self.target.load(Ordering::SeqCst)
+        {
+            return;
+        }
+        let mut round = self.round.lock(rt);
+        let was_last = round.reach(seat, cursor);
+        known.0 = round.is_level(seat).then_some(changes);
+        drop(round);
+        self.tell(was_last);
+    }
+
+    /// Writes where a player stands, and tells how often rounds were opened or players were given up.
+    fn follow_me(&self, seat: usize, cursor: u64) -> u64 {
+        if let Some(place) = self.cursors.get(seat) {
+            place.store(cursor, Ordering::SeqCst);
+        }
+        self.changes.load(Ordering::SeqCst)
+    }
+
+    /// How many packets the slowest of the players that keep up has taken, or `published`.
+    pub(crate) fn slowest(&self, rt: &impl Wait, published: u64) -> u64 {
+        let mut round = self.round.lock(rt);
+        self.follow(&mut round);
+        round.slowest(published)
+    }
+
+    /// Opens a round in which so many packets are to be taken. Tells how many players are awaited.
+    pub(crate) fn open(&self, rt: &impl Wait, target: u64) -> usize {
+        let mut round = self.round.lock(rt);
+        self.follow(&mut round);
+        let awaited = round.open(target);
+        self.target.store(target, Ordering::SeqCst);
+        self.changes.fetch_add(1, Ordering::SeqCst);
+        awaited
+    }
+
+    /// Sleeps until nobody is awaited, for at most so long. Tells how many players are awaited yet.
+    pub(crate) fn wait<R: Wait + Clock>(&self, rt: &R, most: Duration) -> usize {
+        let (round, _) = self
+            .over
+            .wait_timeout_while(rt, self.round.lock(rt), most, |round| {
+                round.awaited() > 0
+            });
+        round.awaited()
+    }
+
+    /// Gives up who is awaited yet.
+    pub(crate) fn give_up(&self, rt: &impl Wait) {
+        if self.round.lock(rt).give_up() > 0 {
+            self.changes.fetch_add(1, Ordering::SeqCst);
+        }
+    }
+
+    /// Looks how many packets each player that keeps up has taken.
+    fn follow(&self, round: &mut Round) {
+        for (seat, cursor) in self.cursors.iter().enumerate() {
+            round.follow(seat, cursor.load(Ordering::SeqCst));
+        }
+    }
+
+    /// Wakes the publisher where the last player that it waits for has taken all or left.
+    fn tell(&self, was_last: bool) {
+        if was_last {
+            self.over.notify_all();
+        }
+    }
+}

@@ -1,0 +1,221 @@
+//! The feed of a mount, with what its players are told beside the packets.
+ghost use Rattle.std.specs.Prelude.{◌≡◌, false};
+ghost use Rattle.pacing.specs.Insisting.{PublishesAtLast};
+
+use crate::bell::Bell;
+use crate::line::TAKES;
+use crate::moments::Moments;
+use crate::notice::Notice;
+use cursor::{Feed, Refused};
+use pacing::{Allowance, Insisting};
+use relay_accounts::point_to_post;
+use std::alloc::Global;
+use std::marker::Model;
+use std::sync::{Arc, Wait};
+use std::time::{Clock, Duration, Instant};
+
+/// The shortest wait for players, in microseconds: in less none that keeps up could be expected to take all.
+const LEAST: u64 = 1_000;
+
+/// When it is looked how many players are awaited yet, in sixteenths of the time that may be waited.
+const LOOKS: [u64; 4] = [8, 10, 12, 14];
+
+/// A feed that tells of each packet that it takes: where its track stands now, and that there is something to take. A
+/// publish that meets a player in the middle of a copy is tried again.
+///
+/// A contract sees the feed that is tried again.
+#[derive(Drop)]
+pub struct Posting<R, F> {
+    rt: R,
+    feed: Insisting<F, Moments<R>>,
+    notice: Arc<Notice, Global>,
+    bell: Arc<Bell, Global>,
+    /// Whether the waking thread knows of the mount; else its players are woken at each packet.
+    posted: bool,
+    /// Behind so many packets it is looked where the players are.
+    stretch: u64,
+    /// So many packets the slowest of those that keep up may be behind before they are waited for, until it is half as many.
+    most: u64,
+    /// How many packets were published when it was last looked.
+    looked: u64,
+    allowance: Allowance,
+    /// For how many microseconds it has waited in all.
+    waited: u64,
+    /// What moments are counted from, where the clock can be read.
+    began: Option<Instant>,
+}
+
+impl<R, F> Model for Posting<R, F> {
+    ghost use Rattle.pacing.specs.Insisting.{Insisted};
+
+    ghost Value = { Insisted F };
+
+    ghost view = { λ p. p.feed };
+}
+
+impl<R: Clock + Copy + Drop, F: Drop> Posting<R, F> {
+    /// Over a feed that keeps so many packets for players that are behind.
+    pub fn new(
+        rt: R,
+        feed: F,
+        notice: Arc<Notice, Global>,
+        bell: Arc<Bell, Global>,
+        keep: u64,
+    ) -> Posting<R, F>
+        ensures { result ≡ record { feed = feed; gave_up = false } }
+    {
+        Posting {
+            rt,
+            feed: Insisting::new(feed, Moments::new(rt)),
+            notice,
+            bell,
+            posted: false,
+            stretch: (keep / 4).max(TAKES),
+            most: keep.saturating_sub((keep / 4).max(TAKES)).max(TAKES),
+            looked: 0,
+            allowance: Allowance::new(),
+            waited: 0,
+            began: Instant::now(&rt).ok(),
+        }
+    }
+}
+
+impl<R: Clock + Drop, F: Feed> Posting<R, F> {
+    /// No packet comes any more. The players are woken to see it. Tells for how many milliseconds packets waited for them.
+    pub fn end(self) -> u64 {
+        let waited = self.waited / 1000;
+        let Posting {
+            rt: _,
+            feed,
+            notice,
+            ..
+        } = self;
+        feed.close();
+        notice.wake();
+        waited
+    }
+
+    /// What tells the players of the mount.
+    pub fn notice(&self) -> &Arc<Notice, Global> {
+        &self.notice
+    }
+
+    /// Whether the waking thread knows of the mount; else its players are woken at each packet.
+    pub fn is_posted(&self) -> bool {
+        self.posted
+    }
+
+    /// The waking thread knows of the mount, or doesn't.
+    pub fn set_posted(&mut self, posted: bool)
+        ensures { self.new ≡ self.old }
+    {
+        self.posted = posted;
+    }
+}
+
+impl<R: Wait + Clock + Drop, F> Posting<R, F> {
+    /// Wakes the players where one of those that keep up hasn't taken the last stretch, and waits for them where it is behind by
+    /// most of what the ring keeps: the rest of a burst waits in the publisher's socket meanwhile, and not in the ring, which
+    /// would lose it for them. Those that are behind as far at the end of what may be waited are waited for no more until they have
+    /// taken all.
+    fn keep_pace(&mut self, published: u64)
+        ensures { self.new ≡ self.old }
+    {
+        if published.saturating_sub(self.looked) < self.stretch {
+            return;
+        }
+        self.looked = published;
+        let slowest = self.notice.pace.slowest(&self.rt, published);
+        let behind = published.saturating_sub(slowest);
+        if behind < self.stretch {
+            return;
+        }
+        if behind < self.most || !self.give_way(published.saturating_sub(self.most / 2)) {
+            self.notice.wake();
+        }
+    }
+
+    /// Wakes the players and waits until those that keep up have taken so many packets, for half as long as may be waited, and
+    /// then as long as some of them come to it: a player that reads nothing any more leaves the rest to those that do. Tells
+    /// whether there was anything to wait for.
+    fn give_way(&mut self, target: u64) -> bool
+        ensures { self.new ≡ self.old }
+    {
+        let Some(now) = self.now() else {
+            return false;
+        };
+        let most = self.allowance.left(now);
+        if most / 2 < LEAST {
+            return false;
+        }
+        let awaited = self.notice.pace.open(&self.rt, target);
+        if awaited == 0 {
+            return false;
+        }
+        // Behind the opening, so that a player which looked before it doesn't sleep; what waking takes is waited, too.
+        self.notice.wake();
+        self.wait_while_some_come(awaited, now, most);
+        let then = self.now().unwrap_or(now.saturating_add(most));
+        self.allowance.spend(now, then);
+        self.waited = self.waited.saturating_add(then.saturating_sub(now));
+        true
+    }
+
+    /// Waits for players, of whom so many were awaited when the wait began, until none is, or none has come between two looks.
+    /// Who is awaited yet is given up.
+    fn wait_while_some_come(&self, awaited: usize, began: u64, most: u64) {
+        let mut awaited = awaited;
+        for sixteenths in LOOKS {
+            let look = began.saturating_add(most / 16 * sixteenths);
+            let rest = look.saturating_sub(self.now().unwrap_or(look));
+            let left = self.notice.pace.wait(&self.rt, Duration::from_micros(rest));
+            if left == 0 || left == awaited {
+                break;
+            }
+            awaited = left;
+        }
+        self.notice.pace.give_up(&self.rt);
+    }
+
+    /// How many microseconds have passed since the feed was made. `None` where the clock can't be read.
+    fn now(&self) -> Option<u64> {
+        let now = Instant::now(&self.rt).ok()?;
+        u64::try_from(now.duration_since(self.began?).as_micros()).ok()
+    }
+}
+
+impl<R: Wait + Clock + Drop, F: Feed> Feed for Posting<R, F> {
+    ghost told = { λ p. F.told p.feed };
+
+    ghost packet_bytes = { λ p. F.packet_bytes p.feed };
+
+    ghost may_refuse = { F.may_refuse };
+
+    ghost publish_gives = { PublishesAtLast F.publish_gives };
+
+    fn publish(&mut self, tag: u8, bytes: &[u8]) -> Result<u64, Refused> {
+        let number = self.feed.publish(tag, bytes)?;
+        if let Some((track, point)) = point_to_post(tag, bytes) {
+            self.notice.post(&self.rt, track, point);
+        }
+        if self.posted {
+            if self.notice.mark() {
+                self.bell.hurry();
+            } else {
+                self.bell.ring();
+            }
+        } else {
+            self.notice.wake();
+        }
+        self.keep_pace(number.saturating_add(1));
+        Ok(number)
+    }
+
+    fn packet_bytes(&self) -> usize {
+        self.feed.packet_bytes()
+    }
+
+    fn close(self) {
+        self.feed.close();
+    }
+}

@@ -1,0 +1,109 @@
+//! What leaves together, and what is told and goes when a player or a mount leaves.
+use crate::account_tests::{
+    LAST, PACKETS, PUBLIC_END, Stall, accounted, playing, published, recording,
+};
+use crate::devices::{Held, count, flag, has_come, wait_for};
+use crate::rings::Rings;
+use crate::serving::{SharedRings, Watch, book_of, shared_over};
+use crate::words::CountedWords;
+use interleaved::Writing;
+use relay_server::{ConnectionEnd, Line};
+use std::alloc::Global;
+use std::process::Abort;
+use std::random::RandomSource;
+use std::sync::atomic::Ordering;
+use std::sync::{Arc, Wait};
+
+/// Lengths of replies: of the shortest, about as many bytes as are gathered, and more.
+const LENGTHS: [usize; 6] = [28, 32_767, 32_768, 32_769, 65_536, 100_000];
+
+/// Behind each call all of its reply is written, in a write for each 32,768 bytes and at most one more.
+#[test]
+fn a_reply_of_any_length_is_written_out_at_once(rt: HostRuntime) {
+    let alloc = rt.alloc();
+    let watch = Watch::new(&rt, alloc);
+    let writes = count(&rt, alloc);
+    let sink = Held {
+        rt,
+        bytes: Arc::try_clone(&watch.written).expect(&rt, "a count of its users"),
+        free: usize::MAX,
+        let_on: flag(&rt, alloc),
+        writes: Arc::try_clone(&writes).expect(&rt, "a count of its users"),
+    };
+    let line = Line::new(alloc, Writing::new(sink));
+    let mut all = 0usize;
+    for len in LENGTHS {
+        let text = Vec::from_elem(alloc, b'a', len).expect(&rt, "memory");
+        all = all.saturating_add(len);
+        assert!(rt; line.write(&rt, text.as_slice()).is_ok(), "{len} bytes");
+        assert!(rt; watch.written.lock(&rt).len() == all, "{len} bytes");
+        let most = (len / 32_768).saturating_add(1) as u64;
+        assert!(rt; writes.swap(0, Ordering::SeqCst) <= most, "{len} bytes");
+    }
+}
+
+/// What two connections share, over this ring of one seat.
+fn shared<R: RandomSource + Wait + Abort>(
+    rt: &R,
+    alloc: Global,
+    rings: Rings,
+) -> SharedRings<CountedWords> {
+    shared_over(rt, alloc, book_of(rt, alloc, 1, 2), rings, CountedWords(1))
+}
+
+/// Forty packets come while a write to their player moves nothing. Beside its two replies there are that write, and three for
+/// what waits, sixteen at a time.
+#[test]
+fn sixteen_waiting_packets_leave_in_one_write(rt: HostRuntime) {
+    let alloc = rt.alloc();
+    let shared = shared(&rt, alloc, Rings::keeping(&rt, alloc, 1, 64));
+    let camera = recording(rt, alloc, &shared, None);
+    let stall = Stall::new(&rt, alloc);
+    let player = playing(rt, alloc, &shared, &stall);
+    assert!(rt; published(&rt, &shared, camera) == PACKETS);
+    stall.end();
+    assert!(rt; has_come(&rt, &player.watch.written, 0, LAST));
+    assert!(rt; stall.writes.load(Ordering::SeqCst) <= 6);
+    let (end, counts, _written) = player.end(&rt);
+    assert!(rt; end == ConnectionEnd::Done && counts.taken == PACKETS);
+}
+
+/// Its mount lives on.
+#[test]
+fn a_player_that_leaves_is_told_its_losses(rt: HostRuntime) {
+    let alloc = rt.alloc();
+    let shared = shared(&rt, alloc, Rings::of(&rt, alloc, 1));
+    let stay = flag(&rt, alloc);
+    let camera = recording(rt, alloc, &shared, Some(&stay));
+    let stall = Stall::new(&rt, alloc);
+    let player = playing(rt, alloc, &shared, &stall);
+    let replies = player.watch.written.lock(&rt).len();
+    camera.watch.let_on.store(true, Ordering::SeqCst);
+    assert!(rt; has_come(&rt, &camera.watch.written, 0, PUBLIC_END));
+    stall.end();
+    assert!(rt; has_come(&rt, &player.watch.written, replies, LAST));
+    let accounted = accounted(&rt, player, replies);
+    assert!(rt; shared.recorded(&rt) == 1);
+    stay.store(true, Ordering::SeqCst);
+    assert!(rt; accounted == Some(published(&rt, &shared, camera)));
+}
+
+/// Nothing of the mount's packets is kept for a player that has read them all and asks for no more.
+#[test]
+fn an_ended_mounts_ring_goes_though_its_player_stays(rt: HostRuntime) {
+    let alloc = rt.alloc();
+    let rings = Rings::of(&rt, alloc, 1);
+    let gone = Arc::try_clone(&rings.gone).expect(&rt, "a count of its users");
+    let shared = shared(&rt, alloc, rings);
+    let camera = recording(rt, alloc, &shared, None);
+    let stall = Stall::new(&rt, alloc);
+    let player = playing(rt, alloc, &shared, &stall);
+    stall.end();
+    let published = published(&rt, &shared, camera);
+    assert!(rt; has_come(&rt, &player.watch.written, 0, LAST));
+    wait_for(&rt, &gone);
+    assert!(rt; gone.load(Ordering::SeqCst));
+    let (end, counts, _written) = player.end(&rt);
+    assert!(rt; end == ConnectionEnd::Done);
+    assert!(rt; counts.taken.checked_add(counts.lost) == Some(published));
+}

@@ -1,0 +1,161 @@
+//! Rings, of which one is refused memory, and the last owner of which is seen to go, for tests.
+use crate::devices::{Count, Flag, count, flag};
+use cursor::{Account, Feed, Left, Refused, Taken, Tap};
+use packet_ring::{Pass, Publisher, Subscriber};
+use relay_fanout::{Leave, Maker, RingMaker};
+use std::alloc::{AllocError, Global};
+use std::process::Abort;
+use std::sync::Arc;
+use std::sync::atomic::Ordering;
+
+/// Sets its word when it goes.
+struct Owner {
+    gone: Flag,
+}
+
+impl Drop for Owner {
+    fn drop(self) {
+        let Owner { gone } = self;
+        gone.store(true, Ordering::SeqCst);
+    }
+}
+
+/// What owns a ring with others, and goes with the last of them as its block does.
+#[derive(Drop)]
+pub(crate) struct Owned<T> {
+    inner: T,
+    owner: Arc<Owner, Global>,
+}
+
+impl<F: Feed> Feed for Owned<F> {
+    ghost told = { λ o. F.told o.inner };
+
+    ghost packet_bytes = { λ o. F.packet_bytes o.inner };
+
+    ghost may_refuse = { F.may_refuse };
+
+    ghost publish_gives = { λ old packet answer new. F.publish_gives old.inner packet answer new.inner };
+
+    fn publish(&mut self, tag: u8, bytes: &[u8]) -> Result<u64, Refused> {
+        self.inner.publish(tag, bytes)
+    }
+
+    fn packet_bytes(&self) -> usize {
+        self.inner.packet_bytes()
+    }
+
+    fn close(self) {
+        self.inner.close();
+    }
+}
+
+impl<T: Tap> Tap for Owned<T> {
+    ghost account = { λ o. T.account o.inner };
+
+    ghost packet_bytes = { λ o. T.packet_bytes o.inner };
+
+    ghost take_gives = { λ old answer new. T.take_gives old.inner answer new.inner };
+
+    fn take(&mut self, buf: &mut [u8]) -> Taken {
+        self.inner.take(buf)
+    }
+
+    fn cursor(&self) -> u64 {
+        self.inner.cursor()
+    }
+
+    fn account(&self) -> Account {
+        self.inner.account()
+    }
+
+    fn packet_bytes(&self) -> usize {
+        self.inner.packet_bytes()
+    }
+
+    ghost counts = { λ old answer new given. T.counts old.inner answer new.inner given };
+}
+
+impl<T: Leave> Leave for Owned<T> {
+    fn leave_for_good(self) -> Left {
+        self.inner.leave_for_good()
+    }
+}
+
+/// Makes rings, of which one is refused memory.
+#[derive(Drop)]
+pub(crate) struct Rings {
+    maker: RingMaker,
+    /// How many were made or refused.
+    pub(crate) made: Count,
+    /// Set once a ring has no owner any more.
+    pub(crate) gone: Flag,
+    /// Which one is refused, counted from 0.
+    refused: Option<u64>,
+}
+
+impl Rings {
+    /// Rings of so many seats that keep so many packets of at most 16 bytes, none of which is refused.
+    pub(crate) fn keeping(rt: &impl Abort, alloc: Global, seats: usize, keep: usize) -> Rings {
+        Rings {
+            maker: RingMaker::new(keep.clamp(1, 4095), seats.min(1024), 16),
+            made: count(rt, alloc),
+            gone: flag(rt, alloc),
+            refused: None,
+        }
+    }
+
+    /// Rings of so many seats that keep four packets.
+    pub(crate) fn of(rt: &impl Abort, alloc: Global, seats: usize) -> Rings {
+        Rings::keeping(rt, alloc, seats, 4)
+    }
+
+    /// Rings of one seat, of which this one is refused.
+    pub(crate) fn refusing(rt: &impl Abort, alloc: Global, refused: Option<u64>) -> Rings {
+        Rings {
+            refused,
+            ..Rings::of(rt, alloc, 1)
+        }
+    }
+}
+
+impl Maker for Rings {
+    type In = Owned<Publisher>;
+
+    type Pass = Owned<Pass>;
+
+    type Out = Owned<Subscriber>;
+
+    fn make(&self, alloc: Global) -> Result<(Owned<Publisher>, Vec<Owned<Pass>>), AllocError> {
+        let place = self.made.fetch_add(1, Ordering::SeqCst);
+        if self.refused == Some(place) {
+            return Err(AllocError);
+        }
+        let (inner, passes) = self.maker.make(alloc)?;
+        let gone = Arc::try_clone(&self.gone)?;
+        let owner = Arc::new(alloc, Owner { gone })?;
+        let mut owned = Vec::with_capacity(alloc, passes.len())?;
+        for inner in passes {
+            let owner = Arc::try_clone(&owner)?;
+            owned.push(Owned { inner, owner })?;
+        }
+        Ok((Owned { inner, owner }, owned))
+    }
+
+    fn attach(&self, pass: Owned<Pass>) -> Owned<Subscriber> {
+        let Owned { inner, owner } = pass;
+        Owned {
+            inner: self.maker.attach(inner),
+            owner,
+        }
+    }
+
+    fn detach(&self, out: Owned<Subscriber>) -> (Owned<Pass>, Left) {
+        let Owned { inner, owner } = out;
+        let (inner, left) = self.maker.detach(inner);
+        (Owned { inner, owner }, left)
+    }
+
+    fn keep(&self) -> u64 {
+        self.maker.keep()
+    }
+}
