@@ -2,7 +2,6 @@
 use crate::gate::Gate;
 use crate::server::Server;
 use log::Log;
-use relay_fanout::wake_players;
 use session_state::Words;
 use std::alloc::AllocError;
 use std::io::Eprint;
@@ -41,9 +40,7 @@ impl Helpers {
         let gather = Duration::from_millis(gather);
         thread::spawn(&rt, move || written.write_all())?;
         Ok(Helpers {
-            waking: thread::spawn(&rt, move || {
-                wake_players(&rt, &shared.bell, &shared.board, gather)
-            })?,
+            waking: thread::spawn(&rt, move || shared.wake_players(&rt, gather))?,
             closing: thread::spawn(&rt, move || refusing.close_all(&rt, &told))?,
         })
     }
@@ -51,7 +48,7 @@ impl Helpers {
     /// Ends them, behind the last connection.
     pub(crate) fn end<R: Threads + Wait + Clock, V, G>(self, rt: &R, server: &Server<R, V, G>) {
         let Helpers { waking, closing } = self;
-        server.shared.bell.stop();
+        server.shared.stop_waking();
         waking.join(rt);
         server.refusing.end(rt);
         closing.join(rt);

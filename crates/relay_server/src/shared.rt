@@ -1,13 +1,13 @@
 //! What all threads of a server share.
 ghost use Rattle.std.specs.Prelude.{◌≤◌};
 
-use relay_fanout::{Bell, Board, Maker, Offers, Seat};
+use relay_fanout::{Bell, Board, Maker, Offers, Seat, wake_players};
 use session_lock::Book;
 use std::alloc::{AllocError, Global};
 use std::collections::hash_map::RandomState;
 use std::sync::atomic::AtomicU64;
 use std::sync::{Arc, Mutex, Wait};
-use std::time::Duration;
+use std::time::{Clock, Duration};
 
 /// A book that threads share. Each call of it is made whole under its lock, and no other lock is taken meanwhile.
 pub type SharedBook<P> = Arc<Mutex<Book<P>>, Global>;
@@ -78,5 +78,16 @@ impl<M: Maker + Drop, V: Drop, G: Drop> Shared<M, V, G> {
     /// How many mounts are being recorded: those with a RECORD that haven't ended.
     pub fn recorded(&self, rt: &impl Wait) -> usize {
         self.board.len(rt)
+    }
+
+    /// Wakes the players of each mount that packets came to, until that is stopped: the work of a thread of its own. Packets
+    /// gather for so long before that.
+    pub fn wake_players<R: Wait + Clock>(&self, rt: &R, gather: Duration) {
+        wake_players(rt, &self.bell, &self.board, gather);
+    }
+
+    /// Ends `wake_players`.
+    pub fn stop_waking(&self) {
+        self.bell.stop();
     }
 }

@@ -13,6 +13,8 @@ use std::process::Abort;
 use std::random::RandomSource;
 use std::sync::atomic::Ordering;
 use std::sync::{Arc, Wait};
+use std::thread;
+use std::time::Duration;
 
 /// Lengths of replies: of the shortest, about as many bytes as are gathered, and more.
 const LENGTHS: [usize; 6] = [28, 32_767, 32_768, 32_769, 65_536, 100_000];
@@ -68,11 +70,17 @@ fn sixteen_waiting_packets_leave_in_one_write(rt: HostRuntime) {
     assert!(rt; end == ConnectionEnd::Done && counts.taken == PACKETS);
 }
 
-/// Its mount lives on.
+/// Its mount lives on, so that nothing but the waking thread tells it of the last packets.
 #[test]
 fn a_player_that_leaves_is_told_its_losses(rt: HostRuntime) {
     let alloc = rt.alloc();
     let shared = shared(&rt, alloc, Rings::of(&rt, alloc, 1));
+    let theirs = Arc::try_clone(&shared).expect(&rt, "a count of its users");
+    let waking = thread::spawn(
+        &rt,
+        move || theirs.wake_players(&rt, Duration::from_millis(1)),
+    );
+    let waking = waking.expect(&rt, "a thread");
     let stay = flag(&rt, alloc);
     let camera = recording(rt, alloc, &shared, Some(&stay));
     let stall = Stall::new(&rt, alloc);
@@ -86,6 +94,8 @@ fn a_player_that_leaves_is_told_its_losses(rt: HostRuntime) {
     assert!(rt; shared.recorded(&rt) == 1);
     stay.store(true, Ordering::SeqCst);
     assert!(rt; accounted == Some(published(&rt, &shared, camera)));
+    shared.stop_waking();
+    waking.join(&rt);
 }
 
 /// Nothing of the mount's packets is kept for a player that has read them all and asks for no more.

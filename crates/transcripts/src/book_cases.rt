@@ -1,4 +1,5 @@
 //! Cases of a book, and of a world that is asked the same.
+ghost use Rattle.std.specs.Prelude.{◌≤◌};
 
 use crate::arguments::{Arguments, short_of};
 use crate::fault::Fault;
@@ -45,15 +46,28 @@ const WORDS: [(&str, BookWord); 11] = [
     ("state", BookWord::State),
 ];
 
-/// A book, one that keeps no more entries than it has to, and a world, in which the same has happened.
+/// When a book cuts its entries off.
+#[derive(Clone, Copy, PartialEq, Drop)]
+pub enum Cutting {
+    /// Behind thousands.
+    Seldom,
+    /// Before each coming and each request that is accepted.
+    Always,
+}
+
+/// A book and a world, in which the same has happened.
 #[derive(Drop)]
 pub struct BookCase {
     alloc: Global,
     hasher: RandomState,
+    cutting: Cutting,
     seats: usize,
     book: Book<u16>,
-    short: Book<u16>,
     world: World,
+    /// How many entries the history has.
+    entries: usize,
+    /// How many of them the book has to keep.
+    kept: usize,
     /// What the following requests are decided with.
     given: Given,
     /// How many passes the next request offers, where that is told.
@@ -63,15 +77,22 @@ pub struct BookCase {
 }
 
 impl BookCase {
-    /// A book and a world in which nothing has happened. Each mount has one seat.
-    pub fn new(alloc: Global, hasher: RandomState) -> BookCase {
+    /// A book and a world in which nothing has happened. Each mount has so many seats.
+    pub fn new(alloc: Global, hasher: RandomState, seats: usize, cutting: Cutting) -> BookCase
+        requires { seats ≤ 1024 }
+    {
         BookCase {
             alloc,
             hasher,
-            seats: 1,
-            book: Book::new(alloc, 1, hasher),
-            short: Book::with_cut(alloc, 1, hasher, 1),
-            world: World::new(alloc, 1, hasher),
+            cutting,
+            seats,
+            book: match cutting {
+                Cutting::Seldom => Book::new(alloc, seats, hasher),
+                Cutting::Always => Book::with_cut(alloc, seats, hasher, 1),
+            },
+            world: World::new(alloc, seats, hasher),
+            entries: 0,
+            kept: 0,
             given: Given {
                 word: 7,
                 points: Items::empty(alloc),
@@ -101,7 +122,7 @@ impl BookCase {
             BookWord::Connect => self.connect(arguments.number_or(1)?, told),
             BookWord::Hangup => self.hangup(u64::from(arguments.number()?), told),
             BookWord::Back => self.give_back(arguments, told),
-            BookWord::Kept => Ok(told.number(Some(self.book.kept() as u64))?),
+            BookWord::Kept => Ok(told.number(Some(self.entries as u64))?),
             word => {
                 let conn = u64::from(arguments.number()?);
                 Ok(self.tell_connection(word, conn, told)?)
@@ -120,34 +141,30 @@ impl BookCase {
             BookWord::Open => {
                 let is_open = self.book.is_open(conn);
                 told.truth(is_open)?;
-                is_open == self.world.is_open(conn) && is_open == self.short.is_open(conn)
+                is_open == self.world.is_open(conn)
             }
             BookWord::Mount => {
                 let mount = self.book.mount_of(conn);
                 told.number(mount)?;
-                mount == self.world.mount_of(conn) && mount == self.short.mount_of(conn)
+                mount == self.world.mount_of(conn)
             }
             _ => self.tell_state(conn, told)?,
         };
         tell_agreement(agrees, told)
     }
 
-    /// Tells the state of a connection's session. Whether it is the same in both books.
+    /// Tells the state of a connection's session. Whether the world tells the same.
     fn tell_state(&self, conn: u64, told: &mut Told) -> Result<bool, AllocError> {
         let of_book = state_text(self.alloc, self.book.session_of(conn))?;
-        let of_short = state_text(self.alloc, self.short.session_of(conn))?;
         let of_world = state_text(self.alloc, self.world.session_of(conn))?;
-        told.fact(of_world.as_bytes())?;
-        Ok(of_book.as_str() == of_world.as_str() && of_short.as_str() == of_world.as_str())
+        told.fact(of_book.as_bytes())?;
+        Ok(of_book.as_str() == of_world.as_str())
     }
 
     /// Begins anew, with so many seats a mount.
     fn seat(&mut self, arguments: &mut Arguments<'_>) -> Result<(), Fault> {
         let seats = arguments.number_to(MOST_SEATS)? as usize;
-        self.seats = seats;
-        self.book = Book::new(self.alloc, seats, self.hasher);
-        self.short = Book::with_cut(self.alloc, seats, self.hasher, 1);
-        self.world = World::new(self.alloc, seats, self.hasher);
+        *self = BookCase::new(self.alloc, self.hasher, seats, self.cutting);
         Ok(())
     }
 
@@ -165,11 +182,13 @@ impl BookCase {
     fn connect(&mut self, count: u32, told: &mut Told) -> Result<(), Fault> {
         let mut last = None;
         for _ in 0..count {
-            let kept = self.book.kept();
             let came = connected(self.book.connect())?;
             tell_agreement(connected(self.world.connect())? == came, told)?;
-            tell_same(connected(self.short.connect())? == came, told)?;
-            self.tell_rise(kept, usize::from(came.is_some()), told)?;
+            if came.is_some() {
+                self.cut_off();
+                self.add_entry();
+            }
+            self.tell_kept(told)?;
             last = came;
         }
         match last {
@@ -180,32 +199,32 @@ impl BookCase {
     }
 
     fn hangup(&mut self, conn: u64, told: &mut Told) -> Result<(), Fault> {
-        let kept = self.book.kept();
-        let was_open = self.book.is_open(conn);
+        if self.book.is_open(conn) {
+            self.add_entry();
+        }
         let act = self.book.hangup(conn);
         told.fact(act_text(self.alloc, act)?.as_bytes())?;
         tell_agreement(self.world.hangup(conn) == act, told)?;
-        tell_same(self.short.hangup(conn) == act, told)?;
-        self.tell_rise(kept, usize::from(was_open), told)
+        self.tell_kept(told)
     }
 
     fn give_back(&mut self, arguments: &mut Arguments<'_>, told: &mut Told) -> Result<(), Fault> {
         let mount = u64::from(arguments.number()?);
         let seat = arguments.number()? as usize;
         let pass = arguments.short()?;
-        let kept = self.book.kept();
         let back = self.book.give_back(mount, seat, pass);
         match back {
-            None => told.fact(b"taken")?,
+            None => {
+                self.add_entry();
+                told.fact(b"taken")?;
+            }
             Some(pass) => {
                 let text = format!(in self.alloc; "returned {pass}")?;
                 told.fact(text.as_bytes())?;
             }
         }
-        let taken = back.is_none();
-        tell_agreement(self.world.back(mount, seat) == taken, told)?;
-        tell_same(self.short.give_back(mount, seat, pass) == back, told)?;
-        self.tell_rise(kept, usize::from(taken), told)
+        tell_agreement(self.world.back(mount, seat) == back.is_none(), told)?;
+        self.tell_kept(told)
     }
 
     /// Asks what a text of one request says, for a connection.
@@ -217,39 +236,15 @@ impl BookCase {
     /// Asks what a request says, for a connection.
     fn ask_request(&mut self, conn: u64, request: &Request, told: &mut Told) -> Result<(), Fault> {
         let offer = self.next_offer(request)?;
-        let of_short = self.asked_short(conn, request, &offer)?;
-        let kept = self.book.kept();
-        let asked = self.book.ask(conn, request, &self.given, offer);
-        tell_same(
-            of_short.as_slice() == outcome(self.alloc, &asked)?.as_slice(),
-            told,
-        )?;
-        let (rise, is_told) = match asked {
-            Ok(answer) => (1, self.tell_answer(conn, request, &answer, told)),
-            Err(fault) => (0, tell_refusal(self.alloc, &fault, told)),
-        };
-        is_told?;
-        self.tell_rise(kept, rise, told)
-    }
-
-    /// What the book that keeps few entries answers to a request, with the same offer. Where it adds an entry, this is the
-    /// only one.
-    fn asked_short(
-        &mut self,
-        conn: u64,
-        request: &Request,
-        offer: &Option<Vec<u16>>,
-    ) -> Result<Vec<u8>, Fault> {
-        let offer = match offer {
-            Some(passes) => Some(Vec::from_slice(self.alloc, passes.as_slice())?),
-            None => None,
-        };
-        let asked = self.short.ask(conn, request, &self.given, offer);
-        let mut text = outcome(self.alloc, &asked)?;
-        if asked.is_ok() && self.short.kept() != 1 {
-            text.clear();
+        match self.book.ask(conn, request, &self.given, offer) {
+            Ok(answer) => {
+                self.cut_off();
+                self.add_entry();
+                self.tell_answer(conn, request, &answer, told)?;
+            }
+            Err(fault) => tell_refusal(self.alloc, &fault, told)?,
         }
-        Ok(text)
+        self.tell_kept(told)
     }
 
     /// Tells what the book answers to a request, and where the world answers it otherwise.
@@ -300,10 +295,23 @@ impl BookCase {
         Ok(act == wanted && is_foreseen && is_replied)
     }
 
-    /// Tells how many entries the book keeps, unless they are so many more than before.
-    fn tell_rise(&self, before: usize, rise: usize, told: &mut Told) -> Result<(), Fault> {
+    /// The entries are cut off, if the book does so.
+    fn cut_off(&mut self) {
+        if self.cutting == Cutting::Always {
+            self.kept = 0;
+        }
+    }
+
+    /// The history has one entry more, which the book has to keep.
+    fn add_entry(&mut self) {
+        self.entries = self.entries.saturating_add(1);
+        self.kept = self.kept.saturating_add(1);
+    }
+
+    /// Tells how many entries the book keeps, unless they are as many as they have to be.
+    fn tell_kept(&self, told: &mut Told) -> Result<(), Fault> {
         let kept = self.book.kept();
-        if kept != before.saturating_add(rise) {
+        if kept != self.kept {
             let text = format!(in self.alloc; "kept {kept}")?;
             told.fact(text.as_bytes())?;
         }
@@ -317,15 +325,6 @@ fn tell_agreement(agrees: bool, told: &mut Told) -> Result<(), AllocError> {
         Ok(())
     } else {
         told.fact(b"world differs")
-    }
-}
-
-/// Tells where the book that keeps few entries told something else.
-fn tell_same(is_same: bool, told: &mut Told) -> Result<(), AllocError> {
-    if is_same {
-        Ok(())
-    } else {
-        told.fact(b"short book differs")
     }
 }
 
@@ -393,27 +392,8 @@ fn answer_text(alloc: Global, answer: &Answer<u16>) -> Result<String, AllocError
     Ok(text)
 }
 
-/// All that a request is answered: the reply, the act and the passes, or why there is none.
-fn outcome(alloc: Global, asked: &Result<Answer<u16>, AskFault<u16>>) -> Result<Vec<u8>, Fault> {
-    let mut text = Vec::new(alloc);
-    match asked {
-        Ok(answer) => {
-            put_reply(&mut text, &answer.reply)?;
-            text.extend_from_slice(answer_text(alloc, answer)?.as_bytes())?;
-        }
-        Err(fault) => text.extend_from_slice(refusal_text(alloc, fault)?.as_bytes())?,
-    }
-    Ok(text)
-}
-
-/// Tells why a request isn't answered.
+/// Tells why a request isn't answered, and how many passes came back.
 fn tell_refusal(alloc: Global, fault: &AskFault<u16>, told: &mut Told) -> Result<(), Fault> {
-    let text = refusal_text(alloc, fault)?;
-    Ok(told.fact(text.as_bytes())?)
-}
-
-/// Why a request isn't answered, and how many passes came back.
-fn refusal_text(alloc: Global, fault: &AskFault<u16>) -> Result<String, Fault> {
     let (words, back) = match fault {
         AskFault::NotOpen { back } => ("not open", back),
         AskFault::BadOffer { back } => ("bad offer", back),
@@ -421,7 +401,7 @@ fn refusal_text(alloc: Global, fault: &AskFault<u16>) -> Result<String, Fault> {
     };
     let mut text = String::from_str(alloc, words)?;
     push_back(&mut text, alloc, back)?;
-    Ok(text)
+    Ok(told.fact(text.as_bytes())?)
 }
 
 /// Says how many passes came back, if any did.

@@ -1,5 +1,6 @@
 //! Cases.
 
+use crate::book_cases::Cutting;
 use crate::fault::Fault;
 use crate::kind::Kind;
 use crate::step::{Input, Step};
@@ -23,13 +24,14 @@ impl Case {
     pub fn new(
         alloc: Global,
         hasher: RandomState,
+        cutting: Cutting,
         kind: Kind,
         title: &[u8],
     ) -> Result<Case, Fault> {
         Ok(Case {
             kind,
             title: Vec::from_slice(alloc, title)?,
-            subject: Subject::new(alloc, hasher, kind)?,
+            subject: Subject::new(alloc, hasher, cutting, kind)?,
             step: None,
         })
     }

@@ -25,6 +25,7 @@ mod track_cases;
 mod uri_cases;
 mod words;
 
+use book_cases::Cutting;
 use fault::Fault;
 use running::{Outcome, outcome_of};
 use std::alloc::AllocError;
@@ -45,11 +46,21 @@ fn main(rt: HostRuntime) -> io::Result<ExitCode> {
     }
 }
 
-/// Runs the cases of the standard input. Whether each step gave what it had to.
+/// Runs the cases of the standard input, and once more over books that cut off what they can. Whether each step gave what it
+/// had to, both times. Of a second run that does nothing is told.
 fn run_input(rt: &(impl Input + Print + Eprint + AllocGlobal + RandomSource)) -> io::Result<bool> {
     let text = read_input(rt)?;
-    let outcome = outcome_of(rt.alloc(), RandomState::new(rt)?, &text);
+    let hasher = RandomState::new(rt)?;
+    let outcome = outcome_of(rt.alloc(), hasher, Cutting::Seldom, &text);
     tell(rt, &outcome)?;
+    if !outcome.holds {
+        return Ok(false);
+    }
+    let outcome = outcome_of(rt.alloc(), hasher, Cutting::Always, &text);
+    if !outcome.holds {
+        println!(rt; "over books that cut their entries off")?;
+        tell(rt, &outcome)?;
+    }
     Ok(outcome.holds)
 }
 

@@ -1,5 +1,6 @@
 //! Running the cases of a text.
 
+use crate::book_cases::Cutting;
 use crate::cases::Case;
 use crate::comparing::tell_difference;
 use crate::fault::Fault;
@@ -21,9 +22,9 @@ pub struct Outcome {
     pub fault: Option<(usize, Fault)>,
 }
 
-/// Runs all cases of a text, and tells how many there were.
-pub fn outcome_of(alloc: Global, hasher: RandomState, text: &[u8]) -> Outcome {
-    let mut run = Run::new(alloc, hasher);
+/// Runs all cases of a text, over books that cut their entries off so, and tells how many there were.
+pub fn outcome_of(alloc: Global, hasher: RandomState, cutting: Cutting, text: &[u8]) -> Outcome {
+    let mut run = Run::new(alloc, hasher, cutting);
     let fault = match run.run(text) {
         Ok(()) => None,
         Err(fault) => Some((run.line, fault)),
@@ -40,6 +41,7 @@ pub fn outcome_of(alloc: Global, hasher: RandomState, text: &[u8]) -> Outcome {
 struct Run {
     alloc: Global,
     hasher: RandomState,
+    cutting: Cutting,
     /// The number of the line that is read, or of the step that is run.
     line: usize,
     case: Option<Case>,
@@ -51,10 +53,11 @@ struct Run {
 
 impl Run {
     /// A run of which nothing is read.
-    fn new(alloc: Global, hasher: RandomState) -> Run {
+    fn new(alloc: Global, hasher: RandomState, cutting: Cutting) -> Run {
         Run {
             alloc,
             hasher,
+            cutting,
             line: 0,
             case: None,
             counts: [0; 8],
@@ -103,7 +106,7 @@ impl Run {
             return Err(Fault::CaseInCase);
         }
         let kind = Kind::named(kind).ok_or(Fault::UnknownKind)?;
-        self.case = Some(Case::new(self.alloc, self.hasher, kind, title)?);
+        self.case = Some(Case::new(self.alloc, self.hasher, self.cutting, kind, title)?);
         Ok(())
     }
 

@@ -1,7 +1,7 @@
 //! What a case is run over.
 
 use crate::arguments::Arguments;
-use crate::book_cases::BookCase;
+use crate::book_cases::{BookCase, Cutting};
 use crate::description_cases::tell_description;
 use crate::fault::Fault;
 use crate::header_cases::HeaderCase;
@@ -31,10 +31,15 @@ pub enum Subject {
 }
 
 impl Subject {
-    /// That of a case that begins.
-    pub fn new(alloc: Global, hasher: RandomState, kind: Kind) -> Result<Subject, AllocError> {
+    /// That of a case that begins. Each mount of a book has one seat.
+    pub fn new(
+        alloc: Global,
+        hasher: RandomState,
+        cutting: Cutting,
+        kind: Kind,
+    ) -> Result<Subject, AllocError> {
         Ok(match kind {
-            Kind::Book => Subject::Book(BookCase::new(alloc, hasher)),
+            Kind::Book => Subject::Book(BookCase::new(alloc, hasher, 1, cutting)),
             Kind::Stream => Subject::Stream(StreamCase::new(alloc)),
             Kind::Reply => Subject::Reply,
             Kind::Sdp => Subject::Sdp,
