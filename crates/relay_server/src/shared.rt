@@ -79,7 +79,9 @@ impl<M: Maker + Drop, V: Drop, G: Drop> Shared<M, V, G> {
     pub fn recorded(&self, rt: &impl Wait) -> usize {
         self.board.len(rt)
     }
+}
 
+impl<M: Maker, V, G> Shared<M, V, G> {
     /// Wakes the players of each mount that packets came to, until that is stopped: the work of a thread of its own. Packets
     /// gather for so long before that.
     pub fn wake_players<R: Wait + Clock>(&self, rt: &R, gather: Duration) {
