@@ -102,7 +102,7 @@ impl fmt::Display for Counts {
     fn fmt<W: fmt::Write>(&self, f: &mut fmt::Formatter<W>) -> fmt::Result {
         write!(
             f,
-            "published {}, pinned {}, oversize {}, bad RTP {}, strangers {}, unkept {}, taken {}, lost {}",
+            "published {}, pinned {}, too long {}, bad RTP {}, unknown channel {}, no memory {}; sent {}, lost {}",
             self.published,
             self.pinned,
             self.oversize,

@@ -92,11 +92,11 @@ const LOSSLESS: Counts = Counts {
 
 /// The text of counts of which most are nothing.
 const UNTOLD: &str =
-    "published 18446744073709551615, pinned 0, oversize 0, bad RTP 0, strangers 9, unkept 0, taken 9, lost 0";
+    "published 18446744073709551615, pinned 0, too long 0, bad RTP 0, unknown channel 9, no memory 0; sent 9, lost 0";
 
 /// The line that tells of the counts.
 const COUNTED: &str =
-    "[INFO  relay_server::server] 10.0.0.1:554: published 1, pinned 2, oversize 3, bad RTP 4, strangers 5, unkept 6, taken 7, lost 8, slowed 9 ms";
+    "[INFO  relay_server::server] 10.0.0.1:554: published 1, pinned 2, too long 3, bad RTP 4, unknown channel 5, no memory 6; sent 7, lost 8, slowed 9 ms";
 
 /// A publisher that lost nothing and was slowed.
 const SLOWED: Counts = Counts {
@@ -118,7 +118,7 @@ const TOLD: [(Counts, Option<&str>); 3] = [
     (
         SLOWED,
         Some(
-            "[INFO  relay_server::server] 10.0.0.1:554: published 9, pinned 0, oversize 0, bad RTP 0, strangers 0, unkept 0, taken 0, lost 0, slowed 12 ms",
+            "[INFO  relay_server::server] 10.0.0.1:554: published 9, pinned 0, too long 0, bad RTP 0, unknown channel 0, no memory 0; sent 0, lost 0, slowed 12 ms",
         ),
     ),
 ];
