@@ -15,14 +15,11 @@ use Rattle.session_state.specs.declared.entry.Entry.TheVariants.{Request}
 use Rattle.session_state.specs.declared.given.Given.{Given}
 use Rattle.session_state.specs.declared.method.Method.{Method}
 use Rattle.session_state.specs.declared.method.Method.TheVariants as methods
-use Rattle.session_state.specs.declared.session.Session.{Session}
-use Rattle.session_state.specs.Checks.{LooksUp}
 use Rattle.session_state.specs.History.{History, accepted, accepts, accepts_from, act_of, how_many, is_play_of, last_of}
-use Rattle.session_state.specs.Judged.{IsReplyIn, asked_of}
 use Rattle.session_state.specs.Legal.{IsLegal, IsReplyOf}
-use Rattle.session_state.specs.Lookups.{IsSessionOf, is_open, open_count}
+use Rattle.session_state.specs.Lookups.{open_count}
 use Rattle.session_state.specs.Methods.{is_announce, is_teardown, method_of}
-use Rattle.session_state.specs.Stands.{Stands, Tables, kept_of, session_kept}
+use Rattle.session_state.specs.Stands.{Stands, Tables}
 use Rattle.session_state.specs.Streams.{IsLive, ends_of, is_out, takes_or_gives_back}
 use Rattle.session_state.proofs.Announced.{owned_none}
 use Rattle.session_state.proofs.Plays.{plays_free}
@@ -32,7 +29,6 @@ use Rattle.session_lock.specs.Entries.{Adds, Written, method_accepted}
 use Rattle.session_lock.specs.Held.{Held}
 use Rattle.session_lock.specs.Requests.{CanBegin, passes_after, pass_after}
 use Rattle.session_lock.specs.Spares.{AreSpare, IsSpareOf, handed_out, left_by, of_owner, out_count, pass_at, unended, without}
-use Rattle.session_state.proofs.OneReply.{one_reply}
 use Rattle.session_lock.proofs.Played.{out_counted, plays_on}
 use Rattle.session_lock.proofs.Spared.{begun_so, ended_so, moved_so, unnumbered}
 use Rattle.session_lock.proofs.Standing.{base_after, flip, next_is, none_ended, same_filter}
@@ -228,24 +224,6 @@ module _ (conn : ℕ) (request : messages.Request) (given : Given) (reply : Repl
               some None there = absurd (cc)
               some (Some pass) there = refl
           here (x ∷ passes) (suc seat) place there free = here passes seat place there free
-
--- what the tables tell for a request of a connection that is open
-looked_up : (history : History) (tables : Tables) (conn : ℕ) (request : messages.Request) → Stands history tables → IsSome (kept_of conn tables.connections) → LooksUp (asked_of tables history conn request)
-looked_up history tables conn request stands some = record { mounts = stands.mounts; session = by (kept_of conn tables.connections) refl some }
-  where
-    by : (kept : Option (Option Session)) → kept_of conn tables.connections ≡ kept → is_some (kept_of conn tables.connections) ≡ true
-        → IsSessionOf tables.mounts.seats conn history (session_kept tables conn)
-    by None at there = absurd (cc)
-    by (Some session) at there = subst (IsSessionOf tables.mounts.seats conn history) (sym (ap (option_and_then (λ kept. kept)) at)) (stands.sessions conn session at)
-
-pub same_reply : (history : History) (tables : Tables) (conn : ℕ) (request : messages.Request) (given : Given) (one other : Reply) → IsLegal tables.mounts.seats history → Stands history tables
-    → IsSome (kept_of conn tables.connections) → IsReplyIn tables history conn request given one → IsReplyIn tables history conn request given other → one ≡ other
-same_reply history tables conn request given one other legal stands some is also =
-    one_reply (asked_of tables history conn request) (looked_up history tables conn request stands some) legal given one other is.0 also.0 is.1 also.1
-
--- an open connection is kept
-pub kept_open : (history : History) (tables : Tables) (conn : ℕ) → Stands history tables → is_open conn history ≡ true → IsSome (kept_of conn tables.connections)
-kept_open history tables conn stands there = stands.are_open conn ∙ there
 
 module _ {P : Type 0} (seats : ℕ) (tables after : Tables) (written later : Written) (held left : Held P) (kept : IsKept seats tables written held) (same : after.mounts.seats ≡ tables.mounts.seats) where
   -- What a request leaves.

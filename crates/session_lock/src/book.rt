@@ -20,7 +20,9 @@ use crate::copies::{copies_of, make_room, room_for};
 use crate::entries::{Entries, accepted_method};
 use crate::spares::Spares;
 use rtsp_message::Request;
-use session_state::{Act, ConnectFault, Entry, Given, Method, Session, World, read_method};
+use session_state::{
+    Act, ConnectFault, Decision, Entry, Given, Method, Session, World, read_method,
+};
 use std::alloc::Global;
 use std::collections::hash_map::RandomState;
 use std::marker::Model;
@@ -165,8 +167,8 @@ impl<P: Drop> Book<P> {
         act
     }
 
-    /// Gives back the pass of a seat. `None` where that seat of a mount that lives was out, and is free now; else the pass
-    /// is handed back, and nothing has changed. Takes no memory.
+    /// Gives back the pass of a seat; that it is this seat's is the caller's duty. `None` where that seat of a mount that
+    /// lives was out, and is free now; else the pass is handed back, and nothing has changed. Takes no memory.
     pub fn give_back(&mut self, mount: u64, seat: usize, pass: P) -> Option<P>
         ensures is { IfNone result (IsBack self.old.history mount seat) }
         ensures taken { IfNone result (self.new ≡ record self.old { history = entries.Back mount seat ∷ self.old.history; kept = self.old.kept + 1; spares = with_pass mount seat (Some pass) self.old.spares }) }
@@ -184,7 +186,7 @@ impl<P: Drop> Book<P> {
     /// Answers a request of an open connection. An ANNOUNCE comes with an offer of passes, one for each seat, and is given
     /// them back unless it is accepted; a PLAY that takes a seat is handed its pass. The only error is want of memory, and
     /// then nothing has changed: all copies, a new base where the kept entries are cut off, and all room are made before
-    /// anything is decided. Makes the room for the return of the seat.
+    /// anything changes. Makes the room for the return of the seat.
     pub fn call(
         &mut self,
         conn: u64,
@@ -206,7 +208,7 @@ impl<P: Drop> Book<P> {
         ensures err { OnErr result (self.new ≡ self.old) }
         ensures handed_back { IfErr result (λ refused. refused.back ≡ offer) }
     {
-        let Ok(copies) = copies_of(self.alloc, &self.world, conn, request, given) else {
+        let Ok(copies) = copies_of(self.alloc, request, given) else {
             return Err(NoMemory { back: offer });
         };
         let Ok(room) = room_for(self.alloc, &offer) else {
@@ -220,11 +222,12 @@ impl<P: Drop> Book<P> {
             return Err(NoMemory { back: offer });
         };
         let number = self.world.next_mount();
-        let Ok((reply, act)) = self.world.decide(self.alloc, conn, request, given) else {
+        let Ok(decision) = self.world.decide_and_copy(self.alloc, conn, request, given) else {
             return Err(NoMemory { back: offer });
         };
+        let Decision { reply, copy, act } = decision;
         let method = accepted_method(request, &reply);
-        self.entries.add(next, copies.into_entry(conn, act));
+        self.entries.add(next, copies.into_entry(conn, copy, act));
         let (pass, back) = self.spares.settle(conn, number, method, act, offer, room);
         Ok(Answer {
             reply,

@@ -1,59 +1,49 @@
 //! The copies that the history keeps of a request.
-ghost use Rattle.std.specs.Prelude.{◌≡◌, ◌≤◌, ◌<◌, ◌+◌, ◌^◌, [], IfOk, OnOk, IsSome, Option, Some, vec_len, vec_capacity, Vec};
-ghost use Rattle.session_state.specs.History.{History};
-ghost use Rattle.session_state.specs.Judged.{IsReplyIn};
-ghost use Rattle.session_state.specs.Legal.{IsLegal};
-ghost use Rattle.session_state.specs.Stands.{Stands, kept_of};
+ghost use Rattle.std.specs.Prelude.{◌≡◌, ◌≤◌, ◌<◌, ◌+◌, ◌^◌, [], IfOk, OnOk, Option, Some, vec_len, vec_capacity, Vec};
 ghost use Rattle.session_lock.specs.Spares.{out_count};
 
 use crate::entries::Entries;
 use crate::spares::Spares;
 use rtsp_message::{Reply, Request};
-use session_state::{Act, Entry, Given, World};
+use session_state::{Act, Entry, Given};
 use std::alloc::{AllocError, Global};
 
-/// What the history keeps of a request, beside its connection and its act.
+/// What the history keeps of a request, beside its connection and how it is answered.
 #[derive(Drop)]
 pub(crate) struct Copies {
     pub request: Request,
     pub given: Given,
-    pub reply: Reply,
 }
 
 impl Copies {
     ghost use Rattle.session_state.specs.declared.entry.Entry.TheVariants as entries;
 
-    /// The entry of the request. Takes no memory.
-    pub(crate) fn into_entry(self, conn: u64, act: Act) -> Entry
-        ensures { result ≡ entries.Request conn self.request self.given self.reply act }
+    /// The entry of the request, with the reply and the act that it got. Takes no memory.
+    pub(crate) fn into_entry(self, conn: u64, reply: Reply, act: Act) -> Entry
+        ensures { result ≡ entries.Request conn self.request self.given reply act }
     {
         Entry::Request {
             conn,
             request: self.request,
             given: self.given,
-            reply: self.reply,
+            reply,
             act,
         }
     }
 }
 
-/// Copies a request and what is handed in with it, and makes the reply that it will get.
+/// Copies a request and what is handed in with it.
 pub(crate) fn copies_of(
     alloc: Global,
-    world: &World,
-    conn: u64,
     request: &Request,
     given: &Given,
 ) -> Result<Copies, AllocError>
-    requires { IsSome (kept_of conn world.now.connections) }
     ensures request { IfOk result (λ copies. copies.request ≡ request.now) }
     ensures given { IfOk result (λ copies. copies.given ≡ given.now) }
-    ensures reply { IfOk result (λ copies. (history : History) → IsLegal world.now.mounts.seats history → Stands history world.now → IsReplyIn world.now history conn request.now given.now copies.reply) }
 {
     Ok(Copies {
         request: request.copy(alloc)?,
         given: given.copy(alloc)?,
-        reply: world.reply_of(alloc, conn, request, given)?,
     })
 }
 

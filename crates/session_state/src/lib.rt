@@ -12,6 +12,7 @@ mod asking;
 mod change;
 mod check;
 mod checking;
+mod decision;
 mod entry;
 mod fault;
 mod fields;
@@ -34,6 +35,7 @@ mod world;
 
 pub use act::Act;
 pub use check::Check;
+pub use decision::Decision;
 pub use entry::Entry;
 pub use fault::ConnectFault;
 pub use given::Given;

@@ -2,6 +2,7 @@
 ghost use Rattle.std.specs.Prelude.{◌≡◌, ◌≤◌, ◌<◌, ◌+◌, ◌^◌, ◌∷◌, [], true, false, length, MatchBool, IfOk, OnErr, IfErr, List};
 
 use crate::act::Act;
+use crate::decision::Decision;
 use crate::fault::ConnectFault;
 use crate::given::Given;
 use crate::session::{Session, State, copy_session};
@@ -148,6 +149,29 @@ impl World {
         let (reply, change) = self.judge(alloc, conn, request, given)?;
         let act = self.apply(conn, change)?;
         Ok((reply, act))
+    }
+
+    /// Decides as `decide` does, and copies the reply, before anything changes.
+    pub fn decide_and_copy(
+        &mut self,
+        alloc: Global,
+        conn: u64,
+        request: &Request,
+        given: &Given,
+    ) -> Result<Decision, AllocError>
+        requires open { IsSome (kept_of conn self.old.connections) }
+        ensures ok { IfOk result (λ decision. (history : History) → IsLegal self.old.mounts.seats history → Stands history self.old
+            → IsReplyOf self.old.mounts.seats history conn request.now given.now decision.reply decision.act
+            × Stands (entries.Request conn request.now given.now decision.reply decision.act ∷ history) self.new) }
+        ensures reply { IfOk result (λ decision. (history : History) → IsLegal self.old.mounts.seats history → Stands history self.old → IsReplyIn self.old history conn request.now given.now decision.reply) }
+        ensures copy { IfOk result (λ decision. decision.copy ≡ decision.reply) }
+        ensures err { OnErr result (self.new ≡ self.old) }
+        ensures seats { self.new.mounts.seats ≡ self.old.mounts.seats }
+    {
+        let (reply, change) = self.judge(alloc, conn, request, given)?;
+        let copy = reply.copy(alloc)?;
+        let act = self.apply(conn, change)?;
+        Ok(Decision { reply, copy, act })
     }
 
     /// The reply that `decide` would give here.

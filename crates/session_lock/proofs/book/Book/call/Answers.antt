@@ -1,30 +1,31 @@
-use Rattle.std.proofs.Common.{◌≡◌, ◌∷◌, nat_le, true, is_some, ap, sym, subst, ◌∙◌, arith}
+use Rattle.std.proofs.Common.{◌∷◌, nat_le, is_some, ap, sym, subst, ◌∙◌, arith}
 use Rattle.std.specs.Option.{option_map}
 use Rattle.session_state.specs.declared.entry.Entry.TheVariants.{Request}
 use Rattle.session_state.specs.Legal.{IsLegal, IsReplyOf}
-use Rattle.session_state.specs.Lookups.{is_open}
 use Rattle.session_lock.specs.Books.{IsOffer}
 use Rattle.session_lock.specs.Entries.{Adds, Written}
 use Rattle.session_lock.specs.Requests.{CanBegin}
 use Rattle.session_lock.specs.Spares.{AreSpare, handed_out}
-use Rattle.session_lock.proofs.Requested.{can_begin, entered, kept_open, pass_comes, pass_so, requested, same_reply, settled_so}
+use Rattle.session_lock.proofs.Requested.{can_begin, entered, pass_comes, pass_so, requested, settled_so}
 use Rattle.session_lock.proofs.Standing.{roomier}
 use Rattle.session_lock.proofs.book.Book.call.Goals as goal
 
 pub settle-pass-requires-clause-begins : goal.settle-pass-requires-clause-begins
 settle-pass-requires-clause-begins g c named =
+    let decided = c.in-Ok-decide_and_copy.decision in
     let written = c.self.inside.entries in
     let kept = c.self.invariant in
     let legal = subst (λ n. IsLegal n written.history) (sym kept.seats_are) kept.legal in
-    let replied = c.in-Ok-decide.ensures.ok written.history legal kept.stands in
-    let follows = subst (λ n. IsReplyOf n written.history c.args.conn c.args.request.now c.args.given.now c.in-Ok-decide.reply c.in-Ok-decide.act) kept.seats_are replied.0 in
+    let replied = c.in-Ok-decide_and_copy.ensures.ok written.history legal kept.stands in
+    let follows = subst (λ n. IsReplyOf n written.history c.args.conn c.args.request.now c.args.given.now decided.reply decided.act) kept.seats_are replied.0 in
     let spare = subst (AreSpare c.self.inside.seats written.history) (sym c.make_room.ensures.mounts) kept.spare in
     subst (CanBegin c.make_room.new.spares c.args.conn) (sym (c.next_mount-number.ensures written.history kept.stands))
-    (can_begin c.args.conn c.args.request.now c.args.given.now c.in-Ok-decide.reply c.in-Ok-decide.act c.self.inside.seats written.history follows c.make_room.new.spares spare c.in-Ok-make_room.ensures.spares
+    (can_begin c.args.conn c.args.request.now c.args.given.now decided.reply decided.act c.self.inside.seats written.history follows c.make_room.new.spares spare c.in-Ok-make_room.ensures.spares
     (sym c.accepted_method-method.ensures ∙ named))
 
 pub invariant_of-self-2 : goal.invariant_of-self-2
 invariant_of-self-2 g c =
+    let decided = c.in-Ok-decide_and_copy.decision in
     let tables = c.self.inside.world in
     let written = c.self.inside.entries in
     let roomy = c.make_room.new.entries in
@@ -34,70 +35,62 @@ invariant_of-self-2 g c =
     let same = ap (λ (w : Written). w.history) c.make_room.ensures.same in
     let legal = subst (λ n. IsLegal n written.history) (sym kept.seats_are) kept.legal in
     let legal_now = subst (λ n. IsLegal n roomy.history) (sym more.seats_are) more.legal in
-    let replied = c.in-Ok-decide.ensures.ok roomy.history legal_now more.stands in
-    let there = subst (λ now. is_open c.args.conn now.history ≡ true) (sym c.self.view_is) c.requires.open in
-    let reply : c.in-Ok.copies.reply ≡ c.in-Ok-decide.reply =
-    same_reply written.history tables c.args.conn c.args.request.now c.args.given.now c.in-Ok.copies.reply c.in-Ok-decide.reply legal kept.stands (kept_open written.history tables c.args.conn kept.stands there)
-    (c.in-Ok.ensures.reply written.history legal kept.stands) (c.in-Ok-decide.ensures.reply written.history legal kept.stands) in
-    let is = entered c.into_entry.result c.args.conn c.in-Ok.copies.request c.args.request.now c.in-Ok.copies.given c.args.given.now c.in-Ok.copies.reply c.in-Ok-decide.reply c.in-Ok-decide.act
-    c.into_entry.ensures c.in-Ok.ensures.request c.in-Ok.ensures.given reply in
+    let replied = c.in-Ok-decide_and_copy.ensures.ok roomy.history legal_now more.stands in
+    let is = entered c.into_entry.result c.args.conn c.in-Ok.copies.request c.args.request.now c.in-Ok.copies.given c.args.given.now decided.copy decided.reply decided.act
+    c.into_entry.ensures c.in-Ok.ensures.request c.in-Ok.ensures.given c.in-Ok-decide_and_copy.ensures.copy in
     let adds = subst (λ entry. Adds c.in-Ok-next_base.next entry roomy c.add.new.self) is c.add.ensures in
     let offered = subst (λ now. IsOffer now.seats c.args.request.now.method (option_map (λ passes. passes.items) c.args.offer)) (sym c.self.view_is) c.requires.offer in
     let number = c.next_mount-number.ensures roomy.history more.stands in
-    let settled = settled_so c.settle-pass.new.self.mounts c.make_room.new.spares.mounts held.mounts c.next_mount-number.result c.accepted_method-method.result c.args.conn c.args.request.now c.in-Ok-decide.reply
-    c.in-Ok-decide.act (option_map (λ passes. passes.items) c.args.offer) roomy.history c.settle-pass.ensures.mounts number c.accepted_method-method.ensures c.make_room.ensures.mounts in
+    let settled = settled_so c.settle-pass.new.self.mounts c.make_room.new.spares.mounts held.mounts c.next_mount-number.result c.accepted_method-method.result c.args.conn c.args.request.now decided.reply
+    decided.act (option_map (λ passes. passes.items) c.args.offer) roomy.history c.settle-pass.ensures.mounts number c.accepted_method-method.ensures c.make_room.ensures.mounts in
     let promised = c.in-Ok-make_room.ensures.entries in
     let there_are = c.count_open-opened.ensures roomy.history more.stands in
     let out = c.settle-pass.ensures.out in
     let room = adds.room in
-    requested c.self.inside.seats tables c.decide.new.self roomy c.add.new.self held c.settle-pass.new.self more c.decide.ensures.seats (nat_le written.cut written.kept) c.in-Ok-next_base.next c.args.conn c.args.request.now
-    c.args.given.now c.in-Ok-decide.reply c.in-Ok-decide.act (option_map (λ passes. passes.items) c.args.offer) c.in-Ok-next_base.ensures offered replied adds settled (omega (arith, promised, there_are, out, room))
+    requested c.self.inside.seats tables c.decide_and_copy.new.self roomy c.add.new.self held c.settle-pass.new.self more c.decide_and_copy.ensures.seats (nat_le written.cut written.kept) c.in-Ok-next_base.next c.args.conn c.args.request.now
+    c.args.given.now decided.reply decided.act (option_map (λ passes. passes.items) c.args.offer) c.in-Ok-next_base.ensures offered replied adds settled (omega (arith, promised, there_are, out, room))
 
 pub returns-clause-reply : goal.returns-clause-reply
 returns-clause-reply g c =
+    let decided = c.in-Ok-decide_and_copy.decision in
     let written = c.self.inside.entries in
     let kept = c.self.invariant in
     let legal = subst (λ n. IsLegal n written.history) (sym kept.seats_are) kept.legal in
-    let replied = c.in-Ok-decide.ensures.ok written.history legal kept.stands in
-    let follows = subst (λ n. IsReplyOf n written.history c.args.conn c.args.request.now c.args.given.now c.in-Ok-decide.reply c.in-Ok-decide.act) kept.seats_are replied.0 in
-    subst (λ now. IsReplyOf now.seats now.history c.args.conn c.args.request.now c.args.given.now c.in-Ok-decide.reply c.in-Ok-decide.act) c.self.view_is follows
+    let replied = c.in-Ok-decide_and_copy.ensures.ok written.history legal kept.stands in
+    let follows = subst (λ n. IsReplyOf n written.history c.args.conn c.args.request.now c.args.given.now decided.reply decided.act) kept.seats_are replied.0 in
+    subst (λ now. IsReplyOf now.seats now.history c.args.conn c.args.request.now c.args.given.now decided.reply decided.act) c.self.view_is follows
 
 pub returns-clause-history : goal.returns-clause-history
 returns-clause-history g c =
-    let tables = c.self.inside.world in
-    let written = c.self.inside.entries in
-    let kept = c.self.invariant in
-    let legal = subst (λ n. IsLegal n written.history) (sym kept.seats_are) kept.legal in
-    let there = subst (λ now. is_open c.args.conn now.history ≡ true) (sym c.self.view_is) c.requires.open in
-    let reply : c.in-Ok.copies.reply ≡ c.in-Ok-decide.reply =
-    same_reply written.history tables c.args.conn c.args.request.now c.args.given.now c.in-Ok.copies.reply c.in-Ok-decide.reply legal kept.stands (kept_open written.history tables c.args.conn kept.stands there)
-    (c.in-Ok.ensures.reply written.history legal kept.stands) (c.in-Ok-decide.ensures.reply written.history legal kept.stands) in
-    let is = entered c.into_entry.result c.args.conn c.in-Ok.copies.request c.args.request.now c.in-Ok.copies.given c.args.given.now c.in-Ok.copies.reply c.in-Ok-decide.reply c.in-Ok-decide.act
-    c.into_entry.ensures c.in-Ok.ensures.request c.in-Ok.ensures.given reply in
+    let decided = c.in-Ok-decide_and_copy.decision in
+    let is = entered c.into_entry.result c.args.conn c.in-Ok.copies.request c.args.request.now c.in-Ok.copies.given c.args.given.now decided.copy decided.reply decided.act
+    c.into_entry.ensures c.in-Ok.ensures.request c.in-Ok.ensures.given c.in-Ok-decide_and_copy.ensures.copy in
     c.add.ensures.history ∙ ap (λ entry. entry ∷ c.make_room.new.entries.history) is
-    ∙ ap (λ (w : Written). Request c.args.conn c.args.request.now c.args.given.now c.in-Ok-decide.reply c.in-Ok-decide.act ∷ w.history) c.make_room.ensures.same
-    ∙ ap (λ now. Request c.args.conn c.args.request.now c.args.given.now c.in-Ok-decide.reply c.in-Ok-decide.act ∷ now.history) c.self.view_is
+    ∙ ap (λ (w : Written). Request c.args.conn c.args.request.now c.args.given.now decided.reply decided.act ∷ w.history) c.make_room.ensures.same
+    ∙ ap (λ now. Request c.args.conn c.args.request.now c.args.given.now decided.reply decided.act ∷ now.history) c.self.view_is
 
 pub returns-clause-pass : goal.returns-clause-pass
 returns-clause-pass g c =
+    let decided = c.in-Ok-decide_and_copy.decision in
     let written = c.self.inside.entries in
     let kept = c.self.invariant in
     let legal = subst (λ n. IsLegal n written.history) (sym kept.seats_are) kept.legal in
-    let replied = c.in-Ok-decide.ensures.ok written.history legal kept.stands in
-    let follows = subst (λ n. IsReplyOf n written.history c.args.conn c.args.request.now c.args.given.now c.in-Ok-decide.reply c.in-Ok-decide.act) kept.seats_are replied.0 in
+    let replied = c.in-Ok-decide_and_copy.ensures.ok written.history legal kept.stands in
+    let follows = subst (λ n. IsReplyOf n written.history c.args.conn c.args.request.now c.args.given.now decided.reply decided.act) kept.seats_are replied.0 in
     c.settle-pass.ensures.pass
-    ∙ pass_so c.args.conn c.args.request.now c.args.given.now c.in-Ok-decide.reply c.in-Ok-decide.act c.self.inside.seats written.history follows c.make_room.new.spares.mounts c.accepted_method-method.result
-    (sym c.accepted_method-method.ensures) ∙ ap (handed_out c.in-Ok-decide.act) c.make_room.ensures.mounts ∙ ap (λ now. handed_out c.in-Ok-decide.act now.spares) c.self.view_is
+    ∙ pass_so c.args.conn c.args.request.now c.args.given.now decided.reply decided.act c.self.inside.seats written.history follows c.make_room.new.spares.mounts c.accepted_method-method.result
+    (sym c.accepted_method-method.ensures) ∙ ap (handed_out decided.act) c.make_room.ensures.mounts ∙ ap (λ now. handed_out decided.act now.spares) c.self.view_is
 
 pub returns-clause-play : goal.returns-clause-play
 returns-clause-play g c mount seat plays =
+    let decided = c.in-Ok-decide_and_copy.decision in
     let written = c.self.inside.entries in
     let held = c.self.inside.spares in
     let kept = c.self.invariant in
     let legal = subst (λ n. IsLegal n written.history) (sym kept.seats_are) kept.legal in
-    let replied = c.in-Ok-decide.ensures.ok written.history legal kept.stands in
-    let follows = subst (λ n. IsReplyOf n written.history c.args.conn c.args.request.now c.args.given.now c.in-Ok-decide.reply c.in-Ok-decide.act) kept.seats_are replied.0 in
+    let replied = c.in-Ok-decide_and_copy.ensures.ok written.history legal kept.stands in
+    let follows = subst (λ n. IsReplyOf n written.history c.args.conn c.args.request.now c.args.given.now decided.reply decided.act) kept.seats_are replied.0 in
     ap is_some (c.settle-pass.ensures.pass
-    ∙ pass_so c.args.conn c.args.request.now c.args.given.now c.in-Ok-decide.reply c.in-Ok-decide.act c.self.inside.seats written.history follows c.make_room.new.spares.mounts c.accepted_method-method.result
-    (sym c.accepted_method-method.ensures) ∙ ap (handed_out c.in-Ok-decide.act) c.make_room.ensures.mounts ∙ ap (λ act. handed_out act held.mounts) plays)
-    ∙ pass_comes c.args.conn c.args.request.now c.args.given.now c.in-Ok-decide.reply c.in-Ok-decide.act c.self.inside.seats written.history follows held.mounts mount seat kept.spare plays
+    ∙ pass_so c.args.conn c.args.request.now c.args.given.now decided.reply decided.act c.self.inside.seats written.history follows c.make_room.new.spares.mounts c.accepted_method-method.result
+    (sym c.accepted_method-method.ensures) ∙ ap (handed_out decided.act) c.make_room.ensures.mounts ∙ ap (λ act. handed_out act held.mounts) plays)
+    ∙ pass_comes c.args.conn c.args.request.now c.args.given.now decided.reply decided.act c.self.inside.seats written.history follows held.mounts mount seat kept.spare plays
