@@ -9,7 +9,7 @@ use Rattle.rtsp_message.specs.declared.unit.Unit.TheVariants.{Message, Frame}
 use Rattle.base_syntax.specs.Lines.{ended}
 use Rattle.rtsp_message.specs.Heads.{IsHead}
 use Rattle.rtsp_message.specs.Stream.{is_pad, BeginsWithNoPad, IsUnit, Piece, Pad, Whole, IsPiece, ArePieces, bytes_of, units_of, Ending, EndsAs, Waits, Reads, ReadsOn, ReadsSoFar, IsScan}
-use Rattle.rtsp_message.specs.Readers.{ending_from}
+use Rattle.rtsp_message.specs.ReaderStates.{ending_from}
 
 pub bytes_of-append : (ps qs : List Piece) → bytes_of (ps ++ qs) ≡ bytes_of ps ++ bytes_of qs
 bytes_of-append [] qs = refl
