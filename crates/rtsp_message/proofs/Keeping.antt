@@ -1,9 +1,6 @@
 -- What a reader keeps, piece by piece.
-use Rattle.std.proofs.Common.{◌≡◌, ℕ, ◌+◌, ◌-◌, ◌*◌, ◌^◌, ◌<◌, ◌≤◌, List, [], ◌∷◌, ◌++◌, length, take, drop, get_or, Option, None, Some, true, refl, sym, ap, subst, ◌∙◌, inl, inr, arith, length-append, length-drop}
-use Rattle.std.specs.Prelude.{IfSome, IfNone}
+use Rattle.std.proofs.Common.{◌≡◌, ℕ, ◌+◌, ◌-◌, ◌*◌, ◌^◌, ◌<◌, ◌≤◌, List, [], ◌∷◌, ◌++◌, length, take, drop, get_or, Option, None, Some, true, sym, ap, subst, ◌∙◌, arith, length-append, length-drop}
 use Rattle.std.proofs.lemmas.List.{take-append-le, drop-append-le, get_or_append_left, get_or-drop, length-take}
-use Rattle.std.proofs.lemmas.Bool.Decides.{leb_tells}
-use Rattle.std.proofs.Math.Seq.{take-append_seam}
 use Rattle.base_syntax.specs.Lines.{HasNoLf}
 use Rattle.rtsp_message.specs.declared.fault.Fault.{Fault}
 use Rattle.interleaved.specs.declared.frame.Frame.{Frame as Block}
@@ -15,10 +12,10 @@ use Rattle.rtsp_message.specs.declared.known.Known.{Known}
 use Rattle.rtsp_message.specs.declared.known.Known.TheVariants as knows
 use Rattle.rtsp_message.specs.Limits.{waiting_limit}
 use Rattle.rtsp_message.specs.Heads.{IsHead}
-use Rattle.rtsp_message.specs.Stores.{StoreState, LooksOnly, between, counted}
+use Rattle.rtsp_message.specs.Stores.{StoreState, LooksOnly, between}
 use Rattle.rtsp_message.specs.Knowns.{AreGoodLines, IsKnown, IsMessageStart, looks_for}
-use Rattle.rtsp_message.specs.ReaderStates.{ending_from, KeepsBeginning, left, read_len, IsRead}
-use Rattle.rtsp_message.specs.Stream.{is_pad, BeginsMessage, BeginsFrame, IsMessage, EndsAs, Waits, Reads, ReadsSoFar, IsScan, waiting_len}
+use Rattle.rtsp_message.specs.ReaderStates.{ending_from, left, read_len, IsRead}
+use Rattle.rtsp_message.specs.Stream.{is_pad, BeginsFrame, IsMessage, EndsAs, Waits, Reads, ReadsSoFar, IsScan}
 use Rattle.rtsp_message.proofs.OneUnit.{begins_message}
 use Rattle.rtsp_message.proofs.Pieces.{head_is_some, pad_more, unit_more, scan_reads}
 use Rattle.rtsp_message.proofs.Fronts.{frame_has_head}
@@ -66,38 +63,6 @@ known_grows bytes more (knows.Message head len) p =
       len_is = p.len_is;
     }
 
-message_has_byte : (bytes : List ℕ) → BeginsMessage bytes → 1 ≤ length bytes
-message_has_byte [] p = absurd p
-message_has_byte (b ∷ bytes) p = omega arith
-
-frame_has_byte : (bytes : List ℕ) → BeginsFrame bytes → 1 ≤ length bytes
-frame_has_byte [] p = absurd p
-frame_has_byte (b ∷ bytes) p = omega arith
-
--- what is known took no more looks than six at each byte
-pub looks_within : (bytes : List ℕ) (known : Known) → IsKnown bytes known → looks_for known ≤ 6 * length bytes
-looks_within bytes knows.Nothing p = omega arith
-looks_within bytes knows.Dollar p = omega (arith, frame_has_byte bytes p)
-looks_within bytes (knows.Frame len) p = omega (arith, p.has_head)
-looks_within bytes (knows.FirstLine searched) p = omega (arith, p.within, message_has_byte bytes p.begins)
-looks_within bytes (knows.Fields line searched told) p = omega (arith, p.in_order, p.within, message_has_byte bytes p.begins)
-looks_within bytes (knows.Message head len) p = omega (arith, p.within, message_has_byte bytes p.begins)
-
--- so many looks at most, where the bytes were counted or the count is full
-pub looks_bounded : (bytes : List ℕ) (known : Known) (looked fed : ℕ) → IsKnown bytes known → (fed < 2 ^ 64 - 1 → looked + 6 * length bytes ≤ 6 * fed + looks_for known) → looked < 2 ^ 64 → looked ≤ 6 * fed
-looks_bounded bytes known looked fed p paid fits = elim (leb_tells (2 ^ 64 - 1) fed) [
-  | inl full ↦ omega (arith, full.1, fits)
-  | inr below ↦ omega (arith, paid (omega (arith, below.1)), looks_within bytes known p)
-]
-
-pub waits_len : (rest : List ℕ) (fault : Option Fault) → KeepsBeginning rest fault → waiting_len (ending_from rest fault) ≡ length rest
-waits_len rest None p = refl
-waits_len rest (Some fault) p = omega (arith, p)
-
-pub waits_below : (rest : List ℕ) (fault : Option Fault) → KeepsBeginning rest fault → waiting_len (ending_from rest fault) < 73728
-waits_below rest None p = p.1
-waits_below rest (Some fault) p = omega arith
-
 -- the units were cut out, and the rest is kept
 pub read_done : (old mid new : StoreState) (before now : Known) (units : List StreamUnit) (len : ℕ) (fault : Option Fault) → IsScan old.bytes units len fault → IsKnown (left fault (drop len old.bytes)) now
     → LooksOnly old mid (looks_for before) (6 * read_len (length old.bytes) len fault + looks_for now) → new.bytes ≡ left fault (drop len mid.bytes) → new.room ≤ 2 * length new.bytes → new.looked ≡ mid.looked
@@ -121,29 +86,6 @@ read_done old mid new before now units len (Some fault) p known looks kept room 
       at_most = omega (arith, looks.at_most, looked, ap length kept);
       fits = λ h. subst (λ (n : ℕ). n < 2 ^ 64) (sym looked) (looks.fits h);
     }
-
-same_state : (a b : StoreState) → a.bytes ≡ b.bytes → a.looked ≡ b.looked → a.room ≡ b.room → a ≡ b
-same_state a b bytes looked room = rw (bytes, looked, room) refl
-
--- a piece was taken back
-pub taken_back : {V : Type 0} (items : V → List ℕ) (capacity : V → ℕ) (old put read undone new : StoreState) (piece : List ℕ) (len count : ℕ) (before : Option V) → put.bytes ≡ old.bytes ++ piece → IfNone before (put.room ≡ old.room)
-    → IfSome before (λ v. (items v ≡ old.bytes) × (capacity v ≡ old.room)) → read.bytes ≡ put.bytes → read.room ≡ put.room → IfNone before (undone ≡ record read { bytes = take len read.bytes })
-    → IfSome before (λ v. undone ≡ record { bytes = items v; looked = read.looked; room = capacity v }) → len ≡ length old.bytes → count ≡ old.looked → new ≡ record undone { looked = count } → new ≡ old
-taken_back items capacity old put read undone new piece len count None put_is same larger bytes room none some len_is count_is new_is =
-    let front : take len read.bytes ≡ old.bytes = ap (take len) (bytes ∙ put_is) ∙ ap (λ (n : ℕ). take n (old.bytes ++ piece)) len_is ∙ take-append_seam old.bytes piece in
-    same_state new old (ap (λ (s : StoreState). s.bytes) new_is ∙ ap (λ (s : StoreState). s.bytes) none ∙ front) (ap (λ (s : StoreState). s.looked) new_is ∙ count_is)
-    (ap (λ (s : StoreState). s.room) new_is ∙ ap (λ (s : StoreState). s.room) none ∙ room ∙ same)
-taken_back items capacity old put read undone new piece len count (Some v) put_is same larger bytes room none some len_is count_is new_is =
-    same_state new old (ap (λ (s : StoreState). s.bytes) new_is ∙ ap (λ (s : StoreState). s.bytes) some ∙ larger.0) (ap (λ (s : StoreState). s.looked) new_is ∙ count_is)
-    (ap (λ (s : StoreState). s.room) new_is ∙ ap (λ (s : StoreState). s.room) some ∙ larger.1)
-
--- the looks that a piece was charged for
-pub still_paid : (stream : List ℕ) (rest piece : List ℕ) (looked fed : ℕ) (new : StoreState) (before now : Known) (units : List StreamUnit) (fault : Option Fault) → IsRead (rest ++ piece) looked new before units fault now
-    → (fed < 2 ^ 64 - 1 → looked + 6 * length rest ≤ 6 * fed + looks_for before) → counted fed (length piece) < 2 ^ 64 - 1 → new.looked + 6 * length new.bytes ≤ 6 * counted fed (length piece) + looks_for now
-still_paid stream rest piece looked fed new before now units fault p paid below =
-    let exact : counted fed (length piece) ≡ fed + length piece = omega arith in
-    let old = paid (omega arith) in
-    omega (arith, p.at_most, length-append rest piece, exact, old)
 
 -- a byte between units
 pub pad_step : (old loop seen : StoreState) (units : List StreamUnit) (len k : ℕ) (known : Known) → ReadsSoFar old.bytes units len → LooksOnly old loop k (6 * len + looks_for known) → LooksOnly loop seen (looks_for known) 1
