@@ -2,7 +2,7 @@
 use Rattle.std.proofs.Common.{◌≡◌, ℕ, ◌+◌, ◌*◌, ◌≤◌, List, [], ◌∷◌, ◌++◌, length, take, drop, get_or, sym, ap, ◌∙◌, arith}
 use Rattle.std.proofs.lemmas.List.{length-take-le, take-append-drop}
 use Rattle.std.proofs.Math.Seq.{take-append_seam, take-add}
-use Rattle.interleaved.specs.Frame.{FrameBegins, MayBeginFrame, NoFrameBeginsAnother}
+use Rattle.interleaved.specs.Frame.{IsFrame, FrameBegins, MayBeginFrame, NoFrameBeginsAnother}
 
 -- two beginnings of one list that are equally long are the same
 pub same_front : (xs ys after after' : List ℕ) → length xs ≡ length ys → xs ++ after ≡ ys ++ after' → xs ≡ ys
@@ -51,3 +51,9 @@ FrameBegins-length bytes len begins =
     let whole : bytes ≡ 36 ∷ begins.1 ∷ frame.0 ∷ frame.1 ∷ (begins.2 ++ drop len bytes) =
     sym (take-append-drop len bytes) ∙ ap (λ l. l ++ drop len bytes) frame.2 in
     omega (arith, length-take-le len bytes begins.0, ap length frame.2, frame.3, ap (λ s. get_or s 2 0) whole, ap (λ s. get_or s 3 0) whole)
+
+-- a frame is as long as its first four bytes say
+pub IsFrame-length : (bytes head : List ℕ) (channel : ℕ) (payload : List ℕ) → take 4 bytes ≡ head → IsFrame bytes channel payload → length bytes ≡ 4 + (256 * get_or head 2 0 + get_or head 3 0)
+IsFrame-length bytes head channel payload front frame =
+    let four : 36 ∷ channel ∷ frame.0 ∷ frame.1 ∷ [] ≡ head = sym (ap (take 4) frame.2) ∙ front in
+    omega (arith, ap length frame.2, frame.3, ap (λ s. get_or s 2 0) four, ap (λ s. get_or s 3 0) four)

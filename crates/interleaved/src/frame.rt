@@ -1,5 +1,5 @@
 //! Blocks of binary data that stand between the messages of a connection (RFC 2326, 10.12).
-ghost use Rattle.std.specs.Prelude.{◌≡◌, ◌↔◌, ℕ, ◌<◌, List, ◌++◌, length, OnOk, OnErr};
+ghost use Rattle.std.specs.Prelude.{◌≡◌, ◌↔◌, ℕ, ◌+◌, ◌*◌, ◌<◌, ◌≤◌, List, ◌++◌, length, take, slice_index, OnOk, OnErr};
 ghost use Rattle.interleaved.specs.Frame.{IsFrame, MayBeginFrame, StandsAt, frame_of, head_of};
 
 use base_syntax::Bytes;
@@ -85,6 +85,17 @@ pub fn frame_head(channel: u8, len: u16) -> [u8; FRAME_HEAD]
 {
     let [high, low] = len.to_be_bytes();
     [DOLLAR, channel, high, low]
+}
+
+/// How long the frame is that begins with these four bytes: they, and the data whose length the last two tell, the high
+/// one first.
+pub fn frame_len(head: [u8; FRAME_HEAD]) -> usize
+    ensures value { result ≡ 4 + (256 * slice_index head 2 + slice_index head 3) }
+    ensures most { result ≤ 65_539 }
+    ensures frame { (bytes payload : List ℕ) (channel : ℕ) → take 4 bytes ≡ head → IsFrame bytes channel payload → length bytes ≡ result }
+{
+    let [_, _, high, low] = head;
+    FRAME_HEAD + usize::from(u16::from_be_bytes([high, low]))
 }
 
 /// Appends the frame of the data on the channel. After a refusal `out` is as it was.

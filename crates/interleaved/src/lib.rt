@@ -13,7 +13,7 @@ mod whole_write;
 mod writing;
 
 pub use device::{Failed, Sink, Source};
-pub use frame::{FRAME_HEAD, Frame, FrameAt, PutFault, frame_at, frame_head, put_frame};
+pub use frame::{FRAME_HEAD, Frame, FrameAt, PutFault, frame_at, frame_head, frame_len, put_frame};
 pub use gathering::Gathering;
 pub use laws::no_frame_begins_another;
 pub use list_sink::ListSink;

@@ -20,7 +20,7 @@ pub record FieldsSoFar (text : List ℕ) (headers : List Header) (rest : List �
 pub no_fields : (text : List ℕ) → FieldsSoFar text [] text
 no_fields text = record { lines = []; whole = refl; are_headers = tt }
 
-AreHeaders-push : (before : List Header) (lines : List (List ℕ)) (headers : List Header) (line : List ℕ) (header : Header) → AreHeaders before lines headers → IsGoodHeader (before ++ headers) line header → AreHeaders before (lines ++ line ∷ []) (headers ++ header ∷ [])
+pub AreHeaders-push : (before : List Header) (lines : List (List ℕ)) (headers : List Header) (line : List ℕ) (header : Header) → AreHeaders before lines headers → IsGoodHeader (before ++ headers) line header → AreHeaders before (lines ++ line ∷ []) (headers ++ header ∷ [])
 AreHeaders-push before [] [] line header p q = (subst (λ (hs : List Header). IsGoodHeader hs line header) (append-nil before) q, tt)
 AreHeaders-push before [] (h ∷ headers) line header p q = absurd p
 AreHeaders-push before (l ∷ lines) [] line header p q = absurd p

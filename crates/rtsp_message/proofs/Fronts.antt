@@ -1,11 +1,11 @@
 -- A unit at the front of a stream, from its parts.
-use Rattle.std.proofs.Common.{◌≡◌, ◌+◌, ◌<◌, ◌≤◌, ℕ, List, [], ◌∷◌, ◌++◌, Bool, true, false, Option, None, Some, length, take, drop, get_or, nat_le, ◌&&◌, if◌then◌else◌, refl, sym, ap, subst, ◌∙◌, arith, take-append-drop, length-append, length-drop}
+use Rattle.std.proofs.Common.{◌≡◌, ◌+◌, ◌<◌, ◌≤◌, ℕ, List, [], ◌∷◌, ◌++◌, Bool, true, false, Option, None, Some, length, take, drop, nat_le, ◌&&◌, if◌then◌else◌, refl, sym, ap, subst, ◌∙◌, arith, take-append-drop, length-append, length-drop}
 use Rattle.std.specs.Option.{option_and_then}
 use Rattle.std.specs.Prelude.{unwrap_or, codes}
 use Rattle.std.proofs.lemmas.Bool.Decides.{nat_tests}
 use Rattle.std.proofs.lemmas.List.{length-take-le}
 use Rattle.std.proofs.Math.Seq.{take-add}
-use Rattle.interleaved.specs.Frame.{IsFrame, FrameBegins}
+use Rattle.interleaved.specs.Frame.{FrameBegins}
 use Rattle.rtsp_message.specs.Limits.{body_limit, waiting_limit}
 use Rattle.rtsp_message.specs.declared.request.Request.{Request}
 use Rattle.std.specs.Str.Parse.{digits_value}
@@ -20,14 +20,6 @@ use Rattle.rtsp_message.proofs.Undecided.{body_is_short}
 -- four bytes stand before the data
 pub frame_has_head : (bytes : List ℕ) (len : ℕ) → FrameBegins bytes len → 4 ≤ length (take len bytes)
 frame_has_head bytes len p = omega (arith, ap length p.3.2)
-
--- the data of a frame is what stands behind them
-pub frame_parts : (bytes : List ℕ) (len : ℕ) (payload : List ℕ) → FrameBegins bytes len → payload ≡ drop 4 (take len bytes) → IsFrame (take len bytes) (get_or bytes 1 0) payload
-frame_parts bytes len payload p is =
-    let same : payload ≡ p.2 = is ∙ ap (drop 4) p.3.2 in
-    let whole : bytes ≡ 36 ∷ p.1 ∷ p.3.0 ∷ p.3.1 ∷ (p.2 ++ drop len bytes) = sym (take-append-drop len bytes) ∙ ap (λ (l : List ℕ). l ++ drop len bytes) p.3.2 in
-    let channel : get_or bytes 1 0 ≡ p.1 = ap (λ (l : List ℕ). get_or l 1 0) whole in
-    rw (same, channel) (p.3.0, p.3.1, p.3.2, p.3.3)
 
 begins_front : (front more : List ℕ) → 0 < length front → BeginsMessage (front ++ more) → BeginsMessage front
 begins_front [] more some p = absurd (omega (arith, some))

@@ -5,6 +5,10 @@ pub mod Blocks
 pub mod HeadParts
 pub mod Pieces
 pub mod Windows
+pub mod Told
+pub mod Looking
+pub mod Counting
+pub mod Finding
 pub mod OneHead
 pub mod OneUnit
 pub mod OneReading
@@ -14,3 +18,5 @@ pub mod Compose
 pub mod HandingOut
 pub mod Prompting
 pub mod Fetching
+pub mod Cuts
+pub mod Keeping

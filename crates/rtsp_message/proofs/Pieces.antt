@@ -1,6 +1,5 @@
 -- Pieces of a stream, one after another.
 use Rattle.std.proofs.Common.{◌≡◌, ℕ, ◌+◌, ◌<◌, ◌≤◌, true, false, List, [], ◌∷◌, ◌++◌, length, take, drop, get_or, refl, sym, ap, subst, ◌∙◌, arith, append_assoc, append-nil, length-append, length-drop, drop-cons, take-append-drop, Option, None, Some}
-use Rattle.std.proofs.lemmas.List.{nil_from_length}
 use Rattle.std.proofs.Math.Seq.{take-add}
 use Rattle.rtsp_message.specs.declared.request.Request.{Request}
 use Rattle.rtsp_message.specs.declared.fault.Fault.{Fault}
@@ -8,8 +7,8 @@ use Rattle.rtsp_message.specs.declared.unit.Unit.{Unit as StreamUnit}
 use Rattle.rtsp_message.specs.declared.unit.Unit.TheVariants.{Message, Frame}
 use Rattle.base_syntax.specs.Lines.{ended}
 use Rattle.rtsp_message.specs.Heads.{IsHead}
-use Rattle.rtsp_message.specs.Stream.{is_pad, BeginsWithNoPad, IsUnit, Piece, Pad, Whole, IsPiece, ArePieces, bytes_of, units_of, Ending, EndsAs, Waits, Reads, ReadsOn, ReadsSoFar, IsScan}
-use Rattle.rtsp_message.specs.Readers.{ending_from}
+use Rattle.rtsp_message.specs.Stream.{is_pad, BeginsWithNoPad, IsUnit, Piece, Pad, Whole, IsPiece, ArePieces, bytes_of, units_of, EndsAs, Waits, Reads, ReadsSoFar, IsScan}
+use Rattle.rtsp_message.specs.ReaderStates.{ending_from}
 
 pub bytes_of-append : (ps qs : List Piece) → bytes_of (ps ++ qs) ≡ bytes_of ps ++ bytes_of qs
 bytes_of-append [] qs = refl
@@ -70,13 +69,6 @@ empty_waits = (
   },
 )
 
--- at the end of the bytes nothing is left
-pub end_waits : (bytes : List ℕ) (len : ℕ) → length bytes ≤ len → EndsAs (drop len bytes) (Waits (drop len bytes)) × (length (drop len bytes) ≡ 0)
-end_waits bytes len past =
-    let none : length (drop len bytes) ≡ 0 = omega (arith, past, length-drop len bytes) in
-    let nil : drop len bytes ≡ [] = nil_from_length (drop len bytes) none in
-    (subst (λ (l : List ℕ). EndsAs l (Waits l)) (sym nil) empty_waits, none)
-
 -- what was scanned reads so
 pub scan_reads : {bytes : List ℕ} {units : List StreamUnit} {len : ℕ} (fault : Option Fault) → IsScan bytes units len fault → Reads bytes units (ending_from (drop len bytes) fault)
 scan_reads {bytes} {units} {len} None p = record {
@@ -95,15 +87,3 @@ scan_reads {bytes} {units} {len} (Some fault) p = record {
   units_are = p.0.units_are;
   ends = p.1;
 }
-
--- what is kept of the bytes is the rest, or nothing counts but the fault
-pub kept_ending : (rest kept : List ℕ) (fault : Option Fault) → (fault ≡ None → kept ≡ rest) → ending_from rest fault ≡ ending_from kept fault
-kept_ending rest kept None h = ap Waits (sym (h refl))
-kept_ending rest kept (Some fault) h = refl
-
-pub reads_on : (old : Ending) (rest piece bytes kept : List ℕ) {units : List StreamUnit} {len : ℕ} (fault : Option Fault) → Waits rest ≡ old → bytes ≡ rest ++ piece → IsScan bytes units len fault → (fault ≡ None → kept ≡ drop len bytes)
-    → ReadsOn old piece units (ending_from kept fault)
-reads_on old rest piece bytes kept {units} {len} fault was whole is keeps =
-    let ending = ending_from kept fault in
-    let reads : Reads bytes units ending = subst (Reads bytes units) (kept_ending (drop len bytes) kept fault keeps) (scan_reads fault is) in
-    subst (λ (o : Ending). ReadsOn o piece units ending) was (subst (λ (l : List ℕ). Reads l units ending) whole reads)

@@ -1,10 +1,13 @@
 pub mod Limits
+pub mod Stores
 pub mod Lines
 pub mod Headers
 pub mod Lengths
 pub mod Heads
 pub mod Stream
 pub mod Fronts
+pub mod Knowns
+pub mod ReaderStates
 pub mod Readers
 pub mod Reply
 pub mod Intakes

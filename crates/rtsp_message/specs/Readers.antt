@@ -1,24 +1,17 @@
 -- What a reader's fields stand for.
-use Rattle.std.specs.Prelude.{List, [], ℕ, ◌≡◌, ◌<◌, Option, None, Some, length, vec_capacity}
-use Rattle.rtsp_message.specs.declared.fault.Fault.{Fault}
+use Rattle.std.specs.Prelude.{◌+◌, ◌*◌, ◌-◌, ◌^◌, ◌<◌, ◌≤◌, length}
 use Rattle.rtsp_message.specs.declared.reader.Reader.TheInside.{Inside}
-use Rattle.rtsp_message.specs.Limits.{waiting_limit}
-use Rattle.rtsp_message.specs.Stream.{Ending, Waits, Fails, EndsAs, ReaderState}
-
--- the bytes that wait, or the fault
-abbrev pub ending_from : List ℕ → Option Fault → Ending
-ending_from rest None = Waits rest
-ending_from rest (Some fault) = Fails fault
+use Rattle.rtsp_message.specs.Knowns.{IsKnown, looks_for}
+use Rattle.rtsp_message.specs.ReaderStates.{ReaderState, ending_from, KeepsBeginning}
 
 abbrev pub state_of : Inside → ReaderState
-state_of reader = record { reading = ending_from reader.rest.items reader.fault; room = vec_capacity reader.rest }
+state_of reader = record { reading = ending_from reader.store.bytes reader.fault; looked = reader.store.looked; fed = reader.fed; room = reader.store.room }
 
--- what waits is the beginning of a unit, and shorter than a head and a body may be
-abbrev pub KeepsBeginning : List ℕ → Option Fault → Type 0
-KeepsBeginning rest None = EndsAs rest (Waits rest) × (length rest < waiting_limit)
-KeepsBeginning rest (Some fault) = rest ≡ []
-
--- and it is all that the reader holds memory for
+-- What is kept of the stream, and what is known of it. While the bytes fed can be counted, each was looked at six times at
+-- most, where those that wait count for the looks that what is known of them took.
 pub record IsReader (reader : Inside) : Type 0 where
-  pub keeps : KeepsBeginning reader.rest.items reader.fault
-  pub exact : vec_capacity reader.rest ≡ length reader.rest.items
+  pub keeps : KeepsBeginning reader.store.bytes reader.fault
+  pub knows : IsKnown reader.store.bytes reader.known
+  pub room : reader.store.room ≤ 2 * length reader.store.bytes
+  pub paid : reader.fed < 2 ^ 64 - 1 → reader.store.looked + 6 * length reader.store.bytes ≤ 6 * reader.fed + looks_for reader.known
+  pub fits : reader.store.looked < 2 ^ 64

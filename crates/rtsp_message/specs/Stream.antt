@@ -105,11 +105,6 @@ abbrev pub waiting_len : Ending → ℕ
 waiting_len (Waits rest) = length rest
 waiting_len (Fails fault) = 0
 
--- A reader: where its reading stands, and for how many bytes it holds memory.
-pub record ReaderState : Type 0 where
-  pub reading : Ending
-  pub room : ℕ
-
 -- the faults by the numbers that the program reports
 abbrev pub fault_number : Fault → ℕ
 fault_number BadLine = 1

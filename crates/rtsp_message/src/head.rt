@@ -124,7 +124,7 @@ fn read_header(
 }
 
 /// What is wrong with the value of a Content-Length field, where a field before announced this length.
-fn length_fault(before: Option<u32>, value: &[u8]) -> Option<Fault>
+pub fn length_fault(before: Option<u32>, value: &[u8]) -> Option<Fault>
     ensures { result ≡ fault_in_length before value.now }
 {
     if !is_numeral(value) {

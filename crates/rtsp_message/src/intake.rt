@@ -84,7 +84,7 @@ impl<S: Source + Drop> Intake<S> {
     {
         let held = &self.piece[..self.held];
         let unread = self.source.left() + held.len() as u64;
-        unread + self.reader.room() as u64 + self.units.len() as u64
+        unread + self.reader.waiting() as u64 + self.units.len() as u64
     }
 
     /// The next unit, or why there is none. After `End`, `Fault` or `ReadFailed` it answers the same for good.

@@ -3,18 +3,22 @@
 #![tactic(auto)]
 
 mod byte_class;
+mod cutting;
 mod fault;
-mod front;
 mod head;
 mod headers;
 mod intake;
+mod judging;
+mod known;
 pub mod laws;
 mod lines;
+mod look;
 mod plain;
 mod reader;
 mod reply;
 mod request;
 mod status;
+mod store;
 mod unit;
 
 pub use byte_class::ByteClass;
@@ -26,6 +30,7 @@ pub use reader::{Fed, Reader};
 pub use reply::{Fields, Reply, put_reply};
 pub use request::Request;
 pub use status::Status;
+pub use store::Store;
 pub use unit::Unit;
 
 /// The most bytes that a head may have, its empty line included.

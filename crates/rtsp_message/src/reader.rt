@@ -1,9 +1,15 @@
 //! A stream read in the pieces that it comes in.
-ghost use Rattle.std.specs.Prelude.{◌≡◌, ◌++◌, ◌<◌, length, vec_capacity, OnErr, IfOk, []};
-ghost use Rattle.rtsp_message.specs.Stream.{Waits, ReadsOn, fault_of, waiting_len, is_pad as is_pad_byte, IsScan};
+ghost use Rattle.std.specs.Prelude.{◌≡◌, ◌+◌, ◌*◌, ◌<◌, ◌≤◌, ◌++◌, [], length, drop, OnOk, OnErr, IfOk};
+ghost use Rattle.rtsp_message.specs.Stream.{Waits, ReadsOn, fault_of, waiting_len, IsScan};
+ghost use Rattle.rtsp_message.specs.Stores.{counted, LooksOnly};
+ghost use Rattle.rtsp_message.specs.Knowns.{IsKnown, looks_for};
+ghost use Rattle.rtsp_message.specs.ReaderStates.{left, read_len, IsRead};
 
+use crate::cutting::{cut_frame, cut_message};
 use crate::fault::Fault;
-use crate::front::{Front, read_front};
+use crate::known::{Known, Look};
+use crate::look::look;
+use crate::store::Store;
 use crate::unit::Unit;
 use std::alloc::{AllocError, Global};
 use std::marker::Model;
@@ -19,16 +25,19 @@ pub struct Fed {
 
 /// Reads the units of a stream, in whatever pieces its bytes come (RFC 2326, 4, 6 and 10.12).
 ///
-/// It keeps the bytes that wait for more, fewer than 73,728 of them, in just the room that they need. Once there was a
-/// fault it keeps that alone, and no room.
+/// It keeps the bytes that wait for more, fewer than 73,728 of them, in at most twice the room that they need, and what it
+/// knows of them, so that it doesn't look at them again for each piece. Once there was a fault it keeps that alone, and no
+/// room.
 #[derive(Drop)]
 pub struct Reader {
-    rest: Vec<u8>,
+    store: Store,
+    known: Known,
+    fed: u64,
     fault: Option<Fault>,
 }
 
 impl Model for Reader {
-    ghost use Rattle.rtsp_message.specs.Stream.{ReaderState};
+    ghost use Rattle.rtsp_message.specs.ReaderStates.{ReaderState};
 
     ghost Value = { ReaderState };
 
@@ -45,16 +54,20 @@ struct Scan {
     units: Vec<Unit>,
     /// The bytes that the units take, and those between them.
     len: usize,
+    /// What is known of the bytes behind them.
+    known: Known,
     /// What is wrong with the bytes behind them.
     fault: Option<Fault>,
 }
 
 impl Reader {
     pub fn new(alloc: Global) -> Reader
-        ensures { result ≡ record { reading = Waits []; room = 0 } }
+        ensures { result ≡ record { reading = Waits []; looked = 0; fed = 0; room = 0 } }
     {
         Reader {
-            rest: Vec::new(alloc),
+            store: Store::new(alloc),
+            known: Known::Nothing,
+            fed: 0,
             fault: None,
         }
     }
@@ -66,13 +79,35 @@ impl Reader {
         self.fault
     }
 
-    /// For how many bytes the reader holds memory: just those that wait for more.
-    pub fn room(&self) -> usize
-        ensures value { result ≡ self.now.room }
-        ensures exact { result ≡ waiting_len self.now.reading }
+    /// How many bytes wait for more, none once a fault was answered.
+    pub fn waiting(&self) -> usize
+        ensures value { result ≡ waiting_len self.now.reading }
         ensures most { result < 73_728 }
     {
-        self.rest.capacity()
+        self.store.len()
+    }
+
+    /// How many looks at bytes were made. The count stays at 2^64 - 1 once it is there.
+    pub fn looked(&self) -> u64
+        ensures value { result ≡ self.now.looked }
+        ensures most { result ≤ 6 * self.now.fed }
+    {
+        self.store.looked()
+    }
+
+    /// How many bytes were fed and not refused. The count stays at 2^64 - 1 once it is there.
+    pub fn fed(&self) -> u64
+        ensures { result ≡ self.now.fed }
+    {
+        self.fed
+    }
+
+    /// For how many bytes the reader holds memory: at most twice as many as wait for more.
+    pub fn room(&self) -> usize
+        ensures value { result ≡ self.now.room }
+        ensures bound { result ≤ 2 * waiting_len self.now.reading }
+    {
+        self.store.room()
     }
 
     /// Reads on with the next piece of the stream.
@@ -83,86 +118,144 @@ impl Reader {
         ensures units { IfOk result (λ fed. ReadsOn self.old.reading piece.now fed.units.items self.new.reading) }
         ensures fault { IfOk result (λ fed. fed.fault ≡ fault_of self.new.reading) }
         ensures bound { waiting_len self.new.reading < 73_728 }
-        ensures room { self.new.room ≡ waiting_len self.new.reading }
+        ensures room { self.new.room ≤ 2 * waiting_len self.new.reading }
+        ensures looks_before { self.old.looked ≤ 6 * self.old.fed }
+        ensures looks { self.new.looked ≤ 6 * self.new.fed }
+        ensures fed { OnOk result (self.new.fed ≡ counted self.old.fed (length piece.now)) }
         ensures err { OnErr result (self.new ≡ self.old) }
     {
-        let alloc = *self.rest.allocator();
+        let alloc = self.store.allocator();
+        let fed = self.fed.saturating_add(piece.len() as u64);
         if let Some(fault) = self.fault {
+            self.fed = fed;
             return Ok(Fed {
                 units: Vec::new(alloc),
                 fault: Some(fault),
             });
         }
-        let stream = joined(alloc, self.rest.as_slice(), piece)?;
-        let bytes = stream.as_slice();
-        let Scan { units, len, fault } = read_units(alloc, bytes)?;
-        self.rest = match fault {
-            None => exact_copy(alloc, &bytes[len..])?,
-            Some(_) => Vec::new(alloc),
-        };
+        let scan = read_piece(alloc, &mut self.store, self.known, piece)?;
+        let Scan {
+            units,
+            known,
+            fault,
+            ..
+        } = scan;
+        self.known = known;
+        self.fed = fed;
         self.fault = fault;
         Ok(Fed { units, fault })
     }
 }
 
-/// A buffer of its own with both, one after the other.
-fn joined(alloc: Global, rest: &[u8], piece: &[u8]) -> Result<Vec<u8>, AllocError>
-    ensures { IfOk result (λ stream. stream.items ≡ rest.now ++ piece.now) }
+/// Puts the piece behind what waits and reads on. What is refused leaves the store as it was.
+fn read_piece(
+    alloc: Global,
+    store: &mut Store,
+    known: Known,
+    piece: &[u8],
+) -> Result<Scan, AllocError>
+    requires known { IsKnown store.old.bytes known }
+    requires room { store.old.room ≤ 2 * length store.old.bytes }
+    ensures ok { IfOk result (λ scan. IsRead (store.old.bytes ++ piece.now) store.old.looked store.new known scan.units.items scan.fault scan.known) }
+    ensures err { OnErr result (store.new ≡ store.old) }
 {
-    let mut stream = Vec::with_capacity(alloc, rest.len().saturating_add(piece.len()))?;
-    stream.extend_from_slice(rest)?;
-    stream.extend_from_slice(piece)?;
-    Ok(stream)
+    let len = store.len();
+    let looked = store.looked();
+    let before = store.put(piece)?;
+    match read_on(alloc, store, known) {
+        Ok(scan) => Ok(scan),
+        Err(error) => {
+            store.take_back(before, len);
+            store.back_to(looked);
+            Err(error)
+        }
+    }
 }
 
-/// A copy of the bytes in just the room that they need. More room than was asked for counts as no memory.
-fn exact_copy(alloc: Global, bytes: &[u8]) -> Result<Vec<u8>, AllocError>
-    ensures items { IfOk result (λ copy. copy.items ≡ bytes.now) }
-    ensures room { IfOk result (λ copy. vec_capacity copy ≡ length bytes.now) }
+/// Reads units from the front of the store, and keeps what is behind them.
+fn read_on(alloc: Global, store: &mut Store, known: Known) -> Result<Scan, AllocError>
+    requires known { IsKnown store.old.bytes known }
+    requires room { store.old.room ≤ 2 * length store.old.bytes }
+    ensures ok { IfOk result (λ scan. IsRead store.old.bytes store.old.looked store.new known scan.units.items scan.fault scan.known) }
+    ensures bytes { OnErr result (store.new.bytes ≡ store.old.bytes) }
+    ensures room { OnErr result (store.new.room ≡ store.old.room) }
 {
-    let copy = Vec::from_slice(alloc, bytes)?;
-    if copy.capacity() != bytes.len() {
-        return Err(AllocError);
+    let scan = read_units(alloc, store, known)?;
+    keep_rest(store, scan.len, scan.fault)?;
+    Ok(scan)
+}
+
+/// Lets the first bytes go, and after a fault all of them. Where no unit was cut out, the bytes stay where they are.
+fn keep_rest(store: &mut Store, len: usize, fault: Option<Fault>) -> Result<(), AllocError>
+    requires within { len ≤ length store.old.bytes }
+    requires room { store.old.room ≤ 2 * length store.old.bytes }
+    ensures bytes { OnOk result (store.new.bytes ≡ left fault (drop len store.old.bytes)) }
+    ensures room { OnOk result (store.new.room ≤ 2 * length store.new.bytes) }
+    ensures looked { store.new.looked ≡ store.old.looked }
+    ensures err { OnErr result (store.new ≡ store.old) }
+{
+    if fault.is_some() {
+        store.clear();
+        return Ok(());
     }
-    Ok(copy)
+    if len > 0 {
+        store.cut(len)?;
+    }
+    Ok(())
 }
 
 /// Reads units from the front of the bytes, as far as they are whole.
-fn read_units(alloc: Global, bytes: &[u8]) -> Result<Scan, AllocError>
-    ensures { IfOk result (λ scan. IsScan bytes.now scan.units.items scan.len scan.fault) }
+fn read_units(alloc: Global, store: &mut Store, known: Known) -> Result<Scan, AllocError>
+    requires { IsKnown store.old.bytes known }
+    ensures scan { IfOk result (λ scan. IsScan store.old.bytes scan.units.items scan.len scan.fault) }
+    ensures known { IfOk result (λ scan. IsKnown (left scan.fault (drop scan.len store.old.bytes)) scan.known) }
+    ensures counts { IfOk result (λ scan. LooksOnly store.old store.new (looks_for known) (6 * read_len (length store.old.bytes) scan.len scan.fault + looks_for scan.known)) }
+    ensures bytes { store.new.bytes ≡ store.old.bytes }
+    ensures room { store.new.room ≡ store.old.room }
 {
     let mut units = Vec::new(alloc);
     let mut len = 0;
-    while len < bytes.len() {
-        if is_pad(bytes[len]) {
-            len += 1;
-            continue;
-        }
-        match read_front(alloc, &bytes[len..])? {
-            Front::Whole { unit, len: taken } => {
-                units.push(unit)?;
-                len += taken;
+    let mut known = known;
+    while len < store.len() {
+        match look(store, len, known) {
+            Look::Pad => {
+                len += 1;
+                known = Known::Nothing;
             }
-            Front::Bad(fault) => {
+            Look::Frame { len: size } => {
+                let frame = cut_frame(alloc, store, len, size)?;
+                units.push(Unit::Frame(frame))?;
+                len += size;
+                known = Known::Nothing;
+            }
+            Look::Message { head, len: size } => {
+                let request = cut_message(alloc, store, len, head, size)?;
+                units.push(Unit::Message(request))?;
+                len += size;
+                known = Known::Nothing;
+            }
+            Look::Bad(fault) => {
                 return Ok(Scan {
                     units,
                     len,
+                    known: Known::Nothing,
                     fault: Some(fault),
                 });
             }
-            Front::Unfinished => break,
+            Look::Waits(known) => {
+                return Ok(Scan {
+                    units,
+                    len,
+                    known,
+                    fault: None,
+                });
+            }
         }
     }
     Ok(Scan {
         units,
         len,
+        known,
         fault: None,
     })
-}
-
-/// Whether a byte may stand between units: a CR or an LF.
-fn is_pad(byte: u8) -> bool
-    ensures { result ≡ is_pad_byte byte }
-{
-    byte == b'\r' || byte == b'\n'
 }

@@ -1,4 +1,5 @@
-//! What an intake reads, and when: a source that counts its reads. How much room a reader and its units take.
+//! What an intake reads, and when: a source that counts its reads. How much room a reader and its units take, how often
+//! it looks at bytes, and a piece that is fed again.
 use interleaved::{Failed, ListSource, Source};
 use rtsp_message::laws::{any_pieces, one_reading, readings_compose};
 use rtsp_message::{Intake, Next, Reader, Unit};
@@ -205,6 +206,69 @@ fn a_reader_holds_no_more_than_waits(rt: HostRuntime) -> Result<(), Fail> {
     for (pads, end, want) in rows {
         assert_eq!(rt; room_after(rt.alloc(), pads, end)?, want);
     }
+    Ok(())
+}
+
+/// A reader that was fed these bytes one by one.
+fn fed_one_by_one(alloc: Global, bytes: &[u8]) -> Result<Reader, Fail> {
+    let mut reader = Reader::new(alloc);
+    for byte in bytes {
+        let _ = reader.feed(&[*byte])?;
+    }
+    Ok(reader)
+}
+
+#[test]
+fn bytes_one_by_one_are_looked_at_a_few_times(rt: HostRuntime) -> Result<(), Fail> {
+    let mut frame = Vec::from_slice(rt.alloc(), b"$\x00\xff\xff")?;
+    frame.extend_from_slice(&Vec::from_elem(rt.alloc(), b'x', 65_535)?)?;
+    let line = Vec::from_elem(rt.alloc(), b'A', 8_191)?;
+    // The four bytes of a frame's head; a first byte, and each byte in search of an LF.
+    let rows: [(&[u8], u64); 2] = [(frame.as_slice(), 4), (line.as_slice(), 1 + 8_191)];
+    for (bytes, looked) in rows {
+        let reader = fed_one_by_one(rt.alloc(), bytes)?;
+        assert_eq!(rt;
+            (reader.looked(), reader.fed()),
+            (looked, bytes.len() as u64)
+        );
+    }
+    Ok(())
+}
+
+/// What a reader tells of itself.
+fn told_by(reader: &Reader) -> (usize, usize, u64, u64) {
+    (
+        reader.waiting(),
+        reader.room(),
+        reader.looked(),
+        reader.fed(),
+    )
+}
+
+/// How many units a piece brings, which is fed once more where memory is refused. Nothing where the refusal changed
+/// what the reader tells.
+fn units_at_last(reader: &mut Reader, piece: &[u8]) -> Result<Option<usize>, Fail> {
+    let before = told_by(reader);
+    if let Ok(fed) = reader.feed(piece) {
+        return Ok(Some(fed.units.len()));
+    }
+    if told_by(reader) != before {
+        return Ok(None);
+    }
+    Ok(Some(reader.feed(piece)?.units.len()))
+}
+
+#[test]
+fn a_refused_piece_may_be_fed_again(rt: HostRuntime) -> Result<(), Fail> {
+    let mut reader = Reader::new(rt.alloc());
+    let mut last = None;
+    for piece in OPTIONS.chunks(5) {
+        last = units_at_last(&mut reader, piece)?;
+        assert!(rt; last.is_some());
+    }
+    assert!(rt; last == Some(1));
+    // A first byte, each byte in search of an LF, three lines without theirs, and the whole head once more.
+    assert_eq!(rt; (reader.looked(), reader.fed()), (1 + 31 + 28 + 31, 31));
     Ok(())
 }
 

@@ -6,8 +6,14 @@ use interleaved::ListSource;
 use rtsp_message::{Fault, Header, Intake, Next, Reader, Request, Unit};
 use std::alloc::{AllocError, Global};
 
-/// A stream of at most so many bytes is read again in other pieces.
-const MOST_AGAIN: usize = 4096;
+/// A stream of at most so many bytes is read again in small pieces. Those of the longest units are.
+const MOST_IN_PIECES: usize = 100_000;
+
+/// The longest of these pieces.
+const LONGEST_PIECE: usize = 7;
+
+/// A stream of at most so many bytes is cut in two at each place, and taken in.
+const MOST_CUT: usize = 4096;
 
 /// What is read of a stream: the units, as they are told, and what is wrong behind them.
 #[derive(Drop)]
@@ -59,11 +65,14 @@ impl StreamCase {
 
     /// Reads all pieces again, cut in other ways, and tells where that gives anything else.
     pub fn read_again(&self, told: &mut Told) -> Result<(), AllocError> {
-        if self.bytes.len() > MOST_AGAIN {
+        if self.bytes.len() > MOST_IN_PIECES {
             return Ok(());
         }
-        if !self.is_read_byte_by_byte()? {
-            told.fact(b"otherwise byte by byte")?;
+        if let Some(size) = self.first_bad_size()? {
+            told.fact(format!(in self.alloc; "otherwise in pieces of {size}")?.as_bytes())?;
+        }
+        if self.bytes.len() > MOST_CUT {
+            return Ok(());
         }
         if let Some(place) = self.first_bad_cut()? {
             told.fact(format!(in self.alloc; "otherwise cut at {place}")?.as_bytes())?;
@@ -74,11 +83,24 @@ impl StreamCase {
         Ok(())
     }
 
-    fn is_read_byte_by_byte(&self) -> Result<bool, AllocError> {
+    /// The first length of which pieces read otherwise.
+    fn first_bad_size(&self) -> Result<Option<usize>, AllocError> {
+        for size in 1..=LONGEST_PIECE {
+            if !self.is_read_in_pieces(size)? {
+                return Ok(Some(size));
+            }
+        }
+        Ok(None)
+    }
+
+    /// Whether pieces of so many bytes read the same.
+    fn is_read_in_pieces(&self, size: usize) -> Result<bool, AllocError>
+        requires { 1 ≤ size }
+    {
         let mut reader = Reader::new(self.alloc);
         let mut read = Readout::empty(self.alloc);
-        for byte in &self.bytes {
-            read.feed(&mut reader, &[*byte])?;
+        for piece in self.bytes.chunks(size) {
+            read.feed(&mut reader, piece)?;
         }
         Ok(read.is(&self.read))
     }

@@ -1,31 +1,17 @@
-use Rattle.std.proofs.Common.{◌≡◌, ◌-◌, List, ℕ, length, take, drop, sym, subst, arith, length-drop}
-use Rattle.std.proofs.lemmas.List.{take_all}
-use Rattle.rtsp_message.specs.Fronts.{IsFront}
-use Rattle.rtsp_message.proofs.Pieces.{pad_more, unit_more, end_waits}
-use Rattle.rtsp_message.proofs.reader.read_units.Goals.{else-loop-len-test, then-loop-len-test+else-is_pad+in_ok-unit+in-Unfinished}
+use Rattle.rtsp_message.specs.Knowns.{looks_for}
+use Rattle.rtsp_message.proofs.Keeping.{pad_step, frame_step, message_step}
 use Rattle.rtsp_message.proofs.reader.read_units.Goals as goal
 
-pub loop-len-preserved-then-is_pad : goal.loop-len-preserved-then-is_pad
-loop-len-preserved-then-is_pad c = pad_more c.loop-len.invariant c.loop-len-test.true (sym c.if-is_pad.ensures)
+pub loop-len-preserved-in-Pad : goal.loop-len-preserved-in-Pad
+loop-len-preserved-in-Pad c =
+    pad_step c.args.store.now c.loop-len.store c.look.new.store c.loop-len.units.items c.loop-len.len (looks_for c.args.known) c.loop-len.known c.loop-len.invariant.0 c.loop-len.invariant.2 c.in-Pad.ensures.counts c.in-Pad.ensures.found
+
+pub loop-len-preserved-in-Frame : goal.loop-len-preserved-in-Frame
+loop-len-preserved-in-Frame c =
+    frame_step c.args.store.now c.loop-len.store c.look.new.store c.loop-len.units.items c.push.new.self.items c.loop-len.len c.in-Frame.size (looks_for c.args.known) c.loop-len.known c.in_ok-frame-in-Frame.frame
+    c.loop-len.invariant.0 c.loop-len.invariant.2 c.in-Frame.ensures.counts c.in-Frame.ensures.found c.in_ok-frame-in-Frame.ensures c.in_ok-push-in-Frame.ensures.items
 
 pub loop-len-preserved : goal.loop-len-preserved
 loop-len-preserved c =
-    let bytes = c.args.bytes.now in
-    let len = c.loop-len.len in
-    let whole : take (length bytes - len) (drop len bytes) ≡ drop len bytes = take_all (length bytes - len) (drop len bytes) (omega (arith, length-drop len bytes)) in
-    let front = subst (λ (l : List ℕ). IsFront l c.in_ok-unit.field-0) whole c.in_ok-unit.ensures in
-    let message = subst (IsFront (drop len bytes)) c.in-Whole.is front in
-    rw c.in_ok-push-in-Whole.ensures.items (unit_more c.in-Whole.unit c.in-Whole.taken c.loop-len.invariant message.0 message.1)
-
-pub returns : goal.returns
-returns c =
-    let bytes = c.args.bytes.now in
-    let len = c.loop-len.len in (
-      c.loop-len.invariant,
-      elim c.loop-len-test.branch [
-        | else-loop-len-test w ↦ let rest = end_waits bytes len (omega (arith, w.loop-len-test.false)) in (rest.0, omega (arith, rest.1))
-        | then-loop-len-test+else-is_pad+in_ok-unit+in-Unfinished w ↦
-            let whole : take (length bytes - len) (drop len bytes) ≡ drop len bytes = take_all (length bytes - len) (drop len bytes) (omega (arith, length-drop len bytes)) in
-            subst (IsFront (drop len bytes)) w.in-Unfinished.is (subst (λ (l : List ℕ). IsFront l w.in_ok-unit.field-0) whole w.in_ok-unit.ensures)
-      ],
-    )
+    message_step c.args.store.now c.loop-len.store c.look.new.store c.cut_message.new.store c.loop-len.units.items c.push-in-Message.new.self.items c.loop-len.len c.in-Message.head c.in-Message.size (looks_for c.args.known) c.loop-len.known
+    c.in_ok-request-in-Message.request c.loop-len.invariant.0 c.loop-len.invariant.2 c.in-Message.ensures.counts c.in_ok-request-in-Message.ensures.counts c.in-Message.ensures.found c.in_ok-request-in-Message.ensures.ok c.in_ok-push-in-Message.ensures.items
