@@ -1,4 +1,4 @@
--- What a legal history says of an accepted ANNOUNCE: its connection owned no mount, and its name was no mount's.
+-- What an accepted request has passed and is answered; of an ANNOUNCE: its connection owned no mount, and its name was no mount's.
 use Rattle.std.proofs.Common.{◌≡◌, ◌≢◌, ℕ, ◌==◌, ◌&&◌, Bool, true, false, cond, inl, inr, Option, None, Some, refl, ap, sym, subst, ◌∙◌}
 use Rattle.std.specs.List.{position_or_len}
 use Rattle.std.specs.Option.{option_map, option_map_or}
@@ -21,7 +21,7 @@ use Rattle.session_state.specs.declared.check.Check.{Check}
 use Rattle.session_state.specs.declared.check.Check.TheVariants.{HasCSeq, HasVersion, HasMethod, RequiresNothing, HasUri, HasItsSession, NamesAStream, FitsState, HasNoBody, AcceptsSdp, MayAnnounce, HasSdpType, IsDescription, HasFewTracks, HasRoomForMount, OwnsNoOther, NamesATrack, HasTransport, MayRecord, HasRoomForSession, IsForPlaying, IsForRecording, IsAggregate, HasFreeSeat}
 use Rattle.session_state.specs.Checks.{Asked, Passes, PassesAll, checks_of}
 use Rattle.session_state.specs.Legal.{IsAnswered, IsReplyOf}
-use Rattle.session_state.specs.Replies.{status_of}
+use Rattle.session_state.specs.Replies.{IsAccepted, status_of}
 use Rattle.session_state.specs.Streams.{IsLive}
 
 -- no refusal has status 200
@@ -51,37 +51,48 @@ refused_otherwise IsForRecording = refl
 refused_otherwise IsAggregate = refl
 refused_otherwise HasFreeSeat = refl
 
--- An accepted ANNOUNCE of a connection.
-pub record IsAnnounceOf (conn : ℕ) (request : messages.Request) (reply : Reply) (who : ℕ) : Type 0 where
+-- An accepted request of a connection, of this method.
+pub record IsAcceptedOf (conn : ℕ) (request : messages.Request) (reply : Reply) (who : ℕ) (asks : Method) : Type 0 where
   pub by : who ≡ conn
   pub ok : code_of reply.status ≡ 200
-  pub method : method_of request.method ≡ Some methods.Announce
+  pub method : method_of request.method ≡ Some asks
 
-pub is_announce_of : (conn who : ℕ) (request : messages.Request) (given : Given) (reply : Reply) (act : Act) → accepts_from conn is_announce (Request who request given reply act) ≡ true → IsAnnounceOf conn request reply who
-is_announce_of conn who request given reply act is = by (code_of reply.status == 200) refl (method_of request.method) refl is
+pub accepted_of : (such : Method → Bool) (asks : Method) → ((method : Method) → such method ≡ true → method ≡ asks) → (conn who : ℕ) (request : messages.Request) (given : Given) (reply : Reply) (act : Act)
+    → accepts_from conn such (Request who request given reply act) ≡ true → IsAcceptedOf conn request reply who asks
+accepted_of such asks only conn who request given reply act is = by (code_of reply.status == 200) refl (method_of request.method) refl is
   where
     by : (ok : Bool) → (code_of reply.status == 200) ≡ ok → (method : Option Method) → method_of request.method ≡ method
-        → option_map_or (λ (one : ℕ × Method). one.0 == conn && is_announce one.1) (cond ok (option_map (λ one. (who, one)) method) None) false ≡ true → IsAnnounceOf conn request reply who
+        → option_map_or (λ (one : ℕ × Method). one.0 == conn && such one.1) (cond ok (option_map (λ one. (who, one)) method) None) false ≡ true → IsAcceptedOf conn request reply who asks
     by true ok None named is = absurd (cc)
-    by true ok (Some method) named is = of method named (who == conn) refl is
+    by true ok (Some method) named is = of (who == conn) refl is
       where
-        of : (method : Method) → method_of request.method ≡ Some method → (same : Bool) → (who == conn) ≡ same → (same && is_announce method) ≡ true → IsAnnounceOf conn request reply who
-        of methods.Announce named true same is = record { by = eqb-true who conn same; ok = eqb-true (code_of reply.status) 200 ok; method = named }
-        of method named false same is = absurd (cc)
-        of method named true same is = absurd (cc)
+        of : (same : Bool) → (who == conn) ≡ same → (same && such method) ≡ true → IsAcceptedOf conn request reply who asks
+        of true same is = record { by = eqb-true who conn same; ok = eqb-true (code_of reply.status) 200 ok; method = named ∙ ap Some (only method is) }
+        of false same is = absurd (cc)
     by false ok method named is = absurd (cc)
+
+pub is_announce_of : (conn who : ℕ) (request : messages.Request) (given : Given) (reply : Reply) (act : Act) → accepts_from conn is_announce (Request who request given reply act) ≡ true
+    → IsAcceptedOf conn request reply who methods.Announce
+is_announce_of = accepted_of is_announce methods.Announce only_announce
+  where
+    only_announce : (method : Method) → is_announce method ≡ true → method ≡ methods.Announce
+    only_announce methods.Announce is = refl
+    only_announce method is = absurd (cc)
+
+-- a request that is answered 200 has passed its method's checks, and is answered as the method has it
+pub accepted_as : (asked : Asked) (given : Given) (reply : Reply) (act : Act) (method : Method) → IsAnswered asked given reply act → code_of reply.status ≡ 200 → method_of asked.request.method ≡ Some method
+    → PassesAll asked (checks_of (Some method)) × IsAccepted asked method given reply act
+accepted_as asked given reply act method (inl (check, fails, is, none)) ok named =
+    let same = eq-eqb (code_of (status_of check)) 200 (sym (ap (λ (r : Reply). code_of r.status) is) ∙ ok) in let other = refused_otherwise check in absurd (cc)
+accepted_as asked given reply act method (inr (asks, by, passes, is)) ok named = subst (λ m. PassesAll asked (checks_of (Some m)) × IsAccepted asked m given reply act) one (passes, is)
+  where
+    one : asks ≡ method
+    one = let same = sym by ∙ named in cc
 
 -- what an accepted ANNOUNCE has passed
 pub passed : (asked : Asked) (given : Given) (reply : Reply) (act : Act) → IsAnswered asked given reply act → code_of reply.status ≡ 200 → method_of asked.request.method ≡ Some methods.Announce
     → Passes asked MayAnnounce
-passed asked given reply act (inl (check, fails, is, none)) ok named = let same = eq-eqb (code_of (status_of check)) 200 (sym (ap (λ (r : Reply). code_of r.status) is) ∙ ok) in let other = refused_otherwise check in absurd (cc)
-passed asked given reply act (inr (method, by, passes, is)) ok named = of method (sym by ∙ named) passes
-  where
-    of : (method : Method) → Some method ≡ Some methods.Announce → PassesAll asked (checks_of (Some method)) → Passes asked MayAnnounce
-    of method same passes = (subst (λ m. PassesAll asked (checks_of (Some m))) one passes).1.1.1.1.1.1.1.1.0
-      where
-        one : method ≡ methods.Announce
-        one = cc
+passed asked given reply act is ok named = (accepted_as asked given reply act methods.Announce is ok named).0.1.1.1.1.1.1.1.1.0
 
 -- a connection that announces a mount owned none
 pub owned_none : (seats : ℕ) (before : History) (who conn : ℕ) (request : messages.Request) (given : Given) (reply : Reply) (act : Act) (number : ℕ)

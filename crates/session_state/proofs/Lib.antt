@@ -36,3 +36,11 @@ pub mod CheckedMethods
 pub mod CheckedWorld
 pub mod OneReply
 pub mod Copying
+pub mod Among
+pub mod OpenCount
+pub mod SameCount
+pub mod AnyList
+pub mod ToldChannels
+pub mod FewChannels
+pub mod OneSession
+pub mod OneLegal

@@ -147,7 +147,7 @@ module _ (asked : Asked) (looks : LooksUp asked) (legal : IsLegal asked.seats as
   one_accepted methods.Pause given one other act behind a b = a.0 ∙ sym b.0
   one_accepted methods.Teardown given one other act behind a b = a.0 ∙ sym b.0
 
-  no_both : (given : Given) (one other : Reply) (act behind : Act) → IsRefusedBy asked one act → IsAcceptedBy asked given other behind → ⊥
+  pub no_both : (given : Given) (one other : Reply) (act behind : Act) → IsRefusedBy asked one act → IsAcceptedBy asked given other behind → ⊥
   no_both given one other act behind (check, fails, is, none) (method, named, passes, so) = fails_or_passes asked (checks_of (Some method)) check (subst (λ m. FailsFirst asked (checks_of m) check) named fails) passes
 
   pub one_reply : (given : Given) (one other : Reply) (act behind : Act) → IsAnswered asked given one act → IsAnswered asked given other behind → one ≡ other

@@ -1,6 +1,5 @@
 -- What a PLAY that is answered 200 takes.
-use Rattle.std.proofs.Common.{◌≡◌, ℕ, ◌<◌, ◌==◌, false, ◌∷◌, inl, inr, Option, None, Some, ap, sym, subst, ◌∙◌}
-use Rattle.std.proofs.lemmas.Bool.{eq-eqb}
+use Rattle.std.proofs.Common.{◌≡◌, ℕ, ◌<◌, false, ◌∷◌, Some, subst, ◌∙◌}
 use Rattle.rtsp_message.specs.declared.request.Request as messages
 use Rattle.rtsp_message.specs.declared.reply.Reply.{Reply}
 use Rattle.rtsp_message.specs.Reply.{code_of}
@@ -8,35 +7,25 @@ use Rattle.session_state.specs.declared.act.Act.{Act}
 use Rattle.session_state.specs.declared.act.Act.TheVariants as acts
 use Rattle.session_state.specs.declared.given.Given.{Given}
 use Rattle.session_state.specs.declared.entry.Entry.TheVariants.{Request}
-use Rattle.session_state.specs.declared.method.Method.{Method}
 use Rattle.session_state.specs.declared.method.Method.TheVariants as methods
 use Rattle.session_state.specs.declared.session.Session.{Session}
-use Rattle.session_state.specs.declared.session.State.{State}
 use Rattle.session_state.specs.declared.session.State.TheVariants.{Ready}
 use Rattle.session_state.specs.Methods.{method_of}
 use Rattle.session_state.specs.History.{History}
 use Rattle.session_state.specs.Checks.{Asked}
-use Rattle.session_state.specs.Legal.{IsAnswered, IsLegal}
+use Rattle.session_state.specs.Legal.{IsLegal}
 use Rattle.session_state.specs.Lookups.{IsSession, IsSessionOf}
-use Rattle.session_state.specs.Replies.{IsAccepted, IsPlayAct, IsPlayed, status_of}
+use Rattle.session_state.specs.Replies.{IsPlayAct, IsPlayed}
 use Rattle.session_state.specs.Streams.{is_out}
-use Rattle.session_state.proofs.Announced.{refused_otherwise}
+use Rattle.session_state.proofs.Announced.{accepted_as}
 use Rattle.session_state.proofs.OneLookup.{one_session_told}
-
--- an accepted PLAY
-played : (asked : Asked) (given : Given) (reply : Reply) (act : Act) → IsAnswered asked given reply act → code_of reply.status ≡ 200 → method_of asked.request.method ≡ Some methods.Play → IsPlayed asked given reply act
-played asked given reply act (inl (check, fails, is, none)) ok named = let same = eq-eqb (code_of (status_of check)) 200 (sym (ap (λ (r : Reply). code_of r.status) is) ∙ ok) in let other = refused_otherwise check in absurd (cc)
-played asked given reply act (inr (method, by, passes, is)) ok named = subst (λ m. IsAccepted asked m given reply act) one is
-  where
-    one : method ≡ methods.Play
-    one = let same = sym by ∙ named in cc
 
 pub takes_a_seat : (seats : ℕ) (before : History) (conn : ℕ) (request : messages.Request) (given : Given) (reply : Reply) (act : Act) (session : Session)
     → IsLegal seats (Request conn request given reply act ∷ before) → code_of reply.status ≡ 200 → method_of request.method ≡ Some methods.Play
     → IsSession seats conn before session → session.state ≡ Ready → (seat : ℕ) × (act ≡ acts.Play session.mount seat) × (seat < seats) × (is_out session.mount seat before ≡ false)
 takes_a_seat seats before conn request given reply act session legal ok named is ready =
     let asked : Asked = record { seats = seats; history = before; conn = conn; request = request; mounts = legal.1.mounts; session = legal.1.session } in
-    let play = played asked given reply act legal.1.answered ok named in
+    let play : IsPlayed asked given reply act = (accepted_as asked given reply act methods.Play legal.1.answered ok named).1 in
     let told = subst (IsSessionOf seats conn before) play.names.has legal.1.looks_up.session in
     let same = one_session_told seats conn before play.session session legal.0 told is in
     let does = subst (λ m. IsPlayAct asked m play.session.state act) same.mount play.does in

@@ -39,6 +39,11 @@ pub record IsReplyOf (seats : ℕ) (history : History) (conn : ℕ) (request : m
   pub looks_up : LooksUp (record { seats = seats; history = history; conn = conn; request = request; mounts = mounts; session = session })
   pub answered : IsAnswered (record { seats = seats; history = history; conn = conn; request = request; mounts = mounts; session = session }) given reply act
 
+-- two acts are one, but for the seat that a PLAY takes
+abbrev pub IsSameAct : Act → Act → Type 0
+IsSameAct (acts.Play mount seat) (acts.Play other taken) = mount ≡ other
+IsSameAct act other = act ≡ other
+
 -- what a connection leaves: its mount ends, or the seat that it plays from is given up
 abbrev pub act_at_end : Option Mount → Option Session → Act
 act_at_end (Some mount) session = acts.End

@@ -1,5 +1,6 @@
 -- What a history tells of its connections and their sessions (RFC 2326, 3.4, 12.37, 12.39 and A.2).
-use Rattle.std.specs.Prelude.{◌≡◌, ℕ, suc, ◌-◌, ◌==◌, ◌&&◌, Bool, true, false, not, if◌then◌else◌, List, [], ◌∷◌, length, filter, find, reverse, is_some, Option, None, Some}
+use Rattle.std.specs.Prelude.{◌≡◌, ℕ, suc, ◌-◌, ◌==◌, ◌&&◌, ◌↔◌, Bool, true, false, not, if◌then◌else◌, List, [], ◌∷◌, length, filter, find, reverse, is_some, Option, None, Some}
+use Rattle.std.specs.List.{Contains}
 use Rattle.std.specs.Option.{option_map, option_map_or, option_and_then}
 use Rattle.rtsp_message.specs.declared.request.Request as messages
 use Rattle.rtsp_message.specs.declared.reply.Reply.{Reply}
@@ -8,6 +9,7 @@ use Rattle.transport_header.specs.declared.spec.ChannelPair.{ChannelPair}
 use Rattle.transport_header.specs.Chosen.{transport_text}
 use Rattle.transport_header.specs.Tracks.{pair_at}
 use Rattle.mounts.specs.declared.mount.Mount.{Mount}
+use Rattle.mounts.specs.Different.{AreDifferent}
 use Rattle.session_state.specs.declared.act.Act.{Act}
 use Rattle.session_state.specs.declared.given.Given.{Given}
 use Rattle.session_state.specs.declared.entry.Entry.{Entry}
@@ -36,6 +38,11 @@ came history = how_many is_connect history
 
 abbrev pub open_count : History → ℕ
 open_count history = came history - how_many is_hang_up history
+
+-- These are the connections that are open, each once.
+pub record AreOpen (history : History) (conns : List ℕ) : Type 0 where
+  pub each : (conn : ℕ) → Contains conns conn ↔ (is_open conn history ≡ true)
+  pub once : AreDifferent conns
 
 -- what a connection's session goes by: the accepted SETUP, PLAY, RECORD and PAUSE since its last TEARDOWN or hang-up, newest
 -- first

@@ -1,5 +1,5 @@
 //! What the definitions of this crate mean, as theorems that call nothing.
-ghost use Rattle.std.specs.Prelude.{◌≡◌, ◌≢◌, ◌<◌, ℕ, ◌+◌, ◌^◌, List, ◌∷◌, ◌++◌, Option, Some, true, false};
+ghost use Rattle.std.specs.Prelude.{◌≡◌, ◌≢◌, ◌<◌, ℕ, ◌+◌, ◌^◌, List, ◌∷◌, ◌++◌, length, Option, Some, true, false};
 ghost use Rattle.rtsp_message.specs.declared.request.Request as messages;
 ghost use Rattle.rtsp_message.specs.declared.reply.Reply.{Reply};
 ghost use Rattle.rtsp_message.specs.Reply.{code_of};
@@ -16,8 +16,8 @@ ghost use Rattle.session_state.specs.declared.session.Session.{Session};
 ghost use Rattle.session_state.specs.declared.session.State.TheVariants.{Ready};
 ghost use Rattle.session_state.specs.History.{History, accepts, accepts_from, how_many};
 ghost use Rattle.session_state.specs.Checks.{Asked, LooksUp};
-ghost use Rattle.session_state.specs.Legal.{IsAnswered, IsLegal};
-ghost use Rattle.session_state.specs.Lookups.{IsSession, IsSessionOf, came, has_session, is_open, sessions_begun};
+ghost use Rattle.session_state.specs.Legal.{IsAnswered, IsLegal, IsReplyOf, IsSameAct};
+ghost use Rattle.session_state.specs.Lookups.{AreOpen, IsSession, IsSessionOf, came, has_session, is_open, open_count, sessions_begun};
 ghost use Rattle.session_state.specs.Methods.{is_announce, method_of, moves};
 ghost use Rattle.session_state.specs.Streams.{AreLive, IsLiveMount, ends_of, is_out};
 
@@ -68,6 +68,11 @@ pub fn connections_come_first()
     ensures open { (seats conn : ℕ) (history : History) → IsLegal seats history → is_open conn history ≡ true → conn < came history + 1 }
 {}
 
+/// As many connections are open as are counted: in a legal history there are so many, each of which is open, and no other is.
+pub fn open_connections_are_counted()
+    ensures { (seats : ℕ) (history : History) → IsLegal seats history → (conns : List ℕ) × AreOpen history conns × (length conns ≡ open_count history) }
+{}
+
 /// In a legal history a connection owns at most one mount that lives, and no two mounts that live have one name.
 pub fn mounts_differ()
     ensures owners { (seats : ℕ) (history : History) (one other : Mount) → IsLegal seats history → IsLiveMount seats history one → IsLiveMount seats history other
@@ -97,7 +102,7 @@ pub fn mounts_are_found_in_any_list()
 {}
 
 /// In a legal history a connection has one session, whatever lists of mounts it is looked up in: its number, its word, its mount
-/// and that mount's name, whether it records, and its state. Of its channels nothing is said here.
+/// and that mount's name, whether it records, its state, and the channels of its tracks.
 pub fn sessions_are_told_once()
     ensures number { (seats conn : ℕ) (history : History) (one other : Session) → IsLegal seats history → IsSession seats conn history one → IsSession seats conn history other → one.number ≡ other.number }
     ensures word { (seats conn : ℕ) (history : History) (one other : Session) → IsLegal seats history → IsSession seats conn history one → IsSession seats conn history other → one.word ≡ other.word }
@@ -105,6 +110,7 @@ pub fn sessions_are_told_once()
     ensures name { (seats conn : ℕ) (history : History) (one other : Session) → IsLegal seats history → IsSession seats conn history one → IsSession seats conn history other → one.name ≡ other.name }
     ensures recording { (seats conn : ℕ) (history : History) (one other : Session) → IsLegal seats history → IsSession seats conn history one → IsSession seats conn history other → one.recording ≡ other.recording }
     ensures state { (seats conn : ℕ) (history : History) (one other : Session) → IsLegal seats history → IsSession seats conn history one → IsSession seats conn history other → one.state ≡ other.state }
+    ensures channels { (seats conn : ℕ) (history : History) (one other : Session) → IsLegal seats history → IsSession seats conn history one → IsSession seats conn history other → one.channels ≡ other.channels }
 {}
 
 /// A request has one answer, whatever seat it takes: among the mounts that live and with the session that there is, no two
@@ -112,4 +118,13 @@ pub fn sessions_are_told_once()
 pub fn one_reply()
     ensures { (asked : Asked) (given : Given) (one other : Reply) (act behind : Act) → LooksUp asked → IsLegal asked.seats asked.history
         → IsAnswered asked given one act → IsAnswered asked given other behind → one ≡ other }
+{}
+
+/// A legal history determines what a request is answered: two answers to it that are legal have one reply, and one act but for
+/// the seat, of those that are free, that a PLAY takes.
+pub fn one_answer()
+    ensures reply { (seats : ℕ) (history : History) (conn : ℕ) (request : messages.Request) (given : Given) (one other : Reply) (act behind : Act) → IsLegal seats history
+        → IsReplyOf seats history conn request given one act → IsReplyOf seats history conn request given other behind → one ≡ other }
+    ensures act { (seats : ℕ) (history : History) (conn : ℕ) (request : messages.Request) (given : Given) (one other : Reply) (act behind : Act) → IsLegal seats history
+        → IsReplyOf seats history conn request given one act → IsReplyOf seats history conn request given other behind → IsSameAct act behind }
 {}

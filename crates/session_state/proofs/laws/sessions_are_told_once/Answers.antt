@@ -1,4 +1,7 @@
+use Rattle.std.proofs.Common.{ap}
+use Rattle.session_state.specs.declared.session.Session.{Session}
 use Rattle.session_state.proofs.OneLookup.{one_session_told}
+use Rattle.session_state.proofs.OneSession.{one_session}
 use Rattle.session_state.proofs.laws.sessions_are_told_once.Goals as goal
 
 pub returns-clause-number : goal.returns-clause-number
@@ -18,3 +21,6 @@ returns-clause-recording c = λ seats conn history one other legal a b. (one_ses
 
 pub returns-clause-state : goal.returns-clause-state
 returns-clause-state c = λ seats conn history one other legal a b. (one_session_told seats conn history one other legal a b).state
+
+pub returns-clause-channels : goal.returns-clause-channels
+returns-clause-channels c = λ seats conn history one other legal a b. ap (λ (session : Session). session.channels) (one_session seats conn history legal one other a b)

@@ -1,4 +1,3 @@
-use Rattle.std.proofs.Common.{◌≡◌}
 use Rattle.transport_header.proofs.ReadAgain.{apart}
 use Rattle.session_state.proofs.Identifiers.{one_session}
 use Rattle.session_state.proofs.laws.sessions_differ.Goals as goal
