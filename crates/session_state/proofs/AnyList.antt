@@ -19,56 +19,7 @@ use Rattle.session_state.specs.Legal.{IsAnswered, IsLegal}
 use Rattle.session_state.specs.Methods.{method_of}
 use Rattle.session_state.specs.Replies.{IsAccepted}
 use Rattle.session_state.specs.Streams.{AreLive, IsOwnMount, IsSetUpOn, SetsUp}
-use Rattle.session_state.proofs.OneLookup.{names_agree, numbers_agree, owners_agree}
-use Rattle.session_state.proofs.SameCount.{same_count}
-
--- Two lists of mounts tell one thing by each number, name and owner, and are of one length.
-record Agree (mounts others : List Mount) : Type 0 where
-  numbers : (number : ℕ) → numbered number mounts ≡ numbered number others
-  names : (name : List ℕ) → named name mounts ≡ named name others
-  owners : (owner : ℕ) → owned_by owner mounts ≡ owned_by owner others
-  count : length mounts ≡ length others
-
-turned : (mounts others : List Mount) → Agree mounts others → Agree others mounts
-turned mounts others agree = record {
-  numbers = λ number. sym (agree.numbers number);
-  names = λ name. sym (agree.names name);
-  owners = λ owner. sym (agree.owners owner);
-  count = sym agree.count;
-}
-
--- what a request names
-module _ (mounts others : List Mount) (agree : Agree mounts others) where
-  own_too : (conn : ℕ) (path : List ℕ) (number : ℕ) (rest : Option (List ℕ)) → IsOwnMount mounts conn path number rest → IsOwnMount others conn path number rest
-  own_too conn path number rest (own, owned, goes, is) = (own, sym (agree.owners conn) ∙ owned, goes, is)
-
-  found_too : (path : List ℕ) (number : ℕ) (rest : Option (List ℕ)) → IsFoundIn mounts path number rest → IsFoundIn others path number rest
-  found_too path number rest found = record {
-    mount = found.mount;
-    name = found.name;
-    goes_on = found.goes_on;
-    live = sym (agree.names found.name) ∙ found.live;
-    number_is = found.number_is;
-    longest = λ longer other goes more. sym (agree.names longer) ∙ found.longest longer other goes more;
-  }
-
-  on_too : ((conn : ℕ) (path : List ℕ) (number : ℕ) (rest : Option (List ℕ)) → IsOwnMount others conn path number rest → IsOwnMount mounts conn path number rest)
-      → (conn : ℕ) (path : List ℕ) (number : ℕ) (rest : Option (List ℕ)) → IsSetUpOn mounts conn path number rest → IsSetUpOn others conn path number rest
-  on_too back conn path number rest (inl own) = inl (own_too conn path number rest own)
-  on_too back conn path number rest (inr (none, found)) = inr ((λ other behind own. none other behind (back conn path other behind own)), found_too path number rest found)
-
-set_up_on_too : (mounts others : List Mount) → Agree mounts others → (conn : ℕ) (path : List ℕ) (number : ℕ) (rest : Option (List ℕ)) → IsSetUpOn mounts conn path number rest → IsSetUpOn others conn path number rest
-set_up_on_too mounts others agree = on_too mounts others agree (own_too others mounts (turned mounts others agree))
-
-sets_up_too : (mounts others : List Mount) → Agree mounts others → (conn : ℕ) (uri : List ℕ) (mount : Mount) (track : ℕ) → SetsUp mounts conn uri mount track → SetsUp others conn uri mount track
-sets_up_too mounts others agree conn uri mount track is = record {
-  target = is.target;
-  names = is.names;
-  rest = is.rest;
-  on = set_up_on_too mounts others agree conn is.target.path mount.number is.rest is.on;
-  is = sym (agree.numbers mount.number) ∙ is.is;
-  track_is = is.track_is;
-}
+use Rattle.session_state.proofs.Listed.{Agree, agreeing, set_up_on_too, sets_up_too, turned}
 
 module _ (seats : ℕ) (history : History) (conn : ℕ) (request : messages.Request) (session : Option Session) where
   -- the request, with these as the mounts that live
@@ -192,12 +143,7 @@ module _ (seats : ℕ) (history : History) (conn : ℕ) (request : messages.Requ
   answered_too mounts others legal are also given reply act = by
     where
       agree : Agree mounts others
-      agree = record {
-        numbers = numbers_agree seats history legal mounts others are also;
-        names = names_agree seats history legal mounts others are also;
-        owners = owners_agree seats history legal mounts others are also;
-        count = same_count seats history mounts others are also;
-      }
+      agree = agreeing seats history legal mounts others are also
 
       by : IsAnswered (listing mounts) given reply act → IsAnswered (listing others) given reply act
       by (inl (check, fails, is, none)) = inl (check, fails_too mounts others agree (checks_of (method_of request.method)) check fails, is, none)

@@ -39,6 +39,7 @@ pub mod Copying
 pub mod Among
 pub mod OpenCount
 pub mod SameCount
+pub mod Listed
 pub mod AnyList
 pub mod ToldChannels
 pub mod FewChannels

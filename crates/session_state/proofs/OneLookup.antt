@@ -1,4 +1,4 @@
--- What a legal history tells of a mount, and of a session but for its channels, doesn't go by how the mounts that live are listed.
+-- What a legal history tells of a mount doesn't go by how the mounts that live are listed.
 use Rattle.std.proofs.Common.{◌≡◌, ℕ, suc, ◌==◌, Bool, List, [], ◌∷◌, ◌++◌, length, slice_get, Option, None, Some, refl, ap, sym, subst, ◌∙◌}
 use Rattle.std.specs.Str.{bytes_eq}
 use Rattle.sdp.specs.declared.sections.Sections.{Sections}
@@ -13,7 +13,7 @@ use Rattle.session_state.specs.Lookups.{IsSession, SetUpAt, sessions_begun, word
 use Rattle.session_state.specs.Legal.{IsLegal}
 use Rattle.session_state.specs.Streams.{AreLive, IsLiveMount, SetsUp, is_out}
 use Rattle.session_state.proofs.Identifiers.{is_beginning}
-use Rattle.session_state.proofs.OneAnswer.{AreOne, one_named, one_numbered, one_owned, one_set_up}
+use Rattle.session_state.proofs.OneAnswer.{AreOne, one_named, one_numbered, one_owned}
 
 -- lists of the same length with the same elements at each place are one
 same_bits : (xs ys : List Bool) → length xs ≡ length ys → ((place : ℕ) (a b : Bool) → slice_get xs place ≡ Some a → slice_get ys place ≡ Some b → a ≡ b) → xs ≡ ys
@@ -79,41 +79,3 @@ module _ (seats : ℕ) (history : History) (legal : IsLegal seats history) where
 
     pub owners_agree : (owner : ℕ) → owned_by owner mounts ≡ owned_by owner others
     owners_agree owner = agree (owned_by owner mounts) (owned_by owner others) (owned_too mounts others are also owner) (owned_too others mounts also are owner)
-
-legal_before : (seats : ℕ) (later : History) (entry : Entry) (before : History) → IsLegal seats (later ++ entry ∷ before) → IsLegal seats before
-legal_before seats [] entry before legal = legal.0
-legal_before seats (one ∷ later) entry before legal = legal_before seats later entry before legal.0
-
--- Two tell of one session, but for its channels.
-pub record IsOneSession (one other : Session) : Type 0 where
-  pub number : one.number ≡ other.number
-  pub word : one.word ≡ other.word
-  pub mount : one.mount ≡ other.mount
-  pub name : one.name ≡ other.name
-  pub recording : one.recording ≡ other.recording
-  pub state : one.state ≡ other.state
-
-pub one_session_told : (seats conn : ℕ) (history : History) (one other : Session) → IsLegal seats history → IsSession seats conn history one → IsSession seats conn history other → IsOneSession one other
-one_session_told seats conn history one other legal a b =
-    let first = a.first in
-    let second = b.first in
-    let begin : b.begin ≡ a.begin = cc in
-    let begun = is_beginning conn history a.begin a.first in
-    let before = legal_before seats begun.later a.begin.entry a.begin.before (subst (IsLegal seats) begun.cut legal) in
-    let word = a.word in
-    let other_word : word_of a.begin.entry ≡ Some other.word = ap (λ (m : Moment). word_of m.entry) (sym begin) ∙ b.word in
-    let set_up = subst (SetUpAt seats conn b.mount b.track) begin b.set_up in
-    let same_entry = sym a.set_up.is ∙ set_up.is in
-    let request : set_up.request ≡ a.set_up.request = cc in
-    let sets = subst (λ (r : messages.Request). SetsUp set_up.mounts conn r.uri b.mount b.track) request set_up.sets_up in
-    let mount = (one_set_up seats a.begin.before before a.set_up.mounts set_up.mounts a.set_up.live set_up.live conn a.set_up.request.uri a.mount b.mount a.track b.track a.set_up.sets_up sets).0 in
-    let state = a.state in
-    let other_state = b.state in
-    record {
-      number = a.number ∙ ap (λ (m : Moment). sessions_begun (m.entry ∷ m.before)) (sym begin) ∙ sym b.number;
-      word = cc;
-      mount = a.mount_is ∙ mount.number ∙ sym b.mount_is;
-      name = a.name_is ∙ mount.name ∙ sym b.name_is;
-      recording = a.recording ∙ ap (λ owner. owner == conn) mount.owner ∙ sym b.recording;
-      state = cc;
-    }

@@ -33,7 +33,8 @@ use Rattle.session_state.specs.Lookups.{IsSessionOf}
 use Rattle.session_state.specs.Replies.{IsAccepted, IsDescribed, IsPlayed, IsSetUp, accepting, channels_in, identifier_told, info_at, info_field, infos, no_fields, refusal, told_session, url_for}
 use Rattle.session_state.specs.Streams.{IsLiveMount}
 use Rattle.session_state.proofs.CheckedNames.{one_behind}
-use Rattle.session_state.proofs.OneAnswer.{few_tracks, one_set_up}
+use Rattle.session_state.proofs.Listed.{one_set_up}
+use Rattle.session_state.proofs.OneAnswer.{few_tracks}
 
 -- the first check that isn't passed is one
 one_failure : (asked : Asked) (checks : List Check) (one other : Check) → FailsFirst asked checks one → FailsFirst asked checks other → one ≡ other
@@ -122,7 +123,7 @@ module _ (asked : Asked) (looks : LooksUp asked) (legal : IsLegal asked.seats as
       let one_chosen = one_choice (specs_of a.text) a.used (Some a.chosen) (Some b.chosen) a.is_chosen chosen in
       let chosen_is : a.chosen ≡ b.chosen = cc in
       a.is ∙ ap (λ (c : Chosen). accepting asked (record no_fields { session = Some (identifier_told asked given); transport = Some (transport_text (record c { recording = a.mount.owner == asked.conn })) }) []) chosen_is
-      ∙ ap (λ owner. accepting asked (record no_fields { session = Some (identifier_told asked given); transport = Some (transport_text (record b.chosen { recording = owner == asked.conn })) }) []) same.0.owner ∙ sym b.is
+      ∙ ap (λ owner. accepting asked (record no_fields { session = Some (identifier_told asked given); transport = Some (transport_text (record b.chosen { recording = owner == asked.conn })) }) []) (ap (λ (m : Mount). m.owner) same.0) ∙ sym b.is
 
   one_play : (given : Given) (one other : Reply) (act behind : Act) → IsPlayed asked given one act → IsPlayed asked given other behind → one ≡ other
   one_play given one other act behind a b =

@@ -1,5 +1,5 @@
 -- A legal history tells one session of a connection, channels included.
-use Rattle.std.proofs.Common.{◌≡◌, ℕ, suc, ◌==◌, Bool, true, false, cond, List, [], ◌∷◌, length, is_some, inl, inr, Option, None, Some, refl, ap, sym, ◌∙◌, subst}
+use Rattle.std.proofs.Common.{◌≡◌, ℕ, suc, ◌==◌, Bool, true, false, cond, List, [], ◌∷◌, ◌++◌, length, is_some, inl, inr, Option, None, Some, refl, ap, sym, ◌∙◌, subst}
 use Rattle.std.specs.List.{AllByRecursion}
 use Rattle.rtsp_message.specs.declared.request.Request as messages
 use Rattle.rtsp_message.specs.declared.reply.Reply.{Reply}
@@ -19,14 +19,15 @@ use Rattle.session_state.specs.declared.session.State.{State}
 use Rattle.session_state.specs.Checks.{Asked}
 use Rattle.session_state.specs.History.{History, IsLast, Moment, accepts_from, since_last}
 use Rattle.session_state.specs.Legal.{IsLegal, IsReplyOf}
-use Rattle.session_state.specs.Lookups.{AreChannels, IsSession, IsSessionOf, SetUpAt, ToldBy, ToldLast, session_part}
+use Rattle.session_state.specs.Lookups.{AreChannels, IsSession, IsSessionOf, SetUpAt, ToldBy, ToldLast, session_part, sessions_begun, word_of}
 use Rattle.session_state.specs.Methods.{is_setup, moves}
 use Rattle.session_state.specs.Replies.{channels_in}
-use Rattle.session_state.specs.Streams.{ends_of}
+use Rattle.session_state.specs.Streams.{SetsUp, ends_of}
 use Rattle.session_state.proofs.Among.{each_filtered}
 use Rattle.session_state.proofs.Announced.{accepted_as, accepted_of}
 use Rattle.session_state.proofs.FewChannels.{AreLow, low_chosen}
-use Rattle.session_state.proofs.OneLookup.{one_session_told}
+use Rattle.session_state.proofs.Identifiers.{is_beginning}
+use Rattle.session_state.proofs.Listed.{one_set_up}
 use Rattle.session_state.proofs.ToldChannels.{one_text}
 
 -- the last of some moments is one
@@ -123,6 +124,10 @@ module _ (seats conn : ℕ) where
           let (legal_there, at) = last_holds (IsLegalAt seats) (IsSetUpOf track) moments (Some moment) moment legal is refl in
           ap Some (one_told at.0 track moment one other legal_there at.1 a b)
 
+legal_before : (seats : ℕ) (later : History) (entry : Entry) (before : History) → IsLegal seats (later ++ entry ∷ before) → IsLegal seats before
+legal_before seats [] entry before legal = legal.0
+legal_before seats (one ∷ later) entry before legal = legal_before seats later entry before legal.0
+
 same_pairs : (pairs others : List (Option ChannelPair)) → length pairs ≡ length others → ((of : ℕ) → pair_at pairs of ≡ pair_at others of) → pairs ≡ others
 same_pairs [] [] long each = refl
 same_pairs [] (other ∷ others) long each = absurd (cc)
@@ -140,13 +145,26 @@ module _ (seats conn : ℕ) (history : History) (legal : IsLegal seats history) 
   pub one_session : (one other : Session) → IsSession seats conn history one → IsSession seats conn history other → one ≡ other
   unfolding make
   one_session one other a b =
-      let same = one_session_told seats conn history one other legal a b in
-      let number = same.number in
-      let word = same.word in
-      let mount = same.mount in
-      let name = same.name in
-      let recording = same.recording in
-      let state = same.state in
+      let first = a.first in
+      let second = b.first in
+      let begin : b.begin ≡ a.begin = cc in
+      let begun = is_beginning conn history a.begin a.first in
+      let before = legal_before seats begun.later a.begin.entry a.begin.before (subst (IsLegal seats) begun.cut legal) in
+      let set_up = subst (SetUpAt seats conn b.mount b.track) begin b.set_up in
+      let same_entry = sym a.set_up.is ∙ set_up.is in
+      let request : set_up.request ≡ a.set_up.request = cc in
+      let sets = subst (λ (r : messages.Request). SetsUp set_up.mounts conn r.uri b.mount b.track) request set_up.sets_up in
+      let same = (one_set_up seats a.begin.before before a.set_up.mounts set_up.mounts a.set_up.live set_up.live conn a.set_up.request.uri a.mount b.mount a.track b.track a.set_up.sets_up sets).0 in
+      let number = a.number ∙ ap (λ (m : Moment). sessions_begun (m.entry ∷ m.before)) (sym begin) ∙ sym b.number in
+      let word_told = a.word in
+      let other_word : word_of a.begin.entry ≡ Some other.word = ap (λ (m : Moment). word_of m.entry) (sym begin) ∙ b.word in
+      let word : one.word ≡ other.word = cc in
+      let mount = a.mount_is ∙ ap (λ (m : Mount). m.number) same ∙ sym b.mount_is in
+      let name = a.name_is ∙ ap (λ (m : Mount). m.name) same ∙ sym b.name_is in
+      let recording = a.recording ∙ ap (λ (m : Mount). m.owner == conn) same ∙ sym b.recording in
+      let state_told = a.state in
+      let other_state = b.state in
+      let state : one.state ≡ other.state = cc in
       let channels : one.channels ≡ other.channels = same_pairs one.channels other.channels (a.tracks ∙ sym b.tracks)
       (λ of. one_told_last seats conn (session_part conn history) (legal_part seats conn history legal) of (pair_at one.channels of) (pair_at other.channels of) (a.channels of) (b.channels of)) in
       let made : make one.number one.word one.mount one.name one.recording one.channels one.state ≡ make other.number other.word other.mount other.name other.recording other.channels other.state = cc in

@@ -18,7 +18,7 @@ use Rattle.session_state.specs.Lookups.{IsSession, IsSessionOf}
 use Rattle.session_state.specs.Replies.{IsPlayAct, IsPlayed}
 use Rattle.session_state.specs.Streams.{is_out}
 use Rattle.session_state.proofs.Announced.{accepted_as}
-use Rattle.session_state.proofs.OneLookup.{one_session_told}
+use Rattle.session_state.proofs.OneSession.{one_session}
 
 pub takes_a_seat : (seats : ℕ) (before : History) (conn : ℕ) (request : messages.Request) (given : Given) (reply : Reply) (act : Act) (session : Session)
     → IsLegal seats (Request conn request given reply act ∷ before) → code_of reply.status ≡ 200 → method_of request.method ≡ Some methods.Play
@@ -27,7 +27,7 @@ takes_a_seat seats before conn request given reply act session legal ok named is
     let asked : Asked = record { seats = seats; history = before; conn = conn; request = request; mounts = legal.1.mounts; session = legal.1.session } in
     let play : IsPlayed asked given reply act = (accepted_as asked given reply act methods.Play legal.1.answered ok named).1 in
     let told = subst (IsSessionOf seats conn before) play.names.has legal.1.looks_up.session in
-    let same = one_session_told seats conn before play.session session legal.0 told is in
-    let does = subst (λ m. IsPlayAct asked m play.session.state act) same.mount play.does in
-    let (seat, few, free, is_play) = subst (λ s. IsPlayAct asked session.mount s act) (same.state ∙ ready) does in
+    let same = one_session seats conn before legal.0 play.session session told is in
+    let does = subst (λ (s : Session). IsPlayAct asked s.mount s.state act) same play.does in
+    let (seat, few, free, is_play) = subst (λ s. IsPlayAct asked session.mount s act) ready does in
     (seat, is_play, few, free)

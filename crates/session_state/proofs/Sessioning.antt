@@ -25,7 +25,7 @@ use Rattle.session_state.specs.Lookups.{AreChannels, IsSession, SetUpAt, ToldLas
 use Rattle.session_state.specs.Stands.{in_state, with_channels}
 use Rattle.session_state.specs.Streams.{AreLive, SetsUp}
 use Rattle.session_state.proofs.AcceptedEntries.{IsAcceptedEntry, begins_so, of_own, part_moves}
-use Rattle.session_state.proofs.OneAnswer.{one_set_up}
+use Rattle.session_state.proofs.Listed.{one_set_up}
 use Rattle.session_state.proofs.Parts.{beginning_on}
 
 -- what the newest request's method leaves
