@@ -14,7 +14,7 @@ mod quotes;
 pub use blanks::{trim, trim_end};
 pub use cutting::cut;
 pub use items::{Bytes, Items};
-pub use lines::first_line;
+pub use lines::{first_line, without_cr};
 pub use names::is_same_name;
 pub use numbers::{is_numeral, read_number};
 pub use quotes::cut_unquoted;

@@ -14,8 +14,8 @@ pub fn first_line(bytes: &[u8]) -> Option<(&[u8], &[u8])>
     Some((without_cr(line), rest))
 }
 
-/// The line without one CR at its end.
-fn without_cr(line: &[u8]) -> &[u8]
+/// The line without one CR at its end, where it has one.
+pub fn without_cr(line: &[u8]) -> &[u8]
     ensures { result.now ≡ said line.now }
 {
     match line.strip_suffix(b"\r") {

@@ -8,6 +8,7 @@ looks_add a b c d x y u v n x' y' p q last within = record {
   bytes = ap (λ (s : StoreState). s.bytes) last ∙ q.bytes ∙ p.bytes;
   room = ap (λ (s : StoreState). s.room) last ∙ q.room ∙ p.room;
   at_most = let e = ap (λ (s : StoreState). s.looked) last in omega (arith, e, p.at_most, q.at_most);
+  grows = let e = ap (λ (s : StoreState). s.looked) last in λ h. let first = p.grows h in let second = q.grows (p.fits h) in let few = q.fits (p.fits h) in omega (arith, e, first, second, few);
   fits = let e = ap (λ (s : StoreState). s.looked) last in λ h. omega arith;
 }
 
@@ -17,5 +18,6 @@ looks_then a b c x y u v x' y' p q within = record {
   bytes = q.bytes ∙ p.bytes;
   room = q.room ∙ p.room;
   at_most = omega (arith, p.at_most, q.at_most);
+  grows = λ h. let first = p.grows h in let second = q.grows (p.fits h) in omega (arith, first, second);
   fits = λ h. q.fits (p.fits h);
 }

@@ -75,6 +75,7 @@ read_done old mid new before now units len None p known looks kept room looked =
       knows = subst (λ (l : List ℕ). IsKnown l now) (sym rest) known;
       room = room;
       at_most = omega (arith, looks.at_most, looked, ap length rest, length-drop len old.bytes, p.0.within);
+      grows = λ h. subst (λ (n : ℕ). old.looked ≤ n) (sym looked) (looks.grows h);
       fits = λ h. subst (λ (n : ℕ). n < 2 ^ 64) (sym looked) (looks.fits h);
     }
 read_done old mid new before now units len (Some fault) p known looks kept room looked =
@@ -84,6 +85,7 @@ read_done old mid new before now units len (Some fault) p known looks kept room 
       knows = subst (λ (l : List ℕ). IsKnown l now) (sym kept) known;
       room = room;
       at_most = omega (arith, looks.at_most, looked, ap length kept);
+      grows = λ h. subst (λ (n : ℕ). old.looked ≤ n) (sym looked) (looks.grows h);
       fits = λ h. subst (λ (n : ℕ). n < 2 ^ 64) (sym looked) (looks.fits h);
     }
 

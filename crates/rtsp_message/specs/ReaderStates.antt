@@ -44,4 +44,5 @@ pub record IsRead (stream : List ℕ) (looked : ℕ) (new : StoreState) (before 
   pub knows : IsKnown new.bytes known
   pub room : new.room ≤ 2 * length new.bytes
   pub at_most : new.looked + looks_for before + 6 * length new.bytes ≤ looked + 6 * length stream + looks_for known
+  pub grows : looked < 2 ^ 64 → looked ≤ new.looked
   pub fits : looked < 2 ^ 64 → new.looked < 2 ^ 64

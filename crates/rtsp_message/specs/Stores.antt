@@ -37,4 +37,5 @@ pub record LooksOnly (old new : StoreState) (before after : ℕ) : Type 0 where
   pub bytes : new.bytes ≡ old.bytes
   pub room : new.room ≡ old.room
   pub at_most : new.looked + before ≤ old.looked + after
+  pub grows : old.looked < 2 ^ 64 → old.looked ≤ new.looked
   pub fits : old.looked < 2 ^ 64 → new.looked < 2 ^ 64

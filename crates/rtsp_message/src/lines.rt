@@ -1,6 +1,5 @@
 //! The lines of a head, and their parts.
 ghost use Rattle.std.specs.Prelude.{◌≡◌, ◌≢◌, ℕ, List, ◌∷◌, IfSome, IfNone};
-ghost use Rattle.base_syntax.specs.Lines.{said};
 ghost use Rattle.rtsp_message.specs.declared.headers.Header.{Header};
 ghost use Rattle.rtsp_message.specs.Lines.{IsRequestLine, IsHeaderLine, IsFrontRun, BeginsOutside};
 
@@ -73,14 +72,4 @@ fn after_colon(bytes: &[u8]) -> Option<&[u8]>
     ensures none { IfNone result ((text : List ℕ) → bytes.now ≢ 58 ∷ text) }
 {
     bytes.strip_prefix(b":")
-}
-
-/// The line without one CR at its end.
-pub fn without_cr(line: &[u8]) -> &[u8]
-    ensures { result.now ≡ said line.now }
-{
-    match line.strip_suffix(b"\r") {
-        Some(front) => front,
-        None => line,
-    }
 }

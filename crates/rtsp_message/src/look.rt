@@ -10,8 +10,9 @@ use crate::MAX_HEAD;
 use crate::fault::Fault;
 use crate::judging::{Judged, judge_line};
 use crate::known::{Known, Look};
-use crate::lines::{read_request_line, without_cr};
+use crate::lines::read_request_line;
 use crate::store::Store;
+use base_syntax::without_cr;
 use interleaved::{FRAME_HEAD, frame_len};
 
 /// Tells what stands at this place of the stream.

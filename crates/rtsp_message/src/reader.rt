@@ -121,6 +121,7 @@ impl Reader {
         ensures room { self.new.room ≤ 2 * waiting_len self.new.reading }
         ensures looks_before { self.old.looked ≤ 6 * self.old.fed }
         ensures looks { self.new.looked ≤ 6 * self.new.fed }
+        ensures looks_stay { self.old.looked ≤ self.new.looked }
         ensures fed { OnOk result (self.new.fed ≡ counted self.old.fed (length piece.now)) }
         ensures err { OnErr result (self.new ≡ self.old) }
     {

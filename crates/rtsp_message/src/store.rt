@@ -114,6 +114,8 @@ impl Store {
         ensures bytes { OnOk result (self.new.bytes ≡ self.old.bytes ++ piece.now) }
         ensures looked { self.new.looked ≡ self.old.looked }
         ensures room { OnOk result (self.new.room ≤ max self.old.room (2 * length self.new.bytes)) }
+        ensures moves { IfOk result (λ before. IfSome before (λ buffer. self.old.room < length self.old.bytes + length piece.now)) }
+        ensures doubles { IfOk result (λ before. IfSome before (λ buffer. 2 * length self.old.bytes ≤ self.new.room)) }
         ensures same { IfOk result (λ before. IfNone before (self.new.room ≡ self.old.room)) }
         ensures before { IfOk result (λ before. IfSome before (λ buffer. (buffer.items ≡ self.old.bytes) × (vec_capacity buffer ≡ self.old.room))) }
         ensures err { OnErr result (self.new ≡ self.old) }
