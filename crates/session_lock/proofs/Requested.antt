@@ -31,7 +31,7 @@ use Rattle.session_lock.specs.Requests.{CanBegin, passes_after, pass_after}
 use Rattle.session_lock.specs.Spares.{AreSpare, IsSpareOf, handed_out, left_by, of_owner, out_count, pass_at, unended, without}
 use Rattle.session_lock.proofs.Played.{out_counted, plays_on}
 use Rattle.session_lock.proofs.Spared.{begun_so, ended_so, moved_so, unnumbered}
-use Rattle.session_lock.proofs.Standing.{base_after, flip, next_is, none_ended, same_filter}
+use Rattle.session_lock.proofs.Standing.{base_after, flip, next_is, none_ended, same_filter, some_after}
 
 not_true : (b : Bool) → (b ≡ true → ⊥) → b ≡ false
 not_true true never = absurd (never refl)
@@ -232,8 +232,8 @@ module _ {P : Type 0} (seats : ℕ) (tables after : Tables) (written later : Wri
       → IsReplyOf tables.mounts.seats written.history conn request given reply act × Stands (Request conn request given reply act ∷ written.history) after
       → Adds next (Request conn request given reply act) written later
       → left.mounts ≡ passes_after conn (how_many (accepts is_announce) written.history + 1) (method_accepted request reply) act offer held.mounts
-      → open_count written.history + out_count left.mounts ≤ later.room → IsKept seats after later left
-  requested due next conn request given reply act offer of offered replied adds settled enough =
+      → later.kept ≤ later.cut → open_count written.history + out_count left.mounts ≤ later.room → IsKept seats after later left
+  requested due next conn request given reply act offer of offered replied adds settled few enough =
       let is = adds.history in
       let follows = subst (λ n. IsReplyOf n written.history conn request given reply act) kept.seats_are replied.0 in
       record {
@@ -241,6 +241,8 @@ module _ {P : Type 0} (seats : ℕ) (tables after : Tables) (written later : Wri
         stands = subst (λ h. Stands h after) (sym is) replied.1;
         seats_are = same ∙ kept.seats_are;
         base = base_after seats tables after written later held kept same due next (Request conn request given reply act) of adds;
+        some = some_after seats tables after written later held kept same next (Request conn request given reply act) adds;
+        bounded = omega (arith, few);
         spare = subst (λ h. AreSpare seats h left.mounts) (sym is) (subst (AreSpare seats (Request conn request given reply act ∷ written.history)) (sym settled)
             (requested_so conn request given reply act seats written.history follows held.mounts offer (method_accepted request reply) refl kept.legal offered kept.spare));
         room = let open_after = ap open_count is in omega (arith, open_after, enough);

@@ -1,8 +1,8 @@
 -- What each call leaves of a book.
-use Rattle.std.proofs.Common.{◌≡◌, ℕ, suc, ◌+◌, ◌≤◌, ◌<◌, ◌==◌, ◌&&◌, Bool, true, false, not, cond, if◌then◌else◌, List, [], ◌∷◌, length, drop, is_none, is_some, Option, None, Some, refl, ap, sym, ◌∙◌, subst, arith}
+use Rattle.std.proofs.Common.{◌≡◌, ℕ, suc, ◌+◌, ◌≤◌, ◌<◌, ◌==◌, ◌&&◌, Bool, true, false, not, cond, if◌then◌else◌, List, [], ◌∷◌, length, drop, is_none, is_some, nat_le, Option, None, Some, refl, ap, sym, ◌∙◌, subst, arith}
 use Rattle.std.specs.List.{filter}
 use Rattle.std.specs.Option.{option_and_then, option_map, option_map_or, unwrap_or}
-use Rattle.std.proofs.lemmas.Bool.{eq-eqb, eqb-true}
+use Rattle.std.proofs.lemmas.Bool.{eq-eqb, eqb-true, leb-false}
 use Rattle.mounts.proofs.Differing.{unequal}
 use Rattle.mounts.proofs.Firsts.{found_all, found_passes}
 use Rattle.mounts.proofs.Indexed.{some_at}
@@ -10,7 +10,7 @@ use Rattle.session_state.specs.declared.act.Act.{Act}
 use Rattle.session_state.specs.declared.entry.Entry.{Entry}
 use Rattle.session_state.specs.declared.entry.Entry.TheVariants.{Back, Connect, HangUp}
 use Rattle.session_state.specs.declared.session.Session.{Session}
-use Rattle.session_state.specs.History.{History, act_of, is_play_of, last_of}
+use Rattle.session_state.specs.History.{History, act_of, is_play_of, last_of, since_last}
 use Rattle.session_state.specs.Legal.{Comes, IsBack, IsHangUp, IsLegal}
 use Rattle.session_state.specs.Lookups.{IsSessionOf, is_open, open_count}
 use Rattle.session_state.specs.Stands.{Stands, Tables, kept_of, session_kept}
@@ -18,7 +18,7 @@ use Rattle.session_state.specs.Streams.{ends_of, is_out, takes_or_gives_back}
 use Rattle.session_state.proofs.Coming.{none_lives}
 use Rattle.session_state.proofs.Plays.{out_below}
 use Rattle.session_lock.specs.declared.spares.MountPasses.{MountPasses}
-use Rattle.session_lock.specs.Books.{IsKept, IsLedTo}
+use Rattle.session_lock.specs.Books.{IsKept, IsLedTo, left_since, may_cut}
 use Rattle.session_lock.specs.Entries.{Adds, Written}
 use Rattle.session_lock.specs.Held.{Held, IsOutOf}
 use Rattle.session_lock.specs.Spares.{AreSpare, IsSpareOf, out_count, unended, with_pass, without}
@@ -101,15 +101,44 @@ pub kept_so : (due : Bool) (next : Option Tables) (tables : Tables) (kept : ℕ)
 kept_so true next tables kept is = ap (λ n. (if is_some n then 0 else kept) + 1) is
 kept_so false next tables kept is = ap (λ n. (if is_some n then 0 else kept) + 1) is
 
+-- a coming or a request leaves no more entries than may be kept
+pub cut_to : {entry : Entry} (written more later : Written) (next : Option Tables) (tables : Tables) → 1 ≤ written.cut → more ≡ record written { room = more.room }
+    → next ≡ next_is (nat_le written.cut written.kept) tables → Adds next entry more later → later.kept ≤ later.cut
+cut_to written more later next tables some grown is adds = by (nat_le written.cut written.kept) refl is
+  where
+    kept_is : more.kept ≡ written.kept
+    kept_is = ap (λ (w : Written). w.kept) grown
+
+    cut_is : later.cut ≡ written.cut
+    cut_is = adds.cut ∙ ap (λ (w : Written). w.cut) grown
+
+    by : (due : Bool) → nat_le written.cut written.kept ≡ due → next ≡ next_is due tables → later.kept ≤ later.cut
+    by true at is = let one = adds.kept ∙ ap (λ n. (if is_some n then 0 else more.kept) + 1) is in omega (arith, one, cut_is, some)
+    by false at is =
+        let one = adds.kept ∙ ap (λ n. (if is_some n then 0 else more.kept) + 1) is in
+        let below = leb-false written.cut written.kept at in
+        omega (arith, one, kept_is, cut_is, below)
+
+-- what leaves is kept beside
+left_more : (written later : Written) (entry : Entry) → may_cut entry ≡ false → Adds None entry written later → written.kept ≤ written.cut + left_since written.history
+    → later.kept ≤ later.cut + left_since later.history
+left_more written later entry leaves adds few =
+    let kept = adds.kept in
+    let cut = adds.cut in
+    let since = ap left_since adds.history ∙ ap (λ b. length (cond b [] (record { entry = entry; before = written.history } ∷ since_last may_cut written.history))) leaves in
+    omega (arith, kept, cut, since, few)
+
 module _ {P : Type 0} (seats : ℕ) where
   -- a new book
   pub opens : (tables : Tables) (written : Written) (held : Held P) → Stands [] tables → tables.mounts.seats ≡ seats → Stands [] written.base → written.base.mounts.seats ≡ seats
-      → written.history ≡ [] → written.kept ≡ 0 → held.mounts ≡ [] → IsKept seats tables written held
-  opens tables written held stands same base_stands base_same none no_kept empty = record {
+      → written.history ≡ [] → written.kept ≡ 0 → held.mounts ≡ [] → 1 ≤ written.cut → IsKept seats tables written held
+  opens tables written held stands same base_stands base_same none no_kept empty some = record {
     legal = subst (IsLegal seats) (sym none) tt;
     stands = subst (λ h. Stands h tables) (sym none) stands;
     seats_are = same;
     base = subst (λ h. IsLedTo seats h written.base) (sym (ap (λ k. drop k written.history) no_kept ∙ none)) (record { legal = tt; stands = base_stands; seats_are = base_same });
+    some = some;
+    bounded = omega (arith, no_kept);
     spare = subst (λ h. AreSpare seats h held.mounts) (sym none) (subst (AreSpare seats []) (sym empty) (record { each = tt; all = λ number owner live. absurd (none_lives number owner live); once = tt }));
     room = let few = ap open_count none in let out = ap out_count empty in omega (arith, few, out);
   }
@@ -121,6 +150,8 @@ module _ {P : Type 0} (seats : ℕ) where
     stands = subst (λ (w : Written). Stands w.history tables) (sym is) kept.stands;
     seats_are = kept.seats_are;
     base = subst (λ (w : Written). IsLedTo seats (drop w.kept w.history) w.base) (sym is) kept.base;
+    some = subst (λ (w : Written). 1 ≤ w.cut) (sym is) kept.some;
+    bounded = subst (λ (w : Written). w.kept ≤ w.cut + left_since w.history) (sym is) kept.bounded;
     spare = subst (λ (w : Written). AreSpare seats w.history held.mounts) (sym is) kept.spare;
     room = let open_same = ap (λ (w : Written). open_count w.history) is in let enough = kept.room in omega (arith, open_same, enough, grown);
   }
@@ -135,13 +166,18 @@ module _ {P : Type 0} (seats : ℕ) where
     pub base_after : (due : Bool) (next : Option Tables) (entry : Entry) → next ≡ next_is due tables → Adds next entry written later → IsLedTo seats (drop later.kept later.history) later.base
     base_after due next entry is adds = base_on seats tables written later due next entry (record { legal = kept.legal; stands = kept.stands; seats_are = kept.seats_are }) kept.base is adds
 
+    pub some_after : (next : Option Tables) (entry : Entry) → Adds next entry written later → 1 ≤ later.cut
+    some_after next entry adds = subst (λ n. 1 ≤ n) (sym adds.cut) kept.some
+
     pub connected : (due : Bool) (next : Option Tables) (conn : ℕ) → next ≡ next_is due tables → Comes written.history conn × Stands (Connect conn ∷ written.history) after
-        → Adds next (Connect conn) written later → open_count written.history + out_count held.mounts + 1 ≤ later.room → IsKept seats after later held
-    connected due next conn of come adds enough = let is = adds.history in record {
+        → Adds next (Connect conn) written later → later.kept ≤ later.cut → open_count written.history + out_count held.mounts + 1 ≤ later.room → IsKept seats after later held
+    connected due next conn of come adds few enough = let is = adds.history in record {
       legal = subst (IsLegal seats) (sym is) (kept.legal, come.0);
       stands = subst (λ h. Stands h after) (sym is) come.1;
       seats_are = same ∙ kept.seats_are;
       base = base_after due next (Connect conn) of adds;
+      some = some_after next (Connect conn) adds;
+      bounded = omega (arith, few);
       spare = subst (λ h. AreSpare seats h held.mounts) (sym is) (subst (AreSpare seats (Connect conn ∷ written.history)) (none_ended (Connect conn) held.mounts (λ owner. refl))
           (ended_so seats written.history (Connect conn) held.mounts refl (λ mount seat. refl) kept.spare));
       room = let open_after = ap open_count is in omega (arith, open_after, enough);
@@ -155,6 +191,8 @@ module _ {P : Type 0} (seats : ℕ) where
       stands = subst (λ h. Stands h after) (sym is) gone.1;
       seats_are = same ∙ kept.seats_are;
       base = base_after false None (HangUp conn act) refl adds;
+      some = some_after None (HangUp conn act) adds;
+      bounded = left_more written later (HangUp conn act) refl adds kept.bounded;
       spare = subst (λ h. AreSpare seats h left.mounts) (sym is) (subst (AreSpare seats (HangUp conn act ∷ written.history)) (sym (dropped ∙ without_is conn act held.mounts))
           (ended_so seats written.history (HangUp conn act) held.mounts refl (λ mount seat. refl) kept.spare));
       room =
@@ -176,6 +214,8 @@ module _ {P : Type 0} (seats : ℕ) where
       stands = subst (λ h. Stands h after) (sym is) back.1;
       seats_are = same ∙ kept.seats_are;
       base = base_after false None (Back mount seat) refl adds;
+      some = some_after None (Back mount seat) adds;
+      bounded = left_more written later (Back mount seat) refl adds kept.bounded;
       spare = subst (λ h. AreSpare seats h left.mounts) (sym is) (subst (AreSpare seats (Back mount seat ∷ written.history)) (sym put)
           (moved_so seats written.history (Back mount seat) mount seat (Some pass) held.mounts refl (λ owner. refl) (λ of other. out_after written.history mount seat of other) kept.spare));
       room = let open_after = ap open_count is in let enough = kept.room in let room = adds.room in omega (arith, open_after, enough, fewer, room);

@@ -1,7 +1,9 @@
 -- What a book remembers, and how it is kept.
-use Rattle.std.specs.Prelude.{◌≡◌, ◌≢◌, ◌+◌, ◌≤◌, nat_le, if◌then◌else◌, ℕ, List, length, drop, Option, None, Some}
+use Rattle.std.specs.Prelude.{◌≡◌, ◌≢◌, ◌+◌, ◌≤◌, nat_le, if◌then◌else◌, ℕ, Bool, true, false, List, length, drop, Option, None, Some}
+use Rattle.session_state.specs.declared.entry.Entry.{Entry}
+use Rattle.session_state.specs.declared.entry.Entry.TheVariants.{Connect, Request, HangUp, Back}
 use Rattle.session_state.specs.declared.method.Method.TheVariants as methods
-use Rattle.session_state.specs.History.{History}
+use Rattle.session_state.specs.History.{History, since_last}
 use Rattle.session_state.specs.Legal.{IsLegal}
 use Rattle.session_state.specs.Lookups.{open_count}
 use Rattle.session_state.specs.Methods.{method_of}
@@ -24,6 +26,17 @@ pub record Remembered (P : Type 0) : Type 0 where
 abbrev pub kept_after : {P : Type 0} → Remembered P → ℕ
 kept_after book = if nat_le book.cut book.kept then 1 else book.kept + 1
 
+-- a coming or a request, before which the entries are cut off where enough are kept
+abbrev pub may_cut : Entry → Bool
+may_cut (Connect conn) = true
+may_cut (Request conn request given reply act) = true
+may_cut (HangUp conn act) = false
+may_cut (Back mount seat) = false
+
+-- how many have hung up or given a seat back since the last coming or request
+abbrev pub left_since : History → ℕ
+left_since history = length (since_last may_cut history)
+
 -- an offer of passes comes with ANNOUNCE, one for each seat, and with no other method
 abbrev pub IsOffer : {P : Type 0} → (seats : ℕ) → (method : List ℕ) → Option (List P) → Type 0
 IsOffer seats method None = method_of method ≢ Some methods.Announce
@@ -35,13 +48,15 @@ pub record IsLedTo (seats : ℕ) (history : History) (tables : Tables) : Type 0 
   pub stands : Stands history tables
   pub seats_are : tables.mounts.seats ≡ seats
 
--- The history is legal, the tables stand for it, the base is what the entries that are no longer kept have led to, the
--- passes are the spare ones, and there is room for the hang-up of each connection that is open and for the return of each
--- seat that is out.
+-- The history is legal, the tables stand for it, the base is what the entries that are no longer kept have led to, and of
+-- the others are no more kept than may be, but for those that have left since; the passes are the spare ones, and there is
+-- room for the hang-up of each connection that is open and for the return of each seat that is out.
 pub record IsKept {P : Type 0} (seats : ℕ) (tables : Tables) (written : Written) (held : Held P) : Type 0 where
   pub legal : IsLegal seats written.history
   pub stands : Stands written.history tables
   pub seats_are : tables.mounts.seats ≡ seats
   pub base : IsLedTo seats (drop written.kept written.history) written.base
+  pub some : 1 ≤ written.cut
+  pub bounded : written.kept ≤ written.cut + left_since written.history
   pub spare : AreSpare seats written.history held.mounts
   pub room : open_count written.history + out_count held.mounts ≤ written.room

@@ -10,7 +10,7 @@ ghost use Rattle.session_state.specs.Legal.{Comes, IsBack, IsHangUp, IsLegal, Is
 ghost use Rattle.session_state.specs.Methods.{is_announce};
 ghost use Rattle.session_state.specs.Lookups.{IsSessionOf, came, is_open};
 ghost use Rattle.session_lock.specs.Asks.{IsFaultOf};
-ghost use Rattle.session_lock.specs.Books.{IsLedTo, IsOffer, kept_after};
+ghost use Rattle.session_lock.specs.Books.{IsLedTo, IsOffer, kept_after, left_since};
 ghost use Rattle.session_lock.specs.Entries.{method_accepted};
 ghost use Rattle.session_lock.specs.Requests.{back_after, passes_after};
 ghost use Rattle.session_lock.specs.Spares.{AreSpare, handed_out, unended, with_pass};
@@ -82,10 +82,12 @@ impl<P: Drop> Book<P> {
         }
     }
 
-    /// How many entries are kept: the newest of the history.
+    /// How many entries are kept: the newest of the history. They are no more than the book was made for, and those that have
+    /// hung up or given a seat back since the last coming or request.
     pub fn kept(&self) -> usize
         ensures count { result ≡ self.now.kept }
         ensures few { result ≤ length self.now.history }
+        ensures bounded { result ≤ self.now.cut + left_since self.now.history }
         ensures legal { IsLegal self.now.seats self.now.history }
         ensures spare { AreSpare self.now.seats self.now.history self.now.spares }
     {

@@ -1,5 +1,5 @@
--- In a legal history as many connections are open as are counted.
-use Rattle.std.proofs.Common.{◌≡◌, ◌≢◌, ℕ, suc, ◌+◌, ◌==◌, Bool, true, false, not, cond, List, [], ◌∷◌, length, refl, ap, sym, ◌∙◌, subst, arith}
+-- In a legal history as many connections are open as are counted, and no more than may be.
+use Rattle.std.proofs.Common.{◌≡◌, ◌≢◌, ℕ, suc, ◌+◌, ◌≤◌, ◌==◌, Bool, true, false, not, cond, List, [], ◌∷◌, length, refl, ap, sym, ◌∙◌, subst, arith}
 use Rattle.std.specs.List.{AllByRecursion, filter}
 use Rattle.std.proofs.lemmas.Bool.{eq-eqb, eqb-true}
 use Rattle.mounts.specs.Different.{AreDifferent}
@@ -120,3 +120,10 @@ counted seats history legal =
       },
       omega (arith, gone),
     )
+
+pub few_open : (seats : ℕ) (history : History) → IsLegal seats history → open_count history ≤ 1024
+few_open seats [] legal = omega arith
+few_open seats (Connect who ∷ before) legal = let few = legal.1.few in omega (arith, few)
+few_open seats (Request who request given reply act ∷ before) legal = few_open seats before legal.0
+few_open seats (HangUp who act ∷ before) legal = let few = few_open seats before legal.0 in omega (arith, few)
+few_open seats (Back mount seat ∷ before) legal = few_open seats before legal.0

@@ -1,5 +1,5 @@
 //! What the definitions of this crate mean, as theorems that call nothing.
-ghost use Rattle.std.specs.Prelude.{◌≡◌, ◌≢◌, ◌<◌, ℕ, ◌+◌, ◌^◌, List, ◌∷◌, ◌++◌, length, Option, Some, true, false};
+ghost use Rattle.std.specs.Prelude.{◌≡◌, ◌≢◌, ◌<◌, ◌≤◌, ℕ, ◌+◌, ◌^◌, List, ◌∷◌, ◌++◌, length, Option, Some, true, false};
 ghost use Rattle.rtsp_message.specs.declared.request.Request as messages;
 ghost use Rattle.rtsp_message.specs.declared.reply.Reply.{Reply};
 ghost use Rattle.rtsp_message.specs.Reply.{code_of};
@@ -69,8 +69,10 @@ pub fn connections_come_first()
 {}
 
 /// As many connections are open as are counted: in a legal history there are so many, each of which is open, and no other is.
+/// They are at most 1,024.
 pub fn open_connections_are_counted()
-    ensures { (seats : ℕ) (history : History) → IsLegal seats history → (conns : List ℕ) × AreOpen history conns × (length conns ≡ open_count history) }
+    ensures few { (seats : ℕ) (history : History) → IsLegal seats history → open_count history ≤ 1024 }
+    ensures counted { (seats : ℕ) (history : History) → IsLegal seats history → (conns : List ℕ) × AreOpen history conns × (length conns ≡ open_count history) }
 {}
 
 /// In a legal history a connection owns at most one mount that lives, and no two mounts that live have one name.

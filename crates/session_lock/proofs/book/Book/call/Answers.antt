@@ -7,7 +7,7 @@ use Rattle.session_lock.specs.Entries.{Adds, Written}
 use Rattle.session_lock.specs.Requests.{CanBegin}
 use Rattle.session_lock.specs.Spares.{AreSpare, handed_out}
 use Rattle.session_lock.proofs.Requested.{can_begin, entered, pass_comes, pass_so, requested, settled_so}
-use Rattle.session_lock.proofs.Standing.{roomier}
+use Rattle.session_lock.proofs.Standing.{cut_to, roomier}
 use Rattle.session_lock.proofs.book.Book.call.Goals as goal
 
 pub settle-pass-requires-clause-begins : goal.settle-pass-requires-clause-begins
@@ -48,7 +48,8 @@ invariant_of-self-2 g c =
     let out = c.settle-pass.ensures.out in
     let room = adds.room in
     requested c.self.inside.seats tables c.decide_and_copy.new.self roomy c.add.new.self held c.settle-pass.new.self more c.decide_and_copy.ensures.seats (nat_le written.cut written.kept) c.in-Ok-next_base.next c.args.conn c.args.request.now
-    c.args.given.now decided.reply decided.act (option_map (λ passes. passes.items) c.args.offer) c.in-Ok-next_base.ensures offered replied adds settled (omega (arith, promised, there_are, out, room))
+    c.args.given.now decided.reply decided.act (option_map (λ passes. passes.items) c.args.offer) c.in-Ok-next_base.ensures offered replied adds settled
+    (cut_to written roomy c.add.new.self c.in-Ok-next_base.next tables kept.some c.make_room.ensures.same c.in-Ok-next_base.ensures c.add.ensures) (omega (arith, promised, there_are, out, room))
 
 pub returns-clause-reply : goal.returns-clause-reply
 returns-clause-reply g c =

@@ -1,5 +1,5 @@
 use Rattle.std.proofs.Common.{nat_le, arith}
-use Rattle.session_lock.proofs.Standing.{connected, legal_there, roomier}
+use Rattle.session_lock.proofs.Standing.{connected, cut_to, legal_there, roomier}
 use Rattle.session_lock.proofs.book.Book.connect.Goals as goal
 
 pub invariant_of-self-2 : goal.invariant_of-self-2
@@ -18,4 +18,4 @@ invariant_of-self-2 g c =
     let reserved = c.in_ok-reserve.ensures.ok in
     let room = adds.room in
     connected seats tables c.connect.new.self c.reserve.new.self c.add.new.self held more c.connect.ensures.seats (nat_le written.cut written.kept) c.in_ok-next.next c.in_ok-conn.conn c.in_ok-next.ensures come adds
-    (omega (arith, opened, out, reserved, room))
+    (cut_to written c.reserve.new.self c.add.new.self c.in_ok-next.next tables kept.some c.reserve.ensures.kept c.in_ok-next.ensures adds) (omega (arith, opened, out, reserved, room))
