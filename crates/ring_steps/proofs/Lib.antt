@@ -26,6 +26,9 @@ pub mod Refusing
 pub mod Counting
 pub mod EachOnce
 pub mod Potential
+pub mod Nearing
+pub mod RunningOut
+pub mod Others
 pub mod Meeting
 pub mod Stepping
 pub mod Alone

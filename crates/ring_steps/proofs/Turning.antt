@@ -1,29 +1,23 @@
-use Rattle.std.proofs.Common.{◌≡◌, ℕ, zero, suc, ◌+◌, ◌<◌, ◌≤◌, Some, List, [], ◌∷◌, ◌++◌, length, map, take, replicate, refl, sym, ◌∙◌, ap, subst, arith, inl, inr, get_or, slice_get, slice_set}
+use Rattle.std.proofs.Common.{◌≡◌, ℕ, zero, suc, ◌+◌, ◌≤◌, Some, List, [], ◌∷◌, ◌++◌, length, map, replicate, refl, sym, ◌∙◌, ap, subst, arith, inl, inr, slice_get, slice_set}
 use Rattle.std.specs.Prelude.{All}
 use Rattle.std.proofs.lemmas.Bool.Decides.{eqb_tells}
-use Rattle.std.proofs.lemmas.List.{length-map, map-append, take_more, length-set, length-replicate}
+use Rattle.std.proofs.lemmas.List.{length-set, length-replicate}
 use Rattle.std.proofs.lemmas.Option.{same_Some, slice_get_within}
 use Rattle.cursor.proofs.Counting.{read_place}
 use Rattle.cursor.proofs.Attachments.{read_other}
 use Rattle.ring_steps.specs.declared.calls.Actor.{Actor}
 use Rattle.ring_steps.specs.declared.calls.Actor.TheVariants.{P, Seat}
 use Rattle.ring_steps.specs.declared.calls.SeatCall.{SeatCall}
-use Rattle.ring_steps.specs.declared.calls.Stepped.{Stepped}
-use Rattle.ring_steps.specs.declared.config.Config.{Config}
-use Rattle.ring_steps.specs.declared.made.Made.{Made}
 use Rattle.ring_steps.specs.declared.views.Seat as views
 use Rattle.ring_steps.specs.declared.views.SeatPhase.TheVariants as seating
-use Rattle.ring_steps.specs.Agreeing.{Agrees, GoesOn, SeatAgrees}
+use Rattle.ring_steps.specs.Agreeing.{Agrees, SeatAgrees}
 use Rattle.ring_steps.specs.Bounds.{CountsTo, HasRoom}
-use Rattle.ring_steps.specs.Faults.{actors}
 use Rattle.ring_steps.specs.Ring.{new_seat}
 use Rattle.ring_steps.specs.Runs.{At, Calls, Move, MoveBy, PublisherMove, SeatMove, Ran, Turn, answered, outcome_of, start}
-use Rattle.ring_steps.specs.Scripts.{IsGoodConfig}
 use Rattle.ring_steps.specs.Slots.{Invariant}
 use Rattle.ring_steps.specs.Traces.{IsByOneOf, IsOneOf, made_of}
 use Rattle.ring_steps.proofs.Frames.{SeatFrame, publisher_agrees, publisher_frame, seat_frame}
-use Rattle.ring_steps.proofs.Opening.{each_new, empty_keeps, same_seat}
-use Rattle.ring_steps.proofs.Running.{ran_keeps}
+use Rattle.ring_steps.proofs.Opening.{each_new, same_seat}
 use Rattle.ring_steps.proofs.Seats.{each_set}
 
 -- a turn more at the end
@@ -76,13 +70,6 @@ seat_move_agrees calls i old t new move h =
       counts = ap (λ (xs : List ℕ). length xs) move.seats ∙ length-set old.seats i (answered move.count t.answer) ∙ h.counts;
       seats = seats_agree calls i old t new move frame h;
     }
-
--- so far these steps were made, and the next ones come after this state
-pub record IsMaking (config : Config) (calls : Calls) (schedule : List Actor) (at : At) (steps : List Made) : Type 0 where
-  pub turns : List Turn
-  pub ran : Ran calls (start config.keep config.seats) turns at
-  pub by : actors turns ≡ schedule
-  pub made : steps ≡ map made_of turns
 
 move_agrees : (actor : Actor) (calls : Calls) (old : At) (t : Turn) (new : At) → MoveBy actor calls old t new → Agrees calls old → Agrees calls new
 move_agrees P calls old t new move h = publisher_move_agrees calls old t new move h
@@ -156,45 +143,6 @@ pub record IsReady (calls : Calls) (at : At) : Type 0 where
   pub invariant : Invariant at.ring
   pub room : HasRoom at.ring
   pub agrees : Agrees calls at
-
-pub making_ready : (config : Config) (calls : Calls) (schedule : List Actor) (at : At) (steps : List Made) → IsGoodConfig config calls → IsMaking config calls schedule at steps
-    → length schedule ≤ 1152921504606846976 → IsReady calls at
-making_ready config calls schedule at steps good h bound =
-    let low = good.low in
-    let high = good.high in
-    let seats = good.seats in
-    let fits = good.fits in
-    let agrees = ran_agrees calls (start config.keep config.seats) h.turns at h.ran (start_agrees calls config.keep config.seats fits) in
-    let views = agrees.views in
-    let keep = ran_keep calls (start config.keep config.seats) h.turns at h.ran in
-    let counts = ran_counts calls (start config.keep config.seats) h.turns at 0 h.ran (start_counts config.keep config.seats) in
-    let many : length h.turns ≡ length schedule = sym (length-map h.turns (λ (t : Turn). t.actor)) ∙ ap (λ (xs : List Actor). length xs) h.by in
-    let log = counts.log in
-    let failed = counts.failed in
-    record {
-      invariant = ran_keeps calls (start config.keep config.seats) h.turns at h.ran (empty_keeps config.keep config.seats low);
-      room = record {
-        size = record { keep = omega arith; seats = omega arith };
-        counts = record { log = omega arith; failed = omega arith; loads = λ i x there. (let loads = counts.loads i x there in omega arith) };
-      };
-      agrees = agrees;
-    }
-
--- one more step was made
-pub making_more : (config : Config) (calls : Calls) (schedule : List Actor) (i : ℕ) (actor : Actor) (old new : At) (steps : List Made) (stepped : Stepped)
-    → i < length schedule → get_or schedule i P ≡ actor → IsMaking config calls (take i schedule) old steps → GoesOn calls old actor new stepped
-    → IsMaking config calls (take (i + 1) schedule) new (steps ++ record { actor = actor; saw = stepped.saw; answer = stepped.answer } ∷ [])
-making_more config calls schedule i actor old new steps stepped below read h goes =
-    let t = goes.turn in
-    let one : made_of t ≡ record { actor = actor; saw = stepped.saw; answer = stepped.answer } = let a = goes.by in let b = goes.saw in let c = goes.answer in rw (a, b, c) refl in
-    record {
-      turns = h.turns ++ t ∷ [];
-      ran = ran_more calls (start config.keep config.seats) h.turns old t new h.ran goes.move;
-      by = map-append (λ (u : Turn). u.actor) h.turns (t ∷ []) ∙ ap (λ (xs : List Actor). xs ++ t.actor ∷ []) h.by ∙ ap (λ (a : Actor). take i schedule ++ a ∷ []) (goes.by ∙ sym read)
-          ∙ sym (take_more schedule i P below);
-      made = ap (λ (xs : List Made). xs ++ record { actor = actor; saw = stepped.saw; answer = stepped.answer } ∷ []) h.made
-          ∙ ap (λ (m : Made). map made_of h.turns ++ m ∷ []) (sym one) ∙ sym (map-append made_of h.turns (t ∷ []));
-    }
 
 by_one : (actor : Actor) (calls : Calls) (old : At) (t : Turn) (new : At) → MoveBy actor calls old t new → IsOneOf (length calls.seats) actor
 by_one P calls old t new move = tt

@@ -15,4 +15,6 @@ pub mod Traces
 pub mod Acting
 pub mod Atomic
 pub mod Within
+pub mod Making
+pub mod RunningOut
 pub mod Texts

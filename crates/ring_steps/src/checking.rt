@@ -1,14 +1,32 @@
 //! Whether a script's calls can be made in their order.
-ghost use Rattle.std.specs.Prelude.{◌≡◌, ◌<◌, ◌≤◌, ◌↔◌, ℕ, length, IsTrue, MatchOption};
+ghost use Rattle.std.specs.Prelude.{◌≡◌, ◌<◌, ◌≤◌, ◌↔◌, ℕ, List, length, IsTrue, MatchOption, IfErr, OnOk};
+ghost use Rattle.ring_steps.specs.declared.calls.Actor.{Actor};
 ghost use Rattle.ring_steps.specs.Checking.{IsFirstOutOfTurn, NoneOutOfTurn};
+ghost use Rattle.ring_steps.specs.Faults.{IsRefusal};
 ghost use Rattle.ring_steps.specs.Scripts.{IsAfterClose, IsFirstBad, IsGoodConfig, IsGoodScript, IsMisplaced, IsOutOfTurn, attached_by, calls_of, is_close};
 
 use super::calls::{Actor, PublisherCall, SeatCall};
 use super::config::Config;
+use super::fault::StepFault;
 use super::script::{Script, SeatCalls};
 
+/// Refuses a config that no ring has, or else the first call of the script that can't be made.
+pub(crate) fn check_input(config: &Config, script: &Script) -> Result<(), StepFault>
+    ensures config { OnOk result (IsGoodConfig config.now (calls_of script.now)) }
+    ensures script { OnOk result (IsGoodScript (calls_of script.now)) }
+    ensures refused { (schedule : List Actor) → IfErr result (IsRefusal config.now (calls_of script.now) schedule) }
+{
+    if !is_good_config(config, script) {
+        return Err(StepFault::BadConfig);
+    }
+    match first_bad_call(script) {
+        Some((actor, call)) => Err(StepFault::BadScript { actor, call }),
+        None => Ok(()),
+    }
+}
+
 /// Whether a ring of this size may be made, and has as many seats as the script.
-pub(crate) fn is_good_config(config: &Config, script: &Script) -> bool
+fn is_good_config(config: &Config, script: &Script) -> bool
     ensures { IsTrue result ↔ IsGoodConfig config.now (calls_of script.now) }
 {
     1 <= config.keep
@@ -18,7 +36,7 @@ pub(crate) fn is_good_config(config: &Config, script: &Script) -> bool
 }
 
 /// The first call that can't be made, of the first actor that has one.
-pub(crate) fn first_bad_call(script: &Script) -> Option<(Actor, usize)>
+fn first_bad_call(script: &Script) -> Option<(Actor, usize)>
     requires { length (calls_of script.now).seats ≤ 1024 }
     ensures { MatchOption result
         (IsGoodScript (calls_of script.now))

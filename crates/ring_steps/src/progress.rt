@@ -53,6 +53,7 @@ impl Progress {
         requires good { IsGoodScript (calls_of script.now) }
         ensures goes_on { IfOk result (λ r. IfSome r (GoesOn (calls_of script.now) self.old actor self.new)) }
         ensures none { IfOk result (λ r. IfNone r (¬ HasCall (calls_of script.now) self.old actor)) }
+        ensures stays { IfOk result (λ r. IfNone r (self.new ≡ self.old)) }
     {
         match actor {
             Actor::P => self.publisher_step(script),
@@ -68,6 +69,7 @@ impl Progress {
         requires good { IsGoodScript (calls_of script.now) }
         ensures goes_on { IfOk result (λ r. IfSome r (GoesOn (calls_of script.now) self.old P self.new)) }
         ensures none { IfOk result (λ r. IfNone r (¬ HasCall (calls_of script.now) self.old P)) }
+        ensures stays { IfOk result (λ r. IfNone r (self.new ≡ self.old)) }
     {
         let calls = script.publisher.as_slice();
         let next = self.publisher;
@@ -87,6 +89,7 @@ impl Progress {
         requires good { IsGoodScript (calls_of script.now) }
         ensures goes_on { IfOk result (λ r. IfSome r (GoesOn (calls_of script.now) self.old (Seat seat) self.new)) }
         ensures none { IfOk result (λ r. IfNone r (¬ HasCall (calls_of script.now) self.old (Seat seat))) }
+        ensures stays { IfOk result (λ r. IfNone r (self.new ≡ self.old)) }
     {
         let seats = script.seats.as_slice();
         let place = usize::from(seat);

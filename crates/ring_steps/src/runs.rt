@@ -6,15 +6,14 @@ ghost use Rattle.ring_steps.specs.Answers.{packet_of};
 ghost use Rattle.ring_steps.specs.Faults.{IsRefusal};
 ghost use Rattle.ring_steps.specs.Scripts.{IsGoodConfig, IsGoodScript, calls_of};
 ghost use Rattle.ring_steps.specs.Slots.{Invariant};
-ghost use Rattle.ring_steps.specs.Traces.{ActsOnce, EachState, EachTurn, IsLegal, IsTrace, Makes, MeetsPins, StepsAreFew, TellsAccounts};
+ghost use Rattle.ring_steps.specs.Traces.{ActsOnce, EachState, EachTurn, IsLegal, IsTrace, MeetsPins, StepsAreFew, TellsAccounts};
 ghost use Rattle.ring_steps.specs.Within.{ActsWithin};
 
 use super::calls::Actor;
-use super::checking::{first_bad_call, is_good_config};
+use super::checking::check_input;
 use super::config::Config;
 use super::fault::StepFault;
-use super::made::Made;
-use super::progress::Progress;
+use super::making::Making;
 use super::script::Script;
 use super::trace::Trace;
 use super::tracing::trace_of;
@@ -67,42 +66,7 @@ pub fn run(
         (told : IsTrace config.now (calls_of script.now) schedule.now trace)
         → EachTurn config.now (calls_of script.now) told.turns MeetsPins) }
 {
-    if !is_good_config(config, script) {
-        return Err(StepFault::BadConfig);
-    }
-    if let Some((actor, call)) = first_bad_call(script) {
-        return Err(StepFault::BadScript { actor, call });
-    }
-    let made = make_steps(alloc, config, script, schedule)?;
-    Ok(trace_of(alloc, made, config.seats as usize)?)
-}
-
-/// Makes the steps of a schedule.
-fn make_steps(
-    alloc: Global,
-    config: &Config,
-    script: &Script,
-    schedule: &[Actor],
-) -> Result<Vec<Made>, StepFault>
-    requires config { IsGoodConfig config.now (calls_of script.now) }
-    requires script { IsGoodScript (calls_of script.now) }
-    ensures made { IfOk result (λ made. Makes config.now (calls_of script.now) schedule.now made.items) }
-    ensures refused { IfErr result (IsRefusal config.now (calls_of script.now) schedule.now) }
-{
-    let mut made = Vec::with_capacity(alloc, schedule.len())?;
-    let mut progress = Progress::new(alloc, config.keep, config.seats as u16)?;
-    for (i, actor) in schedule.iter().enumerate() {
-        let actor = *actor;
-        match progress.step(script, actor)? {
-            Some(stepped) => made
-                .push(Made {
-                    actor,
-                    saw: stepped.saw,
-                    answer: stepped.answer,
-                })
-                .unwrap(),
-            None => return Err(StepFault::BadSchedule(i)),
-        }
-    }
-    Ok(made)
+    check_input(config, script)?;
+    let making = Making::along(alloc, config, script, schedule)?;
+    Ok(trace_of(alloc, making.made, config.seats as usize)?)
 }

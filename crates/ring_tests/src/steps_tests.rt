@@ -4,6 +4,7 @@ use scripts::{event_told, publish, schedule, script};
 
 mod orders;
 mod scripts;
+mod stopped;
 
 /// The largest ring filled and wrapped by five packets: so many are lost, and the oldest that is kept is
 /// taken.
