@@ -1,3 +1,4 @@
+-- In a run of a plain log an attached seat's account is that of what its takes were answered, and a detachment tells it.
 use Rattle.std.proofs.Common.{◌≡◌, ◌≢◌, ℕ, ◌+◌, Option, Some, None, List, [], ◌∷◌, ◌++◌, zero, suc, length, map, refl, ◌∙◌, ap, subst, inl, inr, arith, slice_get, slice_set}
 use Rattle.std.specs.Prelude.{option_map}
 use Rattle.std.proofs.lemmas.Bool.Decides.{eqb_tells}

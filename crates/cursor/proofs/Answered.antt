@@ -1,3 +1,4 @@
+-- Takes one after another: what they were answered and what was received, after one more that goes on or after one that stops.
 use Rattle.std.proofs.Common.{◌≡◌, ℕ, ◌+◌, ◌<◌, ◌≤◌, List, [], ◌∷◌, ◌++◌, length, refl, sym, ◌∙◌, ap, subst, arith, append_assoc, length-append, append-nil, inr}
 use Rattle.cursor.specs.declared.packets.Packet.{Packet}
 use Rattle.cursor.specs.declared.takes.Delivery.{Delivery}

@@ -1,3 +1,4 @@
+-- Answers counted into an account, one after another: so the account of a tap after a run of takes has all their answers counted.
 use Rattle.std.proofs.Common.{◌≡◌, ℕ, ◌+◌, List, [], ◌∷◌, ◌++◌, length, refl, ◌∙◌, ap, arith, length-append}
 use Rattle.cursor.specs.declared.packets.Packet.{Packet}
 use Rattle.cursor.specs.declared.takes.Account.{Account}

@@ -1,3 +1,4 @@
+-- What a seat received is the log from its start to its cursor, without the numbers that lie in its losses.
 use Rattle.std.proofs.Common.{◌≡◌, ℕ, ◌+◌, ◌-◌, ◌<◌, ◌≤◌, true, false, Some, List, [], ◌∷◌, zero, suc, length, drop, refl, sym, ◌∙◌, ap, arith, slice_get, slice_range, inl, inr}
 use Rattle.std.specs.List.{list_any}
 use Rattle.std.proofs.lemmas.List.{drop_more}

@@ -1,3 +1,4 @@
+-- Where a list of answers may come from a cursor on, the cursor is below 2^64.
 use Rattle.std.proofs.Common.{ℕ, ◌+◌, ◌<◌, ◌^◌, List, [], ◌∷◌, arith}
 use Rattle.cursor.specs.declared.takes.Delivery.{Delivery}
 use Rattle.cursor.specs.declared.takes.Delivery.TheVariants.{Got, Lost, Empty, Ended}

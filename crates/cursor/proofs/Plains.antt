@@ -1,3 +1,4 @@
+-- An attachment, a detachment and a take of a plain log are events of it; what a look at one of its accounts or packets tells.
 use Rattle.std.proofs.Common.{◌≡◌, ℕ, ◌+◌, ◌-◌, ◌<◌, ◌≤◌, true, false, Option, Some, None, List, length, refl, sym, ◌∙◌, ap, arith, slice_get, slice_set, slice_index_or, is_some, IsTrue, inl, inr, ◌⊎◌}
 use Rattle.std.specs.Prelude.{option_map}
 use Rattle.std.proofs.lemmas.Bool.{false≢true}

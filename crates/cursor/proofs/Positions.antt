@@ -1,3 +1,4 @@
+-- The numbers that a seat took rise, and each number from its start to its cursor was taken or lies in one loss, once.
 use Rattle.std.proofs.Common.{◌≡◌, ℕ, ◌+◌, ◌<◌, ◌≤◌, ◌==◌, Bool, true, false, cond, List, [], ◌∷◌, zero, suc, length, count_by, refl, ◌∙◌, ap, arith, slice_index, inl, inr}
 use Rattle.std.specs.List.Sorted.{IsStrictlyIncreasing}
 use Rattle.std.proofs.lemmas.Bool.{cases_lt, cases_eq}

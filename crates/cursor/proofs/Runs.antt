@@ -1,3 +1,4 @@
+-- The answered calls of a plain log are a run of it, and such a run is one of the broadcast log that it is.
 use Rattle.std.proofs.Common.{◌≡◌, ℕ, ◌+◌, ◌<◌, Option, Some, None, List, [], ◌∷◌, ◌++◌, length, take, replicate, map, zero, suc, refl, ap, subst, slice_index_or}
 use Rattle.std.specs.Prelude.{option_map}
 use Rattle.std.proofs.lemmas.List.{take_more}

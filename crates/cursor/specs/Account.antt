@@ -1,3 +1,5 @@
+-- What a seat's takes were answered: the packets and the losses among these answers, the account that counts them, and a seat's
+-- attachment in a legal history.
 use Rattle.std.specs.Prelude.{◌≢◌, ℕ, ◌+◌, ◌==◌, ◌&&◌, nat_lt, nat_le, Bool, List, [], ◌∷◌, ◌++◌, length, if◌then◌else◌}
 use Rattle.std.specs.List.{list_any}
 use Rattle.cursor.specs.declared.packets.Packet.{Packet}

@@ -1,3 +1,4 @@
+-- How a publish changes the log that a feed tells.
 use Rattle.std.specs.Prelude.{◌≡◌, ℕ, Option, Some, None, List, [], ◌∷◌, ◌++◌, length}
 use Rattle.cursor.specs.declared.packets.Packet.{Packet}
 

@@ -1,3 +1,4 @@
+-- A tap over a list of answers: which lists it may have, and what a take of it gives.
 use Rattle.std.specs.Prelude.{◌≡◌, ℕ, ◌+◌, ◌^◌, ◌<◌, ◌≤◌, List, [], ◌∷◌, length}
 use Rattle.cursor.specs.declared.takes.Account.{Account}
 use Rattle.cursor.specs.declared.takes.Delivery.{Delivery}

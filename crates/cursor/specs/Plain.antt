@@ -1,3 +1,5 @@
+-- A plain log, which keeps an account for each attached seat: its state, its events, which calls may be made, and the replies to
+-- a list of calls.
 use Rattle.std.specs.Prelude.{◌≡◌, ℕ, ◌≤◌, Bool, false, Option, Some, None, Result, Ok, Err, List, [], ◌∷◌, length, map, option_map, slice_get, slice_set, slice_index_or, replicate, unwrap_or}
 use Rattle.cursor.specs.declared.packets.Packet.{Packet}
 use Rattle.cursor.specs.declared.takes.Account.{Account}

@@ -1,3 +1,4 @@
+-- What the seats of a history are given: in each attachment the log from its start less the losses, and nothing while detached.
 use Rattle.std.specs.Prelude.{◌≡◌, ◌≢◌, ℕ, ◌+◌, ◌==◌, ◌<◌, ◌≤◌, List, [], ◌∷◌, ◌++◌, length, count_by, slice_range}
 use Rattle.cursor.specs.declared.packets.Packet.{Packet}
 use Rattle.cursor.specs.declared.calls.Answer.{Answer}

@@ -1,3 +1,4 @@
+-- The number and the words of each refusal of a publish.
 use Rattle.std.specs.Prelude.{ℕ, List, ◌++◌, codes}
 use Rattle.std.specs.Fmt.{decimal}
 use Rattle.cursor.specs.declared.refusals.Refused.{Refused}

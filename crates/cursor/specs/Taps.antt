@@ -1,3 +1,4 @@
+-- What a take of a tap gives, how an account goes on by it, and which answers takes give until there is no more to take now.
 use Rattle.std.specs.Prelude.{◌≡◌, ℕ, ◌≤◌, ◌⊎◌, List, [], ◌∷◌, ◌++◌, length, take}
 use Rattle.cursor.specs.declared.takes.Account.{Account}
 use Rattle.cursor.specs.declared.takes.Taken.{Taken}

@@ -1,3 +1,5 @@
+-- An answered step is an event of the broadcast log: the publisher's of the log that the ring is, a seat's of the log that its
+-- last load saw; a step without an answer leaves the log as it is.
 use Rattle.std.proofs.Common.{◌≡◌, ℕ, zero, suc, ◌+◌, ◌-◌, ◌<◌, ◌≤◌, true, false, Bool, Some, None, Option, List, [], ◌∷◌, ◌++◌, length, map, take, slice_get, slice_set, refl, sym, ◌∙◌, ap, arith, inl, inr, nat_lt}
 use Rattle.std.specs.Prelude.{if◌then◌else◌, option_map}
 use Rattle.std.proofs.lemmas.Bool.Decides.{eqb_tells}

@@ -1,3 +1,4 @@
+-- Each step changes the view of its own actor, at most one slot, and the head only by a store of it.
 use Rattle.std.proofs.Common.{◌≡◌, ◌≢◌, ℕ, ◌==◌, Some, length, refl, sym, ◌∙◌, ap, slice_get, nat_lt, get_or-set_other}
 use Rattle.std.proofs.lemmas.Option.{get_or_from_slice_get}
 use Rattle.cursor.proofs.Attachments.{read_other}

@@ -1,3 +1,4 @@
+-- A begin keeps the invariant, and a refused one saw the pins in its slot; what a write of the next packet's slot leaves.
 use Rattle.std.proofs.Common.{◌≡◌, ◌≢◌, ℕ, ◌+◌, ◌-◌, ◌<◌, ◌≤◌, ◌⊎◌, Bool, true, false, Some, List, length, refl, sym, ◌∙◌, ap, subst, inl, inr, arith, slice_get, length-set, nat_lt}
 use Rattle.std.proofs.lemmas.Bool.{and_parts, cases_lt, eqb-true, eq-eqb}
 use Rattle.ring_steps.specs.declared.words.Slot.{Slot}

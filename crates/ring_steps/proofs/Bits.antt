@@ -1,3 +1,5 @@
+-- Equal bits are equal words and heads, and tell their parts; by which number a pin, an unpin, a begin and a finish change the
+-- bits of a word; and that all words fit in 64 bits.
 use Rattle.std.proofs.Common.{◌≡◌, ℕ, zero, suc, ◌+◌, ◌-◌, ◌*◌, ◌/◌, ◌%◌, ◌<◌, ◌≤◌, Bool, true, false, List, [], ◌∷◌, length, refl, sym, ◌∙◌, ap, inl, inr, arith, slice_get}
 use Rattle.std.specs.Prelude.{◌↔◌, not}
 use Rattle.std.proofs.lemmas.Bool.{and_parts, eqb-true, eq-eqb}

@@ -1,3 +1,4 @@
+-- In a ring that has room the numbers of a seat and of the publisher fit, and a seat that is to unpin has a pin in its slot.
 use Rattle.std.proofs.Common.{◌≡◌, ℕ, ◌+◌, ◌<◌, ◌≤◌, Some, List, [], ◌∷◌, length, slice_get, refl, arith, inl, inr, ◌%◌}
 use Rattle.std.proofs.lemmas.Option.{slice_get-get_or}
 use Rattle.ring_steps.specs.declared.views.Seat.{Seat}

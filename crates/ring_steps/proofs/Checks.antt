@@ -1,3 +1,5 @@
+-- A script's first bad call is the publisher's first after a close, else the first out of turn of the first seat that has one;
+-- with neither the script is good.
 use Rattle.std.proofs.Common.{◌≡◌, ℕ, ◌+◌, ◌<◌, true, false, inl, inr, Some, List, [], ◌∷◌, length, take, get_or, sym, ◌∙◌, ap, subst, arith, slice_get, ◌||◌}
 use Rattle.std.proofs.Math.Bool.{or-false, or-true}
 use Rattle.std.proofs.lemmas.Bool.Decides.{eqb_tells}

@@ -1,3 +1,4 @@
+-- Two runs of one script from one state by the same actors have the same turns and the same end.
 use Rattle.std.proofs.Common.{◌≡◌, ℕ, Option, Some, List, [], ◌∷◌, refl, sym, ◌∙◌, ap, subst, slice_get, slice_set}
 use Rattle.std.proofs.lemmas.Option.{same_Some}
 use Rattle.cursor.specs.declared.calls.Answer.{Answer}

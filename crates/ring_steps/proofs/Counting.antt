@@ -1,3 +1,4 @@
+-- A run counts the answered calls of each actor, and they are the first of its script.
 use Rattle.std.proofs.Common.{◌≡◌, ℕ, zero, suc, ◌+◌, ◌==◌, true, false, Option, Some, None, List, [], ◌∷◌, ◌++◌, length, map, take, replicate, refl, sym, ◌∙◌, ap, subst, arith, inl, inr, append-nil, append_assoc, get_or, get_or-set_other, slice_get}
 use Rattle.std.specs.Prelude.{option_map, slice_index_or}
 use Rattle.std.proofs.lemmas.Bool.{eqb-true}

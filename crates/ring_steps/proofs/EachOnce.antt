@@ -1,3 +1,4 @@
+-- In a run each answered call has one event, and no other has one; only a take that comes to a packet has it before its answer.
 use Rattle.std.proofs.Common.{◌≡◌, ◌≢◌, ℕ, ◌+◌, ◌-◌, ◌==◌, true, false, Option, Some, None, List, [], ◌∷◌, ◌++◌, length, refl, sym, ◌∙◌, ap, subst, inl, inr, append-nil, append_assoc, get_or, get_or-set_other, slice_get, slice_set, nat_lt, is_some, ◌||◌}
 use Rattle.std.specs.Prelude.{if◌then◌else◌, option_and_then}
 use Rattle.std.proofs.lemmas.Bool.Decides.{eqb_tells}

@@ -1,3 +1,4 @@
+-- What a step of the publisher or of a seat leaves, by how much it raises a count, and that its actor stays in its next call.
 use Rattle.std.proofs.Common.{◌≡◌, ℕ, ◌+◌, ◌==◌, ◌≤◌, ◌⊎◌, inl, inr, true, Some, List, [], ◌∷◌, length, take, refl, sym, ◌∙◌, ap, arith, slice_get, slice_set, nat_lt}
 use Rattle.std.proofs.lemmas.List.{length-append}
 use Rattle.ring_steps.specs.declared.calls.PublisherCall.{PublisherCall}

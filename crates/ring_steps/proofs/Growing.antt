@@ -1,3 +1,4 @@
+-- Over a step of a seat or of the publisher nothing falls: the head's length, the closed bit, the slots' numbers and the log.
 use Rattle.std.proofs.Common.{◌≡◌, ℕ, ◌+◌, ◌-◌, ◌==◌, true, false, [], ◌∷◌, length, append-nil, refl, sym, ap, arith, inl, inr, nat_lt}
 use Rattle.ring_steps.specs.declared.words.Slot.{Slot}
 use Rattle.ring_steps.specs.declared.calls.PublisherCall.{PublisherCall}

@@ -1,3 +1,5 @@
+-- The calls that act in a run are a run of the plain log, in the order of their acting steps: so they are a legal history, in
+-- which each player receives the log and each detachment tells its account.
 use Rattle.std.proofs.Common.{◌≡◌, ◌≢◌, ℕ, zero, suc, ◌+◌, ◌-◌, ◌<◌, ◌≤◌, true, false, Bool, Option, Some, None, List, [], ◌∷◌, ◌++◌, length, map, replicate, refl, sym, ◌∙◌, ap, subst, arith, inl, inr, slice_get, slice_set, nat_lt, is_some, ◌||◌}
 use Rattle.std.specs.Prelude.{if◌then◌else◌, option_map}
 use Rattle.std.proofs.lemmas.Bool.Decides.{eqb_tells}

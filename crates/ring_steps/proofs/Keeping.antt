@@ -1,3 +1,4 @@
+-- Each step of a seat and of the publisher keeps the invariant, by the lemmas on each kind of step.
 use Rattle.std.proofs.Common.{◌≡◌, ℕ, Some, slice_get, refl, Result, Ok, Err}
 use Rattle.std.specs.Prelude.{IfOk, OnErr}
 use Rattle.ring_steps.specs.declared.calls.PublisherCall.{PublisherCall}

@@ -1,3 +1,4 @@
+-- The loads of the head keep the invariant: those of an attachment, of a detachment, and the first and the second of a take.
 use Rattle.std.proofs.Common.{◌≡◌, ◌≢◌, ℕ, ◌+◌, ◌-◌, ◌≤◌, true, Some, length, refl, sym, ◌∙◌, inl, inr, arith, slice_get}
 use Rattle.std.proofs.lemmas.Bool.Decides.{eqb_tells}
 use Rattle.ring_steps.specs.declared.views.Seat.{Seat}

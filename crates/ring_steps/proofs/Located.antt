@@ -1,3 +1,4 @@
+-- A call that acts does so at a turn of its own actor within that call, and is answered there or, with a packet, later.
 use Rattle.std.proofs.Common.{◌≡◌, ℕ, zero, suc, ◌+◌, true, false, Option, Some, None, List, [], ◌∷◌, ◌++◌, length, take, refl, sym, ◌∙◌, ap, subst, arith, inl, inr, append-nil, append_assoc, slice_get, is_some, ◌||◌, ◌⊎◌}
 use Rattle.std.specs.Prelude.{◌&&◌, Bool}
 use Rattle.std.proofs.Math.Seq.{take-append_seam}

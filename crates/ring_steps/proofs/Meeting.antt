@@ -1,3 +1,4 @@
+-- Each turn of a run that refuses a publish saw the pins of the seats in the slot where the next packet goes.
 use Rattle.std.proofs.Common.{◌≡◌, ℕ, zero, suc, ◌≤◌, Some, List, [], ◌∷◌, ◌++◌, take, refl, ap, subst, slice_get}
 use Rattle.ring_steps.specs.Runs.{At, Calls, Move, Ran, Turn, start}
 use Rattle.ring_steps.specs.Traces.{MeetsPins}

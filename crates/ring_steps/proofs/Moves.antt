@@ -1,3 +1,5 @@
+-- Reads in place change nothing and see the packet; the writes of a packet, or its reads, come to one move, which keeps the
+-- invariant; the slot invariant doesn't go by how far takes have read.
 use Rattle.std.proofs.Common.{◌≡◌, ℕ, zero, suc, ◌+◌, ◌%◌, ◌≤◌, true, Some, List, [], ◌∷◌, ◌++◌, length, map, take, drop, append-nil, append_assoc, replicate, refl, sym, ◌∙◌, ap, subst, inl, inr, arith, slice_get, slice_set, slice_index_or, nat_lt}
 use Rattle.std.specs.Prelude.{◌↔◌}
 use Rattle.std.proofs.Math.Seq.{get_or-append_seam}

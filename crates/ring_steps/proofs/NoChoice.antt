@@ -1,3 +1,4 @@
+-- A step of a seat, or of the publisher, in a given call from a given state leads to one outcome.
 use Rattle.std.proofs.Common.{◌≡◌, ℕ, sym, ◌∙◌, subst}
 use Rattle.std.proofs.lemmas.Option.{same_Some}
 use Rattle.ring_steps.specs.declared.calls.PublisherCall.{PublisherCall}

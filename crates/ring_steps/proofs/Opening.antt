@@ -1,3 +1,4 @@
+-- A ring that nobody used yet has the invariant, and so has a ring with one seat more.
 use Rattle.std.proofs.Common.{◌≡◌, ℕ, zero, suc, ◌+◌, ◌-◌, ◌%◌, ◌<◌, ◌≤◌, true, false, Some, List, [], ◌∷◌, ◌++◌, length, refl, sym, ◌∙◌, ap, subst, arith, slice_get, slice_index_or, Result, Ok, Err}
 use Rattle.std.specs.Prelude.{replicate, IfOk}
 use Rattle.ring_steps.specs.declared.words.Slot.{Slot}

@@ -1,3 +1,4 @@
+-- A pin and both kinds of unpin keep the invariant: pins are still counted; where a pin fails the log stopped keeping its packet.
 use Rattle.std.proofs.Common.{◌≡◌, ◌≢◌, ℕ, ◌+◌, ◌-◌, ◌<◌, ◌≤◌, ◌==◌, ◌⊎◌, Bool, true, false, Option, Some, None, List, length, take, refl, sym, ◌∙◌, ap, inl, inr, arith, slice_get, length-set, if◌then◌else◌}
 use Rattle.std.specs.Prelude.{◌&&◌, not}
 use Rattle.std.proofs.lemmas.Bool.Decides.{eqb_tells}

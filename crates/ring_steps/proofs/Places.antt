@@ -1,3 +1,4 @@
+-- Which packets have one place in a ring, and what the slots are after a write at a place.
 use Rattle.std.proofs.Common.{◌≡◌, ◌≢◌, ℕ, zero, suc, ◌+◌, ◌*◌, ◌/◌, ◌%◌, ◌<◌, ◌≤◌, Bool, true, false, ◌⊎◌, inl, inr, List, [], ◌∷◌, length, refl, ◌∙◌, ap, arith, slice_set, slice_index_or, get_or-set_other, get_or-set_same, nat_lt}
 use Rattle.std.proofs.Math.Nat.{div-add-mod, add-mod_right, mod-eq_of_lt, mul-le-mul_left}
 use Rattle.std.proofs.lemmas.Nat.{mod_below}

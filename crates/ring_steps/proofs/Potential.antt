@@ -1,3 +1,4 @@
+-- How many atomic steps a call that was begun has made, by its actor's phase; so a call makes no more of them than it may.
 use Rattle.std.proofs.Common.{subst, ◌≡◌, ℕ, ◌+◌, ◌==◌, ◌&&◌, ◌≤◌, true, Bool, Some, None, List, [], ◌∷◌, ◌++◌, length, refl, ◌∙◌, ap, arith, inl, inr, get_or, get_or-set_other, slice_get, slice_set, nat_lt}
 use Rattle.std.specs.Prelude.{if◌then◌else◌}
 use Rattle.std.proofs.lemmas.Bool.Decides.{eqb_tells}

@@ -1,3 +1,4 @@
+-- A seat whose pin holds finds its packet in the slot, and its reads of the length and of the bytes keep the invariant.
 use Rattle.std.proofs.Common.{◌≡◌, ℕ, ◌<◌, Some, List, [], ◌∷◌, ◌++◌, length, take, refl, sym, ◌∙◌, ap, inl, inr, arith, slice_get, slice_index_or}
 use Rattle.std.proofs.lemmas.List.{take_more, length_push, get_or-take}
 use Rattle.std.proofs.lemmas.Option.{slice_get-get_or}

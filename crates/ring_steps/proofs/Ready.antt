@@ -1,3 +1,4 @@
+-- In a ring that agrees with a good script each actor may go on by its next call, and a step within that call is a turn.
 use Rattle.std.proofs.Common.{◌≡◌, ℕ, ◌+◌, ◌<◌, Bool, false, Option, Some, None, List, length, take, refl, sym, ◌∙◌, ap, arith, get_or, slice_get, slice_set, is_some}
 use mir.Val.{bool_byte}
 use Rattle.std.proofs.lemmas.Option.{slice_get_within, slice_get_read, slice_get-get_or}

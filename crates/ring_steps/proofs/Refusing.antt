@@ -1,3 +1,4 @@
+-- No step but a begin refuses, and in a run a refused begin saw the pins of the seats in its slot.
 use Rattle.std.proofs.Common.{◌≡◌, ℕ, ◌==◌, ◌≤◌, Some, List, length, ap, refl, nat_lt}
 use Rattle.cursor.specs.declared.calls.Answer.TheVariants.{Refused}
 use Rattle.ring_steps.specs.declared.calls.Actor.{Actor}

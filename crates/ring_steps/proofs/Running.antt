@@ -1,3 +1,4 @@
+-- A turn keeps the invariant, and so does a run.
 use Rattle.std.proofs.Common.{List, [], ◌∷◌}
 use Rattle.ring_steps.specs.declared.calls.Actor.{Actor}
 use Rattle.ring_steps.specs.declared.calls.Actor.TheVariants.{P, Seat}

@@ -1,3 +1,4 @@
+-- How many pins a slot has after one seat's view changed, and what then holds of each seat.
 use Rattle.std.proofs.Common.{◌≡◌, ℕ, zero, suc, ◌+◌, ◌%◌, ◌==◌, ◌≤◌, Some, List, [], ◌∷◌, length, subst, arith, slice_get, slice_set}
 use Rattle.ring_steps.specs.declared.views.Seat.{Seat}
 use Rattle.ring_steps.specs.declared.views.SeatPhase.{SeatPhase}

@@ -1,3 +1,4 @@
+-- Over each step what a seat has seen only grows, and the slot of a seat whose pin holds keeps its length and bytes.
 use Rattle.std.proofs.Common.{◌≡◌, ◌≢◌, ℕ, ◌≤◌, true, Some, List, [], ◌++◌, length, take, drop, append-nil, refl, sym, ◌∙◌, ap, subst, inl, inr, arith, slice_get, slice_set, nat_lt}
 use Rattle.std.proofs.lemmas.Bool.Decides.{eqb_tells}
 use Rattle.std.proofs.lemmas.List.{take-append-drop, take-append-le, take_all}

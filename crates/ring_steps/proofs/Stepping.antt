@@ -1,3 +1,4 @@
+-- Every kind of step keeps the invariant, lets nothing fall, and has no choice.
 use Rattle.std.proofs.Common.{◌≡◌, ℕ, Some, [], append-nil, refl, sym, ◌∙◌, arith, slice_get}
 use Rattle.std.proofs.lemmas.Option.{same_Some}
 use Rattle.ring_steps.specs.declared.views.Seat.{Seat}

@@ -1,3 +1,5 @@
+-- A trace is told from the last turn back: the packets that wait for the loads of their takes, what acts at a turn, and the
+-- events so far.
 use Rattle.std.proofs.Common.{◌≡◌, ◌≢◌, ℕ, ◌+◌, ◌<◌, true, false, Option, Some, None, List, [], ◌∷◌, ◌++◌, length, map, refl, sym, ◌∙◌, ap, subst, arith, inl, inr, get_or, slice_get, slice_set, is_some, ◌||◌}
 use Rattle.std.proofs.Math.Bool.{and-false}
 use Rattle.std.proofs.lemmas.Bool.Decides.{eqb_tells}

@@ -1,3 +1,4 @@
+-- The writes of the length and of the bytes, the finish, the append and the close keep the invariant.
 use Rattle.std.proofs.Common.{◌≡◌, ◌≢◌, ℕ, suc, zero, ◌+◌, ◌-◌, ◌<◌, ◌≤◌, ◌⊎◌, Bool, true, false, Some, List, [], ◌∷◌, ◌++◌, length, take, refl, sym, ◌∙◌, ap, subst, inl, inr, arith, slice_get, slice_index_or, length-set}
 use Rattle.std.proofs.lemmas.List.{take_more, take_more_set, length_push, take_all}
 use Rattle.std.proofs.lemmas.Bool.{cases_lt}

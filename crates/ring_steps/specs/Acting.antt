@@ -1,3 +1,4 @@
+-- At which step of a run each call acts, and with which answer; the history of a run: its events in the order of these steps.
 use Rattle.std.specs.Prelude.{ℕ, ◌+◌, ◌==◌, ◌&&◌, ◌||◌, Bool, true, false, Option, Some, None, List, [], ◌∷◌, ◌++◌, map, is_some, slice_index_or, if◌then◌else◌}
 use Rattle.cursor.specs.declared.calls.Answer.{Answer}
 use Rattle.cursor.specs.declared.calls.Answer.TheVariants.{Taken}
@@ -12,11 +13,11 @@ use Rattle.ring_steps.specs.declared.trace.TraceEvent.{TraceEvent}
 use Rattle.ring_steps.specs.Answers.{publisher_call, seat_call}
 use Rattle.ring_steps.specs.Runs.{At, Calls, Turn}
 
--- where each call of a run acts. An appended publish acts at its append, a refused one at its failed
--- begin, a close at its store, and an attachment or a detachment at its load: each where it is
--- answered. A take acts at its first load, which for Empty, Ended and a loss without a pin is where it
--- is answered, and for a packet comes before its answer. But a loss after a failed pin acts at the
--- take's second load, where it is answered. `ActsAt` of Within.antt is this table, which each run keeps to
+-- where each call of a run acts: its acting step, which the literature calls its linearization point. An appended publish acts at
+-- its append, a refused one at its failed begin, a close at its store, and an attachment or a detachment at its load: each where
+-- it is answered. A take acts at its first load, which for Empty, Ended and a loss without a pin is where it is answered, and for
+-- a packet comes before its answer. But a loss after a failed pin acts at the take's second load, where it is answered. `ActsAt`
+-- of Within.antt is this table, which each run keeps to
 
 -- the answer is a packet
 abbrev pub is_packet : Answer → Bool

@@ -1,3 +1,4 @@
+-- A ring agrees with a script: each actor's phase is one within its next call.
 use Rattle.std.specs.Prelude.{◌≡◌, ℕ, true, false, Some, List, length, take, slice_get}
 use Rattle.ring_steps.specs.declared.calls.Actor.{Actor}
 use Rattle.ring_steps.specs.declared.calls.PublisherCall.{PublisherCall}

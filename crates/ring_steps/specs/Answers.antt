@@ -1,3 +1,4 @@
+-- The broadcast log that a ring is now and the one that a seat's last load saw, and which answered step is an event of which.
 use Rattle.std.specs.Prelude.{◌≡◌, ℕ, Option, Some, None, List, map, slice_get, take}
 use Rattle.cursor.specs.declared.packets.Packet.{Packet}
 use Rattle.cursor.specs.declared.calls.Call.{Call}

@@ -1,3 +1,4 @@
+-- Which steps are atomic, how many of these an actor makes in some turns, and how many a call makes at most.
 use Rattle.std.specs.Prelude.{◌≡◌, ℕ, ◌+◌, ◌&&◌, Bool, true, false, None, List, [], ◌∷◌, if◌then◌else◌}
 use Rattle.cursor.specs.declared.calls.Call.{Call}
 use Rattle.cursor.specs.declared.calls.Call.TheVariants.{Publish, Close, Attach, Take, Detach}

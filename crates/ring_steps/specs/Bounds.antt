@@ -1,3 +1,4 @@
+-- The sizes and counts at which a ring's numbers fit, and by which call an actor in its phase may go on.
 use Rattle.std.specs.Prelude.{◌≡◌, ℕ, ◌<◌, ◌≤◌, ◌^◌, false, length}
 use Rattle.ring_steps.specs.declared.views.PublisherPhase.{PublisherPhase}
 use Rattle.ring_steps.specs.declared.views.PublisherPhase.TheVariants as publishing

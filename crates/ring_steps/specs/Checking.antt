@@ -1,3 +1,4 @@
+-- The first call out of turn of a script's seats, seat by seat.
 use Rattle.std.specs.Prelude.{◌≡◌, ◌<◌, ℕ, Some, List, slice_get}
 use Rattle.ring_steps.specs.declared.calls.SeatCall.{SeatCall}
 use Rattle.ring_steps.specs.Scripts.{IsOutOfTurn}

@@ -1,3 +1,4 @@
+-- What each refusal of a run tells, and the number by which it is reported.
 use Rattle.std.specs.Prelude.{◌≡◌, ◌<◌, ℕ, Some, List, map, take, slice_get, length}
 use Rattle.ring_steps.specs.declared.calls.Actor.{Actor}
 use Rattle.ring_steps.specs.declared.calls.Actor.TheVariants.{P, Seat}

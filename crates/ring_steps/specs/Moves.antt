@@ -1,3 +1,4 @@
+-- Steps one after another that end no call: reads in place, a packet written or read in one move; a state but for what was read.
 use Rattle.std.specs.Prelude.{◌≡◌, ◌<◌, ◌++◌, ℕ, None, List, [], ◌∷◌, length, drop, map, slice_index_or}
 use Rattle.ring_steps.specs.declared.calls.Observed.{Observed}
 use Rattle.ring_steps.specs.declared.calls.Observed.TheVariants as saw

@@ -1,3 +1,4 @@
+-- The state of a ring: what it consists of, its slots by their places, one part of it changed, and a ring that nobody used yet.
 use Rattle.std.specs.Prelude.{◌≡◌, ℕ, ◌+◌, ◌-◌, ◌%◌, false, List, [], ◌∷◌, ◌++◌, length, nat_lt, slice_set, slice_index_or, replicate, if◌then◌else◌}
 use Rattle.cursor.specs.Account.{cursor_of}
 use Rattle.ring_steps.specs.declared.words.Word.{Word}

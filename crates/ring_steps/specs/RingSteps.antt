@@ -1,3 +1,4 @@
+-- Every kind of step of a ring, within a call or outside the calls: what it changes, what it leaves, and what seats see over it.
 use Rattle.std.specs.Prelude.{◌≡◌, ◌≢◌, ◌≤◌, ◌++◌, ℕ, Bool, true, false, None, Some, List, take, slice_get, slice_index_or}
 use Rattle.ring_steps.specs.declared.calls.Observed.{Observed}
 use Rattle.ring_steps.specs.declared.calls.Observed.TheVariants as saw

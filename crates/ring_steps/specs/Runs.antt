@@ -1,3 +1,4 @@
+-- A run of a script: turns that follow one another, each a step of one actor within its next call; it starts at an empty ring.
 use Rattle.std.specs.Prelude.{◌≡◌, ℕ, ◌+◌, Option, Some, List, [], ◌∷◌, replicate, slice_get, slice_set, is_some, if◌then◌else◌}
 use Rattle.cursor.specs.declared.calls.Call.{Call}
 use Rattle.cursor.specs.declared.calls.Answer.{Answer}

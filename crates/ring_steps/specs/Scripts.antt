@@ -1,3 +1,4 @@
+-- Which configurations and scripts may be run, and which call of a script is its first bad one.
 use Rattle.std.specs.Prelude.{◌≡◌, ◌⊎◌, ◌<◌, ◌≤◌, ℕ, Bool, true, false, Some, List, take, fold, slice_get, length}
 use Rattle.std.specs.List.{list_any}
 use Rattle.ring_steps.specs.declared.calls.Actor.{Actor}

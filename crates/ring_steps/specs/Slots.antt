@@ -1,3 +1,4 @@
+-- What holds of every state of a ring: the slot invariant, and what the phases say; also what never falls over a step.
 use Rattle.std.specs.Prelude.{◌≡◌, ◌↔◌, ◌⊎◌, ℕ, ◌+◌, ◌-◌, ◌%◌, ◌<◌, ◌≤◌, ◌==◌, true, false, Option, Some, None, List, [], ◌∷◌, ◌++◌, length, take, slice_get, if◌then◌else◌}
 use Rattle.ring_steps.specs.declared.calls.Observed.{Observed}
 use Rattle.ring_steps.specs.declared.calls.Observed.TheVariants.{Begin}

@@ -1,3 +1,4 @@
+-- The trace of a schedule, and what is promised of a run's states, turns and events.
 use Rattle.std.specs.Prelude.{◌≡◌, ◌<◌, ◌≤◌, ◌∷◌, ◌++◌, [], ℕ, Option, Some, List, length, map, slice_get, take}
 use Rattle.cursor.specs.declared.takes.Left.{Left}
 use Rattle.cursor.specs.Account.{StaysAttached, lost, received, takes_of}

@@ -1,3 +1,4 @@
+-- Each call acts at a step of its own: which one that is by its answer, and by what its actor saw earlier in the call.
 use Rattle.std.specs.Prelude.{◌≡◌, ◌⊎◌, ℕ, ◌+◌, ◌≤◌, true, false, Some, List, [], ◌∷◌, ◌++◌, length, take, slice_get, is_some, if◌then◌else◌}
 use Rattle.cursor.specs.declared.calls.Answer.{Answer}
 use Rattle.cursor.specs.declared.calls.Answer.TheVariants.{Appended, Refused, Closed, Attached, Taken, Detached}
