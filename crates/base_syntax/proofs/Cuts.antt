@@ -85,7 +85,7 @@ pub cut_as : (b : ℕ) (text front : List ℕ) (behind : Option (List ℕ)) → 
 cut_as b text front behind front_is behind_is =
     subst (λ (f : List ℕ). IsCut b text f behind) (sym front_is) (subst (λ (o : Option (List ℕ)). IsCut b text (before_first (λ x. x == b) text) o) (sym behind_is) (is_cut b text))
 
--- a text is cut behind a front without such a byte
+-- a text is cut after a front without such a byte
 pub cut_behind : (b : ℕ) (front rest : List ℕ) → HasNone b front
     → (before_first (λ x. x == b) (front ++ b ∷ rest) ≡ front) × (behind_first b (front ++ b ∷ rest) ≡ Some rest)
 cut_behind b [] rest h = let same = eq-eqb b b refl in (rw same refl, rw same refl)

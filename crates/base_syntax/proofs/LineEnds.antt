@@ -20,7 +20,7 @@ said-no_cr (b ∷ []) h = elim (eqb_tells b 13) [
 ]
 said-no_cr (b ∷ c ∷ bs) h = ap (λ (l : List ℕ). b ∷ l) (said-no_cr (c ∷ bs) (λ front e. h (b ∷ front) (ap (λ (l : List ℕ). b ∷ l) e)))
 
--- what stands before the first LF and behind it, as a first line
+-- what stands before the first LF and after it, as a first line
 pub line_ended : (bytes line text rest : List ℕ) → line ≡ before_first (λ b. b == 10) bytes → Some rest ≡ behind_first 10 bytes → text ≡ said line → IsFirstLine bytes text rest
 line_ended bytes line text rest line_is rest_is text_is =
     let cut : IsCut 10 bytes line (Some rest) = cut_as 10 bytes line (Some rest) line_is rest_is in

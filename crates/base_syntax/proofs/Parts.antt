@@ -14,7 +14,7 @@ onto-onto_first : (front : List ℕ) (b : ℕ) (ps : List (List ℕ)) → onto f
 onto-onto_first front b [] = refl
 onto-onto_first front b (p ∷ ps) = ap (λ part. part ∷ ps) (sym (append_assoc front (b ∷ []) p))
 
--- what is left of a text at i, in or outside of quotes, has the text's parts behind the front
+-- what is left of a text at i, in or outside of quotes, has the text's parts after the front
 pub record PartsAt (separator : ℕ) (text : List ℕ) (i : ℕ) (quoted : Bool) : Type 0 where
   pub so_far : parts separator text ≡ onto (take i text) (parts_from separator quoted (drop i text))
 

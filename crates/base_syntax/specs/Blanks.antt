@@ -20,7 +20,7 @@ trimmed text = without_trailing_blanks (without_leading_blanks text)
 abbrev pub HasBareEnds : List ℕ → Type 0
 HasBareEnds text = 0 < length text → (is_blank (slice_index text 0) ≡ false) × (is_blank (slice_index text (length text - 1)) ≡ false)
 
--- The text is this core, with nothing but blanks before and behind it.
+-- The text is this core, with nothing but blanks before and after it.
 pub record IsTrimOf (text core : List ℕ) : Type 0 where
   pub front : List ℕ
   pub back : List ℕ

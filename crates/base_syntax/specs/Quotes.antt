@@ -34,7 +34,7 @@ abbrev pub rest_size : Option (List ℕ) → ℕ
 rest_size None = 0
 rest_size (Some text) = suc (length text)
 
--- whether a quote is open behind some bytes: each double quote opens one or closes it
+-- whether a quote is open after some bytes: each double quote opens one or closes it
 abbrev pub is_open : List ℕ → Bool
 is_open bytes = fold quoted_after false bytes
 

@@ -6,7 +6,7 @@ ghost use Rattle.base_syntax.specs.Cuts.{behind_first};
 
 use memchr::memchr;
 
-/// What stands before the first such byte, or all where there is none, and what stands behind it, if it is there.
+/// What stands before the first such byte, or all where there is none, and what stands after it, if it is there.
 pub fn cut(text: &[u8], separator: u8) -> (&[u8], Option<&[u8]>)
     ensures before { result.0.now ≡ before_first (λ b. b == separator) text.now }
     ensures behind { option_copied result.1 ≡ behind_first separator text.now }

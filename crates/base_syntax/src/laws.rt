@@ -13,7 +13,7 @@ pub fn trimming()
     ensures only { (text other : List ℕ) → IsTrimOf text other → other ≡ trimmed text }
 {}
 
-/// Cutting a text at the first of a byte: what stands before it and behind it, and nothing else does.
+/// Cutting a text at the first of a byte: what stands before it and after it, and nothing else does.
 pub fn cutting()
     ensures cut { (byte : ℕ) (text : List ℕ) → IsCut byte text (before_first (λ b. b == byte) text) (behind_first byte text) }
     ensures front { (byte : ℕ) (text front : List ℕ) (behind : Option (List ℕ)) → IsCut byte text front behind → front ≡ before_first (λ b. b == byte) text }

@@ -10,7 +10,7 @@ fn cuts_here(separator: u8, quoted: bool, byte: u8) -> bool
     !quoted && byte == separator
 }
 
-/// Whether what stands behind a byte is quoted.
+/// Whether what stands after a byte is quoted.
 fn is_quoted_after(quoted: bool, byte: u8) -> bool
     ensures { result ≡ quoted_after quoted byte }
 {
@@ -33,7 +33,7 @@ fn part_len(text: &[u8], separator: u8) -> usize
     text.len()
 }
 
-/// The first part of a text that is cut outside of double quotes, and what stands behind the separator after it. A
+/// The first part of a text that is cut outside of double quotes, and what stands after the separator that follows it. A
 /// quote that isn't closed reaches to the end of the text.
 pub fn cut_unquoted(text: &[u8], separator: u8) -> (&[u8], Option<&[u8]>)
     ensures parts { parts separator text.now ≡ result.0.now ∷ rest_parts separator (option_copied result.1) }

@@ -12,7 +12,7 @@ pub record Gathered (W : Type 0) : Type 0 where
 abbrev pub gathered : {W : Type 0} → (W → Option (List ℕ)) → Gathered W → Option (List ℕ)
 gathered written g = append_known (written g.inner) g.kept
 
--- as many of these bytes as there is room for were kept behind the others, and the inner sink was left alone
+-- as many of these bytes as there is room for were kept after the others, and the inner sink was left alone
 pub record Fills {W : Type 0} (old : Gathered W) (bytes : List ℕ) (count : ℕ) (new : Gathered W) : Type 0 where
   pub fits : count ≡ min (old.size - length old.kept) (length bytes)
   pub kept : new ≡ record old { kept = old.kept ++ take count bytes }

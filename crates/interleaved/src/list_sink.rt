@@ -27,7 +27,7 @@ impl Model for ListSink {
 }
 
 impl ListSink {
-    /// A sink that takes `room` bytes. The only error is want of memory.
+    /// A sink that takes `room` bytes. The only error is out of memory.
     pub fn new(alloc: Global, room: usize) -> Result<ListSink, AllocError>
         ensures state { IfOk result (λ s. s ≡ record { written = []; room = room; failed = false }) }
         ensures written { IfOk result (λ s. ⟦<ListSink as Sink>⟧.written s ≡ Some []) }

@@ -4,12 +4,12 @@ use Rattle.std.proofs.lemmas.List.{append_cancel_left, take_all}
 use Rattle.mounts.specs.Names.{GoesOn}
 use Rattle.mounts.specs.Uri.{slash}
 
--- nothing stands behind a path that is the name
+-- a path with nothing after the name is the name
 pub is_nothing : (path name behind : List ℕ) → path ≡ name ++ behind → length behind ≡ 0 → path ≡ name
 is_nothing path name [] e none = e ∙ append-nil name
 is_nothing path name (b ∷ behind) e none = absurd (omega arith)
 
--- what stands behind a slash
+-- what stands after a slash
 pub behind_slash : (path name behind : List ℕ) → path ≡ name ++ behind → 0 < length behind → get_or behind 0 0 ≡ slash → path ≡ name ++ slash ∷ take (length behind - 1) (drop 1 behind)
 behind_slash path name [] e some first = absurd (omega arith)
 behind_slash path name (b ∷ behind) e some first =

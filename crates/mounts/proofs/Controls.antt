@@ -49,7 +49,7 @@ read_control text digits k short is read = is ∙ ap (λ ds. codes "trackID=" ++
 pub control_injective : (j k : ℕ) → j < 2 ^ 64 → k < 2 ^ 64 → track_control j ≡ track_control k → j ≡ k
 control_injective j k a b e = decimal_injective j k a b (same_digits (decimal j) (decimal k) e)
 
--- a track's name behind a slash ends the path, and nothing else does
+-- a track's name after a slash ends the path, and nothing else does
 pub ends_at : (path : List ℕ) (place : ℕ) → place < length path → HasTrackAt path place → EndsInTrack path
 ends_at path place within h =
     let one : suc place ≡ place + 1 = omega arith in

@@ -10,7 +10,7 @@ use Rattle.mounts.specs.Names.{GoesOn}
 use Rattle.mounts.specs.Uri.{slash}
 use Rattle.mounts.proofs.Sound.{names_nothing}
 
--- Neither the whole path nor a beginning that ends before a slash at this place or behind it names a live mount.
+-- Neither the whole path nor a beginning that ends before a slash at this place or after it names a live mount.
 pub record AreTried (mounts : List Mount) (path : List ℕ) (end : ℕ) : Type 0 where
   pub whole : named path mounts ≡ None
   pub longer : (k : ℕ) → end ≤ k → k < length path → get_or path k 0 ≡ slash → named (take k path) mounts ≡ None
@@ -69,7 +69,7 @@ found_before mounts path end mount e = by (get_or path end 0 == slash) refl e
     by true is found = (eqb-true (get_or path end 0) slash is, sym found)
     by false is found = absurd (cc)
 
--- the longest beginning that names a live mount, at a place behind which all were tried
+-- the longest beginning that names a live mount, at a place after which all were tried
 pub found_longest : (mounts : List Mount) (path : List ℕ) (end : ℕ) (mount : Mount) → end < length path → AreTried mounts path (suc end)
     → Some mount ≡ cond (get_or path end 0 == slash) (named (take end path) mounts) None → IsFoundIn mounts path mount.number (Some (drop (suc end) path))
 found_longest mounts path end mount within tried e =

@@ -5,7 +5,7 @@ use Rattle.mounts.specs.Mounts.{named}
 use Rattle.mounts.specs.Names.{GoesOn}
 
 -- The longest beginning of the path that names a live mount, among the whole path and the beginnings that end before a
--- slash: the mount's number, and what is left behind that slash.
+-- slash: the mount's number, and what is left after that slash.
 pub record IsFoundIn (mounts : List Mount) (path : List ℕ) (number : ℕ) (rest : Option (List ℕ)) : Type 0 where
   pub mount : Mount
   pub name : List ℕ

@@ -51,7 +51,7 @@ abbrev pub new_mount : Table → ℕ → List ℕ → Sections → Mount
 new_mount table owner name description =
     record { number = table.next; owner = owner; name = name; description = description; seats = replicate table.seats false }
 
--- the table with one mount more, behind the others
+-- the table with one mount more, after the others
 abbrev pub announced : Table → ℕ → List ℕ → Sections → Table
 announced table owner name description =
     record { mounts = table.mounts ++ new_mount table owner name description ∷ []; next = table.next + 1; seats = table.seats }

@@ -18,7 +18,7 @@ pub record IsShortNumeral (digits : List ℕ) : Type 0 where
   pub numeral : IsNumeral 10 digits
   pub short : slice_index digits 0 ≡ 48 → length digits ≡ 1
 
--- A slash stands at a place of a path, and behind it `trackID=` and a number.
+-- A slash stands at a place of a path, and after it `trackID=` and a number.
 pub record HasTrackAt (path : List ℕ) (place : ℕ) : Type 0 where
   pub cut : slice_index path place ≡ slash
   pub digits : List ℕ

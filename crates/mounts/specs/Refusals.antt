@@ -4,7 +4,7 @@ use Rattle.url.specs.declared.error.ParseError.TheVariants.{EmptyHost, IdnaError
 use Rattle.mounts.specs.declared.fault.UriFault.{UriFault}
 use Rattle.mounts.specs.declared.fault.UriFault.TheVariants.{BadUri, OutOfMemory}
 
--- a URL that came to 4 GB counts as want of memory
+-- a URL that came to 4 GB counts as out of memory
 abbrev pub fault_of : ParseError → UriFault
 fault_of Overflow = OutOfMemory
 fault_of NoMemory = OutOfMemory

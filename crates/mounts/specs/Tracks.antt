@@ -69,7 +69,7 @@ IsNamedBy true target rest tracks number = IsNamedByOwner target rest tracks num
 IsNamedBy false target rest tracks number = IsNamedByPlayer rest tracks number
 
 -- A request of a connection names a track of a mount: its path goes on after the mount's name with a slash, and what
--- stands behind that slash names the track.
+-- stands after that slash names the track.
 pub record NamesTrack (mount : Mount) (connection : ℕ) (target : Target) (number : ℕ) : Type 0 where
   pub rest : List ℕ
   pub behind : GoesOn target.path mount.name (Some rest)

@@ -71,7 +71,7 @@ abbrev pub IsUri : List ℕ → Uri → Type 0
 IsUri text Star = text ≡ codes "*"
 IsUri text (At target) = IsTarget text target
 
--- why a text is refused; `*` never is, and for want of memory only what could have been a URL
+-- why a text is refused; `*` never is, and as out of memory only what could have been a URL
 abbrev pub IsRefused : List ℕ → UriFault → Type 0
 IsRefused text BadUri = (uri : Uri) → IsUri text uri → ⊥
 IsRefused text OutOfMemory = IsUtf8 text × (text ≢ codes "*")

@@ -54,7 +54,7 @@ impl From<AllocError> for UriFault {
     }
 }
 
-/// A URL that has no room counts as want of memory, and any other refusal of `url` as a bad URI.
+/// A URL that has no room counts as out of memory, and any other refusal of `url` as a bad URI.
 impl From<ParseError> for UriFault {
     ghost use Rattle.mounts.specs.Refusals.{fault_of};
 

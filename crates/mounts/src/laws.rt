@@ -25,7 +25,7 @@ pub fn one_mount()
     ensures found { (mounts : List Mount) (path : List ℕ) (number : ℕ) (rest : Option (List ℕ)) → IsFoundIn mounts path number rest → IsNowhereIn mounts path → ⊥ }
 {}
 
-/// A request names at most one track of a mount with up to 16, whoever asks: only one rest stands behind the mount's name,
+/// A request names at most one track of a mount with up to 16, whoever asks: only one rest stands after the mount's name,
 /// and that names one track.
 pub fn one_track()
     ensures rest { (path name rest other : List ℕ) → GoesOn path name (Some rest) → GoesOn path name (Some other) → rest ≡ other }

@@ -20,7 +20,7 @@ pub struct Mount {
 }
 
 impl Mount {
-    /// A copy, or want of memory. The description is shared.
+    /// A copy, or out of memory. The description is shared.
     fn copy(&self, alloc: Global) -> Result<Mount, AllocError>
         ensures { IfOk result (λ copied. copied ≡ self.now) }
     {

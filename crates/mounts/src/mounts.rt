@@ -60,7 +60,7 @@ impl Mounts {
         }
     }
 
-    /// A copy, or want of memory: of at most `MAX_MOUNTS` mounts with their names and seats. Their descriptions are shared.
+    /// A copy, or out of memory: of at most `MAX_MOUNTS` mounts with their names and seats. Their descriptions are shared.
     pub fn copy(&self) -> Result<Mounts, AllocError>
         ensures { IfOk result (λ copied. copied ≡ self.now) }
     {
@@ -129,7 +129,7 @@ impl Mounts {
     }
 
     /// The live mount that a path names, by its number, and what is left of the path: the whole path, else the longest
-    /// beginning that ends before a slash, which is a live mount's name. `None` behind the number says that the whole path is the
+    /// beginning that ends before a slash, which is a live mount's name. `None` after the number says that the whole path is the
     /// name; a path that ends in a slash has an empty rest. Looks at no beginning over `MAX_NAME` bytes, so that it makes at
     /// most `MAX_NAME` look-ups, however long the path is.
     pub fn find<'a>(&self, path: &'a [u8]) -> Option<(u64, Option<&'a [u8]>)>
@@ -156,7 +156,7 @@ impl Mounts {
     }
 
     /// Announces a mount, and tells its number. The name doesn't end in a track's name (`ends_in_track`): it would be taken
-    /// for a track of another mount. Only want of memory refuses the call, and then nothing has changed.
+    /// for a track of another mount. The call is refused only where memory runs out, and then nothing has changed.
     pub fn announce(
         &mut self,
         owner: u64,

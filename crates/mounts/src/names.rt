@@ -15,8 +15,8 @@ pub fn is_name(path: &[u8]) -> bool
     !path.is_empty() && path.len() <= MAX_NAME
 }
 
-/// What a path says behind a mount's name: `None` where it is neither the name nor goes on after it with a slash,
-/// `Some(None)` where it is the name, and else what stands behind that slash.
+/// What a path says after a mount's name: `None` where it is neither the name nor goes on after it with a slash,
+/// `Some(None)` where it is the name, and else what stands after that slash.
 pub fn rest_after<'a>(path: &'a [u8], name: &[u8]) -> Option<Option<&'a [u8]>>
     ensures some { IfSome result (λ rest. GoesOn path.now name.now (option_copied rest)) }
     ensures none { IfNone result ((rest : Option (List ℕ)) → GoesOn path.now name.now rest → ⊥) }
@@ -46,7 +46,7 @@ fn is_short_numeral(text: &[u8]) -> bool
     text.len() == 1
 }
 
-/// The digits behind `trackID=`, where a text is that and a number in decimal without leading zeros.
+/// The digits after `trackID=`, where a text is that and a number in decimal without leading zeros.
 pub(crate) fn track_digits(text: &[u8]) -> Option<&[u8]>
     ensures some { IfSome result (λ digits. IsShortNumeral digits.now × (text.now ≡ codes "trackID=" ++ digits.now)) }
     ensures none { IfNone result ((digits : List ℕ) → IsShortNumeral digits → text.now ≡ codes "trackID=" ++ digits → ⊥) }
@@ -61,7 +61,7 @@ pub(crate) fn track_digits(text: &[u8]) -> Option<&[u8]>
     }
 }
 
-/// Whether a slash stands at a place of a path, and a track's name behind it.
+/// Whether a slash stands at a place of a path, and a track's name after it.
 fn has_track_at(path: &[u8], place: usize) -> bool
     requires { place < length path.now }
     ensures { MatchBool result (HasTrackAt path.now place) (HasTrackAt path.now place → ⊥) }
@@ -72,7 +72,7 @@ fn has_track_at(path: &[u8], place: usize) -> bool
     track_digits(&path[place + 1..]).is_some()
 }
 
-/// Whether a path ends in a slash and `trackID=` with a number behind it, in decimal without leading zeros and however
+/// Whether a path ends in a slash and `trackID=` with a number after it, in decimal without leading zeros and however
 /// long: as a mount's name it would be taken for a track of another.
 pub fn ends_in_track(path: &[u8]) -> bool
     ensures { MatchBool result (EndsInTrack path.now) (EndsInTrack path.now → ⊥) }

@@ -38,7 +38,7 @@ impl Seats {
         Ok(Seats { out, free })
     }
 
-    /// A copy, or want of memory. As here, there is room in it for each seat to be free.
+    /// A copy, or out of memory. As here, there is room in it for each seat to be free.
     pub(crate) fn copy(&self, alloc: Global) -> Result<Seats, AllocError>
         ensures { IfOk result (λ copied. copied ≡ self.now) }
     {

@@ -150,11 +150,11 @@ impl Mount {
         track_number(rest, tracks.len())
     }
 
-    /// The track that a request names for a connection, by the rest of its path behind the mount's name. For the owner the
+    /// The track that a request names for a connection, by the rest of its path after the mount's name. For the owner the
     /// announced controls count, in three ways: a control is the rest, it is the rest and the query, or it is a URL of the
     /// request's path; the first track counts that has such a control. Where no track has one, `trackID=k` names track k
     /// if that was announced without a control, or with `*`. For anybody else `trackID=k` alone does. The only error is
-    /// want of memory, and it comes to the owner alone.
+    /// out of memory, and it comes to the owner alone.
     pub fn track(
         &self,
         alloc: Global,

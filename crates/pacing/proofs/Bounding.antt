@@ -5,7 +5,7 @@ use Rattle.std.proofs.lemmas.Bool.Decides.{nat_tests}
 use Rattle.pacing.specs.declared.allowance.Allowance.{Allowance}
 use Rattle.pacing.specs.Allowances.{IsWithin, counted_in, left_at, spent, waited_in, waited_up_to, window_of}
 
--- nothing was waited behind the last window that is known
+-- nothing was waited after the last window that is known
 nothing_later : (a : Allowance) (window : ℕ) → a.window < window → waited_in a window ≡ 0
 nothing_later a window later = grind (arith, nat_tests)
 

@@ -6,7 +6,7 @@ use Rattle.pacing.specs.declared.allowance.Allowance.{Allowance}
 abbrev pub window_of : (moment : ℕ) → ℕ
 window_of moment = moment / 50000 + 5
 
--- what was waited in a window: it is known of the last one in which a wait ended, and of the four before; behind it nothing was
+-- what was waited in a window: it is known of the last one in which a wait ended, and of the four before; after it nothing was
 abbrev pub waited_in : Allowance → (window : ℕ) → ℕ
 waited_in allowance window = if nat_le window allowance.window then slice_index allowance.waited (allowance.window - window) else 0
 

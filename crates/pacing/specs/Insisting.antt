@@ -17,7 +17,7 @@ is_pinned (Err refused.Worn) = false
 is_pinned (Err refused.OutOfMemory) = false
 is_pinned (Ok number) = false
 
--- whether the last publish was given up, behind this answer: as pinned it was, and made it wasn't; another refusal never
+-- whether the last publish was given up, after this answer: as pinned it was, and made it wasn't; another refusal never
 -- reached the place
 abbrev pub given_up_after : (gave_up : Bool) → Result ℕ Refusal → Bool
 given_up_after gave_up (Ok number) = false
@@ -37,8 +37,8 @@ module _ {F : Type 0} (gives : F → Packet → Result ℕ Refusal → F → Typ
   PinnedTimes zero old packet new = new ≡ old
   PinnedTimes (suc tries) old packet new = (mid : F) × (pins : ℕ) × PinnedTimes tries old packet mid × gives mid packet (Err (refused.Pinned pins)) new
 
-  -- A publish of a feed that tries again: the inner feed's answer behind so many refusals as pinned, which is itself one only
-  -- behind as many as may be.
+  -- A publish of a feed that tries again: the inner feed's answer after so many refusals as pinned, which is itself one only
+  -- after as many as may be.
   pub record PublishesAtLast (old : Insisted F) (packet : Packet) (answer : Result ℕ Refusal) (new : Insisted F) : Type 0 where
     pub tries : ℕ
     pub few : tries ≤ most_tries old.gave_up

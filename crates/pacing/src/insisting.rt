@@ -7,7 +7,7 @@ use std::marker::Model;
 
 /// Lets a moment pass between two tries of a publish.
 pub trait Pause {
-    /// Lets the moment pass behind the try with this number, counted from 0 for each publish.
+    /// Lets the moment pass after the try with this number, counted from 0 for each publish.
     fn pause(&mut self, number: u32);
 }
 
@@ -82,7 +82,7 @@ impl<F: Feed, P: Pause + Drop> Feed for Insisting<F, P> {
     }
 }
 
-/// Whether the last publish was given up, behind this answer: what is too long or comes too late never reached its place.
+/// Whether the last publish was given up, after this answer: what is too long or comes too late never reached its place.
 fn given_up_after(gave_up: bool, answer: &Result<u64, Refused>) -> bool
     ensures { result ≡ given_up_behind gave_up answer.now }
 {

@@ -3,7 +3,7 @@ use Rattle.std.specs.Prelude.{◌≡◌, ℕ, ◌+◌, ◌*◌, ◌/◌, ◌%◌
 use Rattle.transport_header.specs.declared.point.Point.{Point}
 
 -- The version is 2, in the top two bits of the first byte. Its lowest four bits are the number of contributing sources,
--- which are named by four bytes each behind the twelve of the fixed header.
+-- which are named by four bytes each after the twelve of the fixed header.
 pub record IsRtp (bytes : List ℕ) : Type 0 where
   pub fixed : 12 ≤ length bytes
   pub version : slice_index bytes 0 / 64 ≡ 2

@@ -26,7 +26,7 @@ units_of-push [] frame us = refl
 units_of-push (one ∷ frames) frame us = ap (λ (l : List StreamUnit). content.Frame one ∷ l) (units_of-push frames frame us)
 
 module _ {S : Type 0} (incoming : S → Option (List ℕ)) where
-  -- Frames were handed out: what comes then comes behind them.
+  -- Frames were handed out: what comes then comes after them.
   pub record Skips (old now : IntakeState S) : Type 0 where
     pub frames : List Frame
     pub then : (new : IntakeState S) (us : List StreamUnit) → HandsOut incoming now new us → HandsOut incoming old new (units_of frames ++ us)

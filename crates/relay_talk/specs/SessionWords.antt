@@ -17,7 +17,7 @@ abbrev pub no_words_status : NoWords → ℕ
 no_words_status BadWord = 2
 no_words_status NoRandomSource = 1
 
--- the line on standard error behind it
+-- the line on standard error after it
 abbrev pub no_words_line : NoWords → List ℕ
 no_words_line BadWord = codes "relay: bad word"
 no_words_line NoRandomSource = codes "relay: no random source"

@@ -22,7 +22,7 @@ status_of BadLength = statuses.BadRequest
 status_of HeadTooLong = statuses.RequestEntityTooLarge
 status_of BodyTooLong = statuses.RequestEntityTooLarge
 
--- the fixed text behind the answers, where the stream has a fault
+-- the fixed text after the answers, where the stream has a fault
 abbrev pub closing_of : Ending → List ℕ
 closing_of (Waits rest) = []
 closing_of (Fails fault) = plain_text (status_of fault) None
@@ -36,7 +36,7 @@ abbrev pub IsRefused : (read held : List ℕ) → Type 0
 IsRefused read held = (0 < length held) ⊎ (read ≡ [])
 
 -- What a talk was: the bytes that were read, of which some are held where memory was refused, their units, some of which
--- aren't answered behind a failed write, and the words, the history and the whole text that go with those that are.
+-- aren't answered after a failed write, and the words, the history and the whole text that go with those that are.
 pub record Talk : Type 0 where
   pub read : List ℕ
   pub taken : List ℕ
@@ -89,7 +89,7 @@ exit_status ends.ReadFailed = 1
 exit_status ends.WriteFailed = 1
 exit_status ends.OutOfMemory = 1
 
--- the line on standard error behind it
+-- the line on standard error after it
 abbrev pub exit_line : TalkEnd → List ℕ
 exit_line ends.Done = []
 exit_line (ends.StreamFault fault) = codes "relay: stream fault " ++ decimal (fault_number fault)

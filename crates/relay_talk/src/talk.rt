@@ -30,8 +30,8 @@ pub enum TalkEnd {
 /// Answers the requests of one connection, in order, to its end.
 ///
 /// Its history stands in a book of its own, whose mounts have one seat and a ring each. A word is asked for once a message.
-/// What comes in while the session records is published; other frames are dropped. A fault of the stream, a failed device
-/// and want of memory in the reader or for the connection's coming end it. Where memory is refused for a ring or a reply,
+/// What comes in while the session records is published; other frames are dropped. A fault of the stream, a failed device,
+/// and memory that runs out in the reader or at the connection's coming, end it. Where memory is refused for a ring or a reply,
 /// 503 stands in the reply's place. The reader is given back, as far as it was read.
 pub fn run_talk<R: Source + Drop, W: Sink, V: Words>(
     alloc: Global,
@@ -141,7 +141,7 @@ fn write_plain<W: Sink>(writer: &mut W, status: Status, cseq: Option<u32>) -> Re
     write_all(writer, &text[..len])
 }
 
-/// What the fixed text behind a fault says.
+/// What the fixed text after a fault says.
 fn status_of(fault: Fault) -> Status
     ensures { result ≡ fixed_status fault }
 {
@@ -151,7 +151,7 @@ fn status_of(fault: Fault) -> Status
     }
 }
 
-/// The exit status of a talk, and the line that stands on standard error behind it: empty at status 0.
+/// The exit status of a talk, and the line that stands on standard error after it: empty at status 0.
 pub fn talk_end(alloc: Global, end: &TalkEnd) -> Result<(u8, String), AllocError>
     ensures status { IfOk result (λ r. r.0 ≡ exit_status end.now) }
     ensures line { IfOk result (λ r. string_bytes r.1 ≡ exit_line end.now) }
@@ -175,7 +175,8 @@ pub struct Ended {
     pub line: String,
 }
 
-/// Answers one connection, and tells how that ended. The only error is want of memory for the line, with the connection answered.
+/// Answers one connection, and tells how that ended. The only error is that memory runs out for the line, with the connection
+/// answered.
 pub fn do_talk<R: Source + Drop, W: Sink, V: Words>(
     alloc: Global,
     hasher: RandomState,

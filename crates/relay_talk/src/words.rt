@@ -45,7 +45,7 @@ pub enum WordSource {
 /// Why a talk has no words.
 #[derive(Clone, Copy, Debug, PartialEq, Eq, Drop)]
 pub enum NoWords {
-    /// What stands behind `--word` is no word.
+    /// What stands after `--word` is no word.
     BadWord,
     /// The source of random numbers failed.
     NoRandomSource,
@@ -75,7 +75,7 @@ impl NoWords {
     }
 }
 
-/// Where the words come from, by what stands behind `--word`: drawn where nothing does. `BadWord` of a text that is no
+/// Where the words come from, by what stands after `--word`: drawn where nothing does. `BadWord` of a text that is no
 /// word.
 pub fn word_source(text: Option<&str>) -> Result<WordSource, NoWords>
     ensures drawn { IfNone text.entry (result ≡ Ok Drawn) }

@@ -14,7 +14,7 @@ use Rattle.ring_script.specs.Plans.{said_by, IsBelow}
 use Rattle.ring_script.specs.Drafts.{told, IsStuck, NoPlanBegins}
 use Rattle.ring_script.specs.LineForms.{line_of}
 
--- what stands behind some of the calls is `go` or one more call
+-- what stands after some of the calls is `go` or one more call
 next_line : (seats : ℕ) (own calls : List CallLine) (s : List Actor) (line : Line) (more : List (Option Line)) → AllByRecursion (IsBelow seats) own
     → map Some (map Call own ++ Go s ∷ []) ≡ (map Some (map Call calls) ++ Some line ∷ []) ++ more
     → (line ≡ Go s) ⊎ ((call : CallLine) × (line ≡ Call call) × IsBelow seats call)
@@ -23,7 +23,7 @@ next_line seats (o ∷ own) [] s line more p e = inr (o, (cc), p.0)
 next_line seats [] (c ∷ calls) s line more p e = absurd (cc)
 next_line seats (o ∷ own) (c ∷ calls) s line more p e = next_line seats own calls s line more p.1 (cc)
 
--- nothing stands behind `go`
+-- nothing stands after `go`
 no_more : (own calls : List CallLine) (s t : List Actor) (line : Line) (more : List (Option Line)) → map Some (map Call own ++ Go s ∷ []) ≡ (map Some (map Call calls ++ Go t ∷ []) ++ Some line ∷ []) ++ more → ⊥
 no_more [] [] s t line more e = cc
 no_more (o ∷ own) [] s t line more e = cc

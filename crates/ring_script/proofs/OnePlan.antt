@@ -100,7 +100,7 @@ plan_or_bad_line text plan number a b =
     let lines = one_lines text a.lines (b.before ++ b.after) a.are b.lines in
     says_no_wrong b.before b.after plan (subst (λ (ls : List (List ℕ)). Says ls plan) lines a.says) b.wrong
 
--- of two cuts of one list the longer front goes on behind the shorter one
+-- of two cuts of one list the longer front goes on from the shorter one
 longer_front : (xs ys zs ws : List (List ℕ)) → xs ++ ys ≡ zs ++ ws → length xs < length zs → (line : List ℕ) × (mid : List (List ℕ)) × (zs ≡ xs ++ line ∷ mid) × (ys ≡ line ∷ (mid ++ ws))
 longer_front [] ys [] ws e h = absurd (omega (arith, h))
 longer_front [] ys (z ∷ zs) ws e h = (z, zs, refl, e)

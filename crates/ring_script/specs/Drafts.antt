@@ -32,7 +32,7 @@ heard line = map line_of (filter has_bytes (line ∷ []))
 abbrev pub NoPlanBegins : List (Option Line) → Type 0
 NoPlanBegins lines = (plan : Plan) (more : List (Option Line)) → AllByRecursion (IsBelow plan.config.seats) plan.calls → map Some (said_by plan) ≡ lines ++ more → ⊥
 
--- a line that no plan has behind those of the draft
+-- a line that no plan has after those of the draft
 pub record IsStuck (draft : Draft) (line : List ℕ) : Type 0 where
   pub there : has_bytes line ≡ true
   pub none : NoPlanBegins (map Some (told draft) ++ line_of line ∷ [])

@@ -27,7 +27,7 @@ is_space b = b == 32
 abbrev pub is_star : ℕ → Bool
 is_star b = b == 42
 
--- what stands behind this beginning
+-- what stands after this beginning
 abbrev pub behind : (beginning text : List ℕ) → Option (List ℕ)
 behind beginning text = if starts_with nat_eq text beginning then Some (drop (length beginning) text) else None
 
@@ -36,7 +36,7 @@ abbrev pub publish_of : Result (List ℕ) FromHexError → Option CallLine
 publish_of (Ok bytes) = if nat_lt 0 (length bytes) && nat_le (length bytes) 65535 then Some (ByPublisher (Publish bytes)) else None
 publish_of (Err e) = None
 
--- what stands behind `p `
+-- what stands after `p `
 unfoldable pub publisher_call_of : List ℕ → Option CallLine
 publisher_call_of text = if bytes_eq text (codes "close") then Some (ByPublisher Close) else publish_of (decode_of text)
 
@@ -64,7 +64,7 @@ seat_of number = Seat (min number 65535)
 abbrev pub actor_of : List ℕ → Option Actor
 actor_of name = if bytes_eq name (codes "p") then Some P else option_map seat_of (number_of name)
 
--- how often an item's actor steps: once, or as often as the number behind its `*` says, 1 to 100,000 times
+-- how often an item's actor steps: once, or as often as the number after its `*` says, 1 to 100,000 times
 abbrev pub in_limits : Option ℕ → Option ℕ
 in_limits None = None
 in_limits (Some n) = if nat_le 1 n && nat_le n 100000 then Some n else None
@@ -98,7 +98,7 @@ abbrev pub not_too_long : Option (List Actor) → Option (List Actor)
 not_too_long None = None
 not_too_long (Some steps) = if nat_le (length steps) 1000000 then Some steps else None
 
--- what stands behind `go `: one item or more, with one space between two
+-- what stands after `go `: one item or more, with one space between two
 unfoldable pub schedule_of : List ℕ → Option (List Actor)
 schedule_of text = not_too_long (items_of (slice_split is_space text))
 

@@ -2,7 +2,7 @@
 use Rattle.std.specs.Prelude.{◌≡◌, ◌⊎◌, ℕ, true, List, [], ◌∷◌, ◌++◌}
 use Rattle.base_syntax.specs.Lines.{HasNoLf, has_bytes}
 
--- The first line of a text, and the text behind it. An LF ends it, or the text does: what follows the last LF is a line
+-- The first line of a text, and the text after it. An LF ends it, or the text does: what follows the last LF is a line
 -- where it has bytes. A CR is a byte of it like any other.
 pub record IsFirstLine (text line rest : List ℕ) : Type 0 where
   pub unbroken : HasNoLf line

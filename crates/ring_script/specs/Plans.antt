@@ -49,7 +49,7 @@ IsWrong before [] = (plan : Plan) → ¬ Says before plan
 IsWrong before (line ∷ after) = ¬ Begins (before ++ line ∷ [])
 
 -- The first line that makes the text no input, from 1 over all lines. Where all lines are good but no `go` line is
--- among them, it is the one behind the last.
+-- among them, it is the one after the last.
 pub record IsBadLine (text : List ℕ) (number : ℕ) : Type 0 where
   pub before : List (List ℕ)
   pub after : List (List ℕ)

@@ -20,8 +20,8 @@ pub enum StepsEnd {
     OutOfMemory,
 }
 
-/// The exit status of the command, and the line that stands on standard error behind it: empty at
-/// status 0. The only error is want of memory.
+/// The exit status of the command, and the line that stands on standard error after it: empty at
+/// status 0. The only error is out of memory.
 pub fn steps_end(alloc: Global, end: &StepsEnd) -> Result<(u8, String), AllocError>
     ensures status { IfOk result (λ r. r.0 ≡ steps_status end.now) }
     ensures line { IfOk result (λ r. string_bytes r.1 ≡ steps_end_line end.now) }

@@ -8,7 +8,7 @@ use base_syntax::read_number;
 /// The largest number that nine digits can write.
 const LARGEST: u32 = 999_999_999;
 
-/// What stands behind this beginning, if the text begins so.
+/// What stands after this beginning, if the text begins so.
 pub(crate) fn behind<'a>(beginning: &[u8], text: &'a [u8]) -> Option<&'a [u8]>
     ensures { option_copied result ≡ rest_behind beginning.now text.now }
 {

@@ -18,7 +18,7 @@ pub struct Plan {
 /// Why a text is no input.
 #[derive(Clone, Copy, Debug, PartialEq, Eq)]
 pub enum PlanFault {
-    /// The first bad line, from 1 over all lines, or the line behind the last where `go` is missing.
+    /// The first bad line, from 1 over all lines, or the line after the last where `go` is missing.
     BadLine(usize),
     OutOfMemory,
 }

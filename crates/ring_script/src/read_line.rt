@@ -16,7 +16,7 @@ use std::alloc::{AllocError, Global};
 /// A publish has at most so many bytes.
 const MOST_BYTES: usize = 65535;
 
-/// The call that stands behind `p `.
+/// The call that stands after `p `.
 #[tactic(auto, unfolding(crate::specs::LineForms::publisher_call_of))]
 fn publisher_call(alloc: Global, text: &[u8]) -> Result<Option<CallLine>, AllocError>
     ensures { IfOk result (λ r. r ≡ publisher_call_of text.now) }

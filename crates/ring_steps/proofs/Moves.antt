@@ -61,7 +61,7 @@ steps_keep : (s : State) (bys : List By) (t : State) → Steps s bys t → Invar
 steps_keep s [] t steps h = rw steps h
 steps_keep s (by ∷ later) t steps h = steps_keep steps.0.state later t steps.3 (ring_step_keeps s by steps.0 steps.1 h)
 
--- a write behind the front of some bytes
+-- a write after the front of some bytes
 set_seam : (front : List ℕ) (y b : ℕ) (ys : List ℕ) → slice_set (front ++ y ∷ ys) (length front) b ≡ front ++ b ∷ ys
 set_seam [] y b ys = refl
 set_seam (x ∷ front) y b ys = ap (λ (zs : List ℕ). x ∷ zs) (set_seam front y b ys)

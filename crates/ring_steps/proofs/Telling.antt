@@ -22,7 +22,7 @@ use Rattle.ring_steps.specs.Acting.{Acted, acted, acted_at, acting, acting_answe
 use Rattle.ring_steps.specs.Runs.{Turn}
 use Rattle.ring_steps.specs.Traces.{Waits, made_of, step_of}
 
--- of all turns those behind are told, and those in front aren't yet
+-- of all turns the later ones are told, and the earlier ones aren't yet
 pub record IsTold (turns : List Turn) (made : List Made) (steps : List TraceStep) (events : List TraceEvent) (packets : List (Option Answer)) : Type 0 where
   pub front : List Turn
   pub back : List Turn

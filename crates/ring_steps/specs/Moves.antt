@@ -32,7 +32,7 @@ abbrev pub Steps : State → List By → State → Type 0
 Steps s [] t = t ≡ s
 Steps s (by ∷ later) t = (o : Outcome) × RingStep s by o × (o.answer ≡ None) × Steps o.state later t
 
--- a slot with the length and the bytes of a packet, and what stood behind these
+-- a slot with the length and the bytes of a packet, and what stood after these
 abbrev pub slot_of : (packet : List ℕ) → Slot → Slot
 slot_of p x = record x { len = length p; bytes = p ++ drop (length p) x.bytes }
 

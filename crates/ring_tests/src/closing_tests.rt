@@ -7,7 +7,7 @@ use packet_ring::{Publisher, Receipt, new};
 use std::process::Abort;
 use std::thread::join;
 
-/// A feed's close ends the log behind what was published, be it nothing, for a seat that is attached and for one
+/// A feed's close ends the log after what was published, be it nothing, for a seat that is attached and for one
 /// that attaches later.
 #[test]
 fn feed_close_behind_packets(rt: HostRuntime) {

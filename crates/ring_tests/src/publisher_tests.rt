@@ -353,7 +353,7 @@ fn no_frame_is_lost_where_memory_is_refused(rt: HostRuntime) {
 fn each_stop(rt: HostRuntime) {
     let alloc = rt.alloc();
     let frame = b"$\x01\x00\x01x".as_slice();
-    // What stands behind the first frame, and where the source fails.
+    // What stands after the first frame, and where the source fails.
     let cases = [
         (b"".as_slice(), None, "end"),
         (b"$\x01\x00\x02x".as_slice(), None, "end"),

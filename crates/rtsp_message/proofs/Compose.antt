@@ -13,7 +13,7 @@ use Rattle.rtsp_message.specs.Heads.{joined, HasFault, HasBadRequestLine, HasReq
 use Rattle.rtsp_message.specs.Stream.{bytes_of, units_of, Ending, Waits, Fails, EndsAs, Reads, ReadsOn, ReadsPieces}
 use Rattle.rtsp_message.proofs.Pieces.{bytes_of-append, units_of-append, ArePieces-append, empty_waits}
 
--- the front of bytes with more behind them is their front, and some of what is behind
+-- the front of bytes with more after them is their front, and some of what comes after
 take-append : (n : ℕ) (xs ys : List ℕ) → take n (xs ++ ys) ≡ take n xs ++ take (n - length xs) ys
 take-append n xs ys = elim (leb_tells n (length xs)) [
   | inl within ↦
@@ -59,7 +59,7 @@ bad_header_grows w x fault p =
       };
     }
 
--- a fault stays, whatever comes behind it
+-- a fault stays, whatever comes after it
 fault_grows : (bytes more : List ℕ) (fault : Fault) → HasFault bytes fault → HasFault (bytes ++ more) fault
 fault_grows bytes more BadLine p = subst HasBadRequestLine (sym (take-append head_limit bytes more)) (bad_first_grows (take head_limit bytes) (take (head_limit - length bytes) more) p)
 fault_grows bytes more BadHeader p = subst (λ (w : List ℕ). HasRequestLine w (λ rest. BreaksHeaders rest BadHeader)) (sym (take-append head_limit bytes more)) (bad_header_grows (take head_limit bytes) (take (head_limit - length bytes) more) BadHeader p)

@@ -27,7 +27,7 @@ frame_cut bytes len p =
 pub between_first : (bytes : List ℕ) (from len : ℕ) → between bytes from (from + len) ≡ take len (drop from bytes)
 between_first bytes from len = let count : from + len - from ≡ len = omega arith in ap (λ (n : ℕ). take n (drop from bytes)) count
 
--- a head, and the body behind it
+-- a head, and the body after it
 pub message_cut : (bytes : List ℕ) (head len : ℕ) (request : Request) (body : List ℕ) → IsMessageStart bytes head len → len ≤ length bytes → IsHead (take head bytes) request → body ≡ between bytes head len
     → IsMessage (take len bytes) (record request { body = body })
 message_cut bytes head len request body p fits is body_is =

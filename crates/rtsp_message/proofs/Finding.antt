@@ -40,7 +40,7 @@ no_lf_take zero xs p = tt
 no_lf_take (suc n) [] p = tt
 no_lf_take (suc n) (x ∷ xs) p = (p.0, no_lf_take n xs p.1)
 
--- places behind a place
+-- places counted from a place on
 pub between_behind : (bytes : List ℕ) (from i j : ℕ) → between bytes (from + i) (from + j) ≡ between (drop from bytes) i j
 between_behind bytes from i j =
     let count : from + j - (from + i) ≡ j - i = omega arith in
@@ -68,7 +68,7 @@ between_more bytes i j k low high =
     ap (λ (n : ℕ). take n (drop i bytes)) count ∙ take-add (j - i) (k - j) (drop i bytes)
     ∙ ap (λ (l : List ℕ). between bytes i j ++ take (k - j) l) (drop-drop (j - i) i bytes ∙ ap (λ (n : ℕ). drop n bytes) place)
 
--- A line that ends at an LF, behind which the bytes go on.
+-- A line that ends at an LF, after which the bytes go on.
 pub record IsLineAt (bytes : List ℕ) (line end : ℕ) : Type 0 where
   pub unbroken : HasNoLf (between bytes line end)
   pub behind : drop line bytes ≡ ended (between bytes line end) ++ drop (end + 1) bytes

@@ -38,7 +38,7 @@ other_body bytes request body p = record {
   short = p.short;
 }
 
--- a head, and the bytes of the body behind it
+-- a head, and the bytes of the body after it
 pub message_parts : (bytes : List ℕ) (head len : ℕ) (request : Request) (rest body : List ℕ) → BeginsMessage bytes → head ≤ length bytes → IsHead (take head bytes) request → rest ≡ drop head bytes → len ≡ body_len request.headers → len ≤ length rest → body ≡ take len rest
     → (head + len ≤ length bytes) × IsMessage (take (head + len) bytes) (record request { body = body })
 message_parts bytes head len request rest body begins within is rest_is len_is fits body_is =

@@ -31,7 +31,7 @@ between_grows bytes more i j low high =
     let rest : j - i ≤ length (drop i bytes) = omega (arith, length-drop i bytes) in
     ap (take (j - i)) (drop-append-le i bytes more start) ∙ take-append-le (j - i) (drop i bytes) more rest
 
--- what is known of bytes is known of them with more behind
+-- what is known of bytes is known of them with more after them
 pub known_grows : (bytes more : List ℕ) (known : Known) → IsKnown bytes known → IsKnown (bytes ++ more) known
 known_grows bytes more knows.Nothing p = tt
 known_grows bytes more knows.Dollar p = begins_frame bytes more p

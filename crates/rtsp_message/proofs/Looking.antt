@@ -44,7 +44,7 @@ no_lf_within (suc n) zero xs p = tt
 no_lf_within (suc n) (suc m) [] p = tt
 no_lf_within (suc n) (suc m) (x ∷ xs) p = (p.0, no_lf_within n m xs p.1)
 
--- no LF stands in the window behind the good lines
+-- no LF stands in the window after the good lines
 pub open_tail : (bytes : List ℕ) (line searched : ℕ) → line ≤ searched → line ≤ head_limit → HasNoLf (between bytes line searched) → HasNoLf (drop searched (window bytes)) → HasNoLf (drop line (window bytes))
 open_tail bytes line searched low short before behind =
     let size : line + (head_limit - line) ≡ head_limit = omega arith in
@@ -56,7 +56,7 @@ open_tail bytes line searched low short before behind =
     subst HasNoLf (sym (drop-drop (searched - line) line (window bytes) ∙ ap (λ (n : ℕ). drop n (window bytes)) place)) behind in
     subst HasNoLf (take-append-drop (searched - line) (drop line (window bytes))) (no_lf_append (take (searched - line) (drop line (window bytes))) (drop (searched - line) (drop line (window bytes))) front back)
 
--- where no LF stands behind a place, none stands there in the window
+-- where no LF stands from a place on, none stands there in the window
 pub window_none : (bytes : List ℕ) (from searched : ℕ) → HasNoLf (drop (from + searched) bytes) → HasNoLf (drop searched (window (drop from bytes)))
 window_none bytes from searched none =
     let rest = drop searched (drop from bytes) in
@@ -71,7 +71,7 @@ window_none bytes from searched none =
           subst HasNoLf (sym (drop_all searched (window (drop from bytes)) past)) tt
     ]
 
--- where the first LF behind a place stands behind the window, none stands there in the window
+-- where the first LF from a place on stands past the window, none stands there in the window
 pub window_past : (bytes : List ℕ) (searched end : ℕ) → head_limit ≤ end → IsFirstLf bytes searched end → HasNoLf (drop searched (window bytes))
 window_past bytes searched end long lf = elim (leb_tells searched head_limit) [
   | inl low ↦
@@ -144,7 +144,7 @@ good_more bytes line end header p at is allowed =
       tell = next.1;
     }
 
--- behind the good lines the text is so
+-- after the good lines the text is so
 has_request : (P : List ℕ → Type 0) (front rest whole : List ℕ) {told : Option ℕ} (p : AreGoodLines front told) → whole ≡ front ++ rest → P (joined p.lines ++ rest) → HasRequestLine whole P
 has_request P front rest whole p e after = record {
   first = p.first;
@@ -329,7 +329,7 @@ frame_start bytes from len high low begins size high_is low_is len_is most = rec
   most = most;
 }
 
--- The next line behind good ones: it ends here, and says this.
+-- The next line after good ones: it ends here, and says this.
 pub record NextLine (bytes : List ℕ) (line end : ℕ) (text : List ℕ) : Type 0 where
   pub at : IsLineAt bytes line end
   pub says : text ≡ said (between bytes line end)

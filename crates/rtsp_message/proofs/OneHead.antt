@@ -35,7 +35,7 @@ fault_in (After m u v headers (Blank more)) = BadLine
 fault_in (After m u v headers (Broken fault)) = fault
 fault_in (After m u v headers Open) = HeadTooLong
 
--- the window of a whole head, with the bytes behind it
+-- the window of a whole head, with the bytes after it
 abbrev head_window : List ℕ → Request → List ℕ → Window
 head_window bytes request more = After request.method request.uri request.version request.headers (Blank (take (head_limit - length bytes) more))
 

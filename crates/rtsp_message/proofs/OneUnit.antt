@@ -36,7 +36,7 @@ frame_is_no_pad (b ∷ bytes) p = rw p refl
 pub frame_begins : (bytes more : List ℕ) {channel : ℕ} {payload : List ℕ} → IsFrame bytes channel payload → BeginsFrame (bytes ++ more)
 frame_begins bytes more p = subst (λ (l : List ℕ). BeginsFrame (l ++ more)) (sym p.2) refl
 
--- a message as its head, and what is behind that
+-- a message as its head, and what comes after that
 pub message_whole : (stream bytes more : List ℕ) (request : Request) (p : IsMessage bytes request) → stream ≡ bytes ++ more → stream ≡ p.head ++ (request.body ++ more)
 message_whole stream bytes more request p e = e ∙ ap (λ (l : List ℕ). l ++ more) p.whole ∙ append_assoc p.head request.body more
 

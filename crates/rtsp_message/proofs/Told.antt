@@ -36,12 +36,12 @@ not_first : (test : Bool) (header : Header) (rest : Option Header) → test ≡ 
 not_first true header rest e = absurd (cc)
 not_first false header rest e = refl
 
--- another field behind changes nothing
+-- another field after them changes nothing
 find_other : (before : List Header) (header : Header) → is_length header ≡ false → find is_length (before ++ header ∷ []) ≡ find is_length before
 find_other [] header other = not_first (is_length header) header None other
 find_other (h ∷ before) header other = ap (λ (r : Option Header). cond (is_length h) (Some h) r) (find_other before header other)
 
--- where none was a Content-Length field, the one behind is the first
+-- where none was a Content-Length field, the one after them is the first
 find_new : (before : List Header) (header : Header) → is_length header ≡ true → option_map value (find is_length before) ≡ None → option_map value (find is_length (before ++ header ∷ [])) ≡ Some header.value
 find_new [] header same none = found_first (is_length header) header None same
 find_new (h ∷ before) header same none =

@@ -11,13 +11,13 @@ use Rattle.rtsp_message.specs.Heads.{joined, AreHeaders, IsGoodHeader, IsBadHead
 use Rattle.rtsp_message.proofs.RequestLines.{same_request_line}
 use Rattle.rtsp_message.proofs.HeaderLines.{same_header_line}
 
--- how a list of header lines stops: at the empty line with these bytes behind it, at a bad line, or before a whole line
+-- how a list of header lines stops: at the empty line with these bytes after it, at a bad line, or before a whole line
 pub data Stop : Type 0 where
   Blank : (more : List ℕ) → Stop
   Broken : (fault : Fault) → Stop
   Open : Stop
 
--- behind these header fields
+-- after these header fields
 abbrev pub StopsAs : (before : List Header) → List ℕ → Stop → Type 0
 StopsAs before text (Blank more) = (last : List ℕ) × (text ≡ ended last ++ more) × HasNoLf last × (said last ≡ [])
 StopsAs before text (Broken fault) = (line : List ℕ) × (more : List ℕ) × (text ≡ ended line ++ more) × HasNoLf line × IsBadHeader before (said line) fault
@@ -95,18 +95,18 @@ no_stop before text line rest header (Broken f) e g p =
     good_not_bad before (said line) header f g.field g.allowed (subst (λ (t : List ℕ). IsBadHeader before (said t) f) l.0 p.4)
 no_stop before text line rest header Open e g p = no_whole_line text line rest p e
 
--- behind the fields before, the lines of a text are these header fields, and then it stops so
+-- after the fields before, the lines of a text are these header fields, and then it stops so
 unfoldable pub FieldsThen : (before : List Header) → List ℕ → List (List ℕ) → List Header → List ℕ → Stop → Type 0
 FieldsThen before text lines headers end s = (text ≡ joined lines ++ end) × AreHeaders before lines headers × StopsAs (before ++ headers) end s
 
 regroup : (text line : List ℕ) (lines : List (List ℕ)) (end : List ℕ) → text ≡ joined (line ∷ lines) ++ end → text ≡ ended line ++ (joined lines ++ end)
 regroup text line lines end e = e ∙ append_assoc (ended line) (joined lines) end
 
--- without more fields it stops behind those before
+-- without more fields it stops after those before
 stops_here : (before : List Header) (end : List ℕ) (s : Stop) → StopsAs (before ++ []) end s → StopsAs before end s
 stops_here before end s p = subst (λ (hs : List Header). StopsAs hs end s) (append-nil before) p
 
--- one more field stands before, and one fewer behind
+-- one more field stands before, and one fewer after
 stops_behind : (before : List Header) (h : Header) (hs : List Header) (end : List ℕ) (s : Stop) → StopsAs (before ++ h ∷ hs) end s → StopsAs ((before ++ h ∷ []) ++ hs) end s
 stops_behind before h hs end s p = subst (λ (all : List Header). StopsAs all end s) (sym (append_assoc before (h ∷ []) hs)) p
 

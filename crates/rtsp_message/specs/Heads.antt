@@ -15,13 +15,13 @@ use Rattle.rtsp_message.specs.Lengths.{field_fault}
 abbrev pub joined : List (List ℕ) → List ℕ
 joined lines = flat_map ended lines
 
--- A header line that a head may have behind these header fields.
+-- A header line that a head may have after these header fields.
 pub record IsGoodHeader (before : List Header) (line : List ℕ) (header : Header) : Type 0 where
   pub unbroken : HasNoLf line
   pub field : IsHeaderLine (said line) header
   pub allowed : field_fault before header ≡ None
 
--- behind the fields before, the lines are these header fields, in order
+-- after the fields before, the lines are these header fields, in order
 abbrev pub AreHeaders : (before : List Header) → List (List ℕ) → List Header → Type 0
 AreHeaders before [] [] = Unit {0}
 AreHeaders before [] (header ∷ headers) = ⊥
@@ -32,7 +32,7 @@ AreHeaders before (line ∷ lines) (header ∷ headers) = IsGoodHeader before li
 abbrev pub HasBadField : (before : List Header) → List ℕ → Fault → Type 0
 HasBadField before text fault = (header : Header) × IsHeaderLine text header × (field_fault before header ≡ Some fault)
 
--- what is wrong with a line that stands where a header line is due, behind these header fields
+-- what is wrong with a line that stands where a header line is due, after these header fields
 abbrev pub IsBadHeader : (before : List Header) → List ℕ → Fault → Type 0
 IsBadHeader before text BadHeader = (0 < length text) × ((header : Header) → IsHeaderLine text header → ⊥)
 IsBadHeader before text BadLength = HasBadField before text BadLength

@@ -50,7 +50,7 @@ pub record IsFirstLineStart (bytes : List ℕ) (searched : ℕ) : Type 0 where
   pub within : searched ≤ length bytes
   pub none_found : HasNoLf (between bytes 0 searched)
 
--- A message begins with these lines, and behind them no LF was found so far.
+-- A message begins with these lines, and after them no LF was found so far.
 pub record IsFieldsStart (bytes : List ℕ) (line searched : ℕ) (told : Option ℕ) : Type 0 where
   pub begins : BeginsMessage bytes
   pub good : AreGoodLines (take line bytes) told
@@ -107,7 +107,7 @@ abbrev pub searched_to : ℕ → Option ℕ → ℕ
 searched_to size (Some end) = end + 1
 searched_to size None = size
 
--- What a line is that stands where a header line is due, behind any header fields that announce this length.
+-- What a line is that stands where a header line is due, after any header fields that announce this length.
 abbrev pub IsJudged : (told : Option ℕ) → List ℕ → Judged → Type 0
 IsJudged told text (judges.Header now) =
     (header : Header) × IsHeaderLine text header

@@ -33,6 +33,6 @@ length_fault before value =
     else (if nat_lt body_limit (digits_value 10 value) then Some BodyTooLong
     else second_fault before (digits_value 10 value))
 
--- what is wrong with a field behind these ones
+-- what is wrong with a field after these ones
 abbrev pub field_fault : (before : List Header) → Header → Option Fault
 field_fault before header = if is_content_length header.name then length_fault (announced before) header.value else None

@@ -26,7 +26,7 @@ abbrev pub KeepsBeginning : List ℕ → Option Fault → Type 0
 KeepsBeginning rest None = EndsAs rest (Waits rest) × (length rest < waiting_limit)
 KeepsBeginning rest (Some fault) = length rest ≤ 0
 
--- what is kept of the bytes behind the units: after a fault none
+-- what is kept of the bytes after the units: after a fault none
 abbrev pub left : Option Fault → List ℕ → List ℕ
 left None rest = rest
 left (Some fault) rest = []

@@ -16,7 +16,7 @@ counted count more = min (count + more) (2 ^ 64 - 1)
 abbrev pub looked_more : StoreState → ℕ → StoreState
 looked_more store more = record store { looked = counted store.looked more }
 
--- The first LF behind this place stands here.
+-- The first LF from this place on stands here.
 pub record IsFirstLf (bytes : List ℕ) (from place : ℕ) : Type 0 where
   pub behind : from ≤ place
   pub within : place < length bytes

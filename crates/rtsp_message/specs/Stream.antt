@@ -129,7 +129,7 @@ pub record ReadsSoFar (bytes : List ℕ) (units : List StreamUnit) (len : ℕ) :
   pub units_are : units ≡ units_of pieces
   pub within : len ≤ length bytes
 
--- the bytes behind them wait, and are fewer than a head and a body may have, or have this fault
+-- the bytes after them wait, and are fewer than a head and a body may have, or have this fault
 abbrev pub IsScanEnd : List ℕ → Option Fault → Type 0
 IsScanEnd rest None = EndsAs rest (Waits rest) × (length rest < waiting_limit)
 IsScanEnd rest (Some fault) = EndsAs rest (Fails fault)

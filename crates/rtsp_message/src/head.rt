@@ -26,7 +26,7 @@ pub enum HeadFront {
     Unfinished,
 }
 
-/// What stands behind a request line.
+/// What stands after a request line.
 #[derive(Drop)]
 pub enum HeaderBlock {
     /// Header fields and the empty line that ends a head, `len` bytes in all.
@@ -101,7 +101,7 @@ fn read_headers(alloc: Global, text: &[u8]) -> Result<HeaderBlock, AllocError>
     Ok(HeaderBlock::Unfinished)
 }
 
-/// Reads the header field of a line that isn't empty, or says what is wrong with it behind the fields before.
+/// Reads the header field of a line that isn't empty, or says what is wrong with it after the fields before.
 fn read_header(
     alloc: Global,
     before: &Headers,

@@ -17,7 +17,7 @@ pub enum Judged {
     Bad(Fault),
 }
 
-/// Judges a line behind header fields that announce this length.
+/// Judges a line after header fields that announce this length.
 pub fn judge_line(told: Option<u32>, line: &[u8]) -> Judged
     ensures { IsJudged told line.now result }
 {

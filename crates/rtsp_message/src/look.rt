@@ -54,7 +54,7 @@ fn look_first(store: &mut Store, from: usize) -> Look
     }
 }
 
-/// Tells what stands behind a dollar sign.
+/// Tells what stands after a dollar sign.
 fn look_frame_head(store: &mut Store, from: usize) -> Look
     requires start { from < length store.old.bytes }
     requires begins { BeginsFrame (drop from store.old.bytes) }

@@ -27,7 +27,7 @@ pub fn put_plain(out: &mut [u8; 128], status: Status, cseq: Option<u32>) -> usiz
     put_at(out, at, b"\r\n")
 }
 
-/// Writes bytes at a place, and answers the place behind them.
+/// Writes bytes at a place, and answers the place after them.
 fn put_at(out: &mut [u8], at: usize, bytes: &[u8]) -> usize
     requires { at + length bytes.now ≤ length out.old }
     ensures end { result ≡ at + length bytes.now }

@@ -19,7 +19,7 @@ use std::marker::Model;
 pub struct Fed {
     /// The units that are whole now, in their order.
     pub units: Vec<Unit>,
-    /// Why the stream can't be read on. It stands behind the units.
+    /// Why the stream can't be read on. It comes after the units.
     pub fault: Option<Fault>,
 }
 
@@ -54,9 +54,9 @@ struct Scan {
     units: Vec<Unit>,
     /// The bytes that the units take, and those between them.
     len: usize,
-    /// What is known of the bytes behind them.
+    /// What is known of the bytes after them.
     known: Known,
-    /// What is wrong with the bytes behind them.
+    /// What is wrong with the bytes after them.
     fault: Option<Fault>,
 }
 
@@ -148,7 +148,7 @@ impl Reader {
     }
 }
 
-/// Puts the piece behind what waits and reads on. What is refused leaves the store as it was.
+/// Puts the piece after what waits and reads on. What is refused leaves the store as it was.
 fn read_piece(
     alloc: Global,
     store: &mut Store,
@@ -173,7 +173,7 @@ fn read_piece(
     }
 }
 
-/// Reads units from the front of the store, and keeps what is behind them.
+/// Reads units from the front of the store, and keeps what comes after them.
 fn read_on(alloc: Global, store: &mut Store, known: Known) -> Result<Scan, AllocError>
     requires known { IsKnown store.old.bytes known }
     requires room { store.old.room ≤ 2 * length store.old.bytes }

@@ -38,7 +38,7 @@ impl Fields {
         }
     }
 
-    /// A copy of them. The only error is want of memory.
+    /// A copy of them. The only error is out of memory.
     pub fn copy(&self, alloc: Global) -> Result<Fields, AllocError>
         ensures { IfOk result (λ copied. copied ≡ self.now) }
     {
@@ -76,7 +76,7 @@ pub struct Reply {
 }
 
 impl Reply {
-    /// A copy of it. The only error is want of memory.
+    /// A copy of it. The only error is out of memory.
     pub fn copy(&self, alloc: Global) -> Result<Reply, AllocError>
         ensures { IfOk result (λ copied. copied ≡ self.now) }
     {

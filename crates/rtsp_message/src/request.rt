@@ -29,7 +29,7 @@ impl Request {
         header_value(&self.headers, name)
     }
 
-    /// A copy of it. The only error is want of memory.
+    /// A copy of it. The only error is out of memory.
     pub fn copy(&self, alloc: Global) -> Result<Request, AllocError>
         ensures { IfOk result (λ copied. copied ≡ self.now) }
     {

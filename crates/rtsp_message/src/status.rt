@@ -53,7 +53,7 @@ impl Status {
         }
     }
 
-    /// The words that stand behind the code.
+    /// The words that stand after the code.
     pub fn reason(self) -> &'static str
         ensures { result.now ≡ reason_of self }
     {

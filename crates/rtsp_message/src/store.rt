@@ -108,7 +108,7 @@ impl Store {
         &self.bytes[from..to]
     }
 
-    /// Puts a piece behind the bytes. Where these had no room for it, they get twice as much, so that bytes that come one
+    /// Puts a piece after the bytes. Where these had no room for it, they get twice as much, so that bytes that come one
     /// by one are moved a few times at most; the buffer before is handed out, for `take_back`.
     pub fn put(&mut self, piece: &[u8]) -> Result<Option<Vec<u8>>, AllocError>
         ensures bytes { OnOk result (self.new.bytes ≡ self.old.bytes ++ piece.now) }

@@ -40,7 +40,7 @@ not_zero n h = elim (eqb_tells n 0) [ inl same ↦ absurd (true_false (sym same.
 inside_by : (whole text : List ℕ) (lead : ℕ) → lead ≤ length whole → text ≡ drop lead whole → (length text == 0) ≡ false → lead < length whole
 inside_by whole text lead within text_is some = omega (arith, not_zero (length text) some, ap length text_is, length-drop lead whole)
 
--- what stands behind the first space has the words that stand behind the first word
+-- what stands after the first space has the words that stand after the first word
 rest_words : (text : List ℕ) (rest : Option (List ℕ)) → rest ≡ behind_first 32 text → words (unwrap_or rest []) ≡ words (drop (position_or_len is_space text) text)
 rest_words text rest is = elim (found_or_missing 32 text) [
   | inl r ↦
@@ -51,7 +51,7 @@ rest_words text rest is = elim (found_or_missing 32 text) [
   | inr r ↦ rw (is, r.none) (ap words (sym (drop_all (position_or_len is_space text) text (omega (arith, r.past)))))
 ]
 
--- the first word behind spaces
+-- the first word after spaces
 pub next_word_is : (whole text word : List ℕ) (rest : Option (List ℕ)) (lead : ℕ) → lead ≤ length whole → text ≡ drop lead whole → words (drop lead whole) ≡ words whole → (lead < length whole → (get_or whole lead 0 == 32) ≡ false)
     → (length text == 0) ≡ false → word ≡ before_first is_space text → rest ≡ behind_first 32 text → words whole ≡ word ∷ words (unwrap_or rest [])
 next_word_is whole text word rest lead within text_is same stops some word_is rest_is =

@@ -1,4 +1,4 @@
--- A line behind others has one fault.
+-- A line after others has one fault.
 use Rattle.std.proofs.Common.{◌≡◌, ℕ, ◌<◌, ◌&&◌, Bool, true, false, List, [], ◌∷◌, Option, None, Some, length, slice_index, refl, sym, ◌∙◌, arith, drop}
 use Rattle.std.specs.List.{list_all}
 use Rattle.std.proofs.lemmas.Bool.{and_parts}

@@ -48,7 +48,7 @@ line_more {after = after} {old = old} {new = new} p q kept good = record {
   good = good;
 }
 
--- the bytes behind the last LF
+-- the bytes after the last LF
 pub lines_end : {text rest : List ℕ} {old : Sections} (new : Sections) → SoFar text rest old → HasNoLf rest → announced new ≡ announced old ++ filter has_bytes (rest ∷ []) → AreLines text (announced new)
 lines_end {rest = rest} new p none kept = record {
   whole_lines = p.done;
@@ -108,7 +108,7 @@ bad_line {text} {rest} {line} {after} {fault} sections p q some wrong =
       wrong = wrong;
     }
 
--- the bytes behind the last LF are bad
+-- the bytes after the last LF are bad
 pub bad_last : {text rest : List ℕ} {fault : SdpFault} (sections : Sections) → SoFar text rest sections → HasNoLf rest → has_bytes rest ≡ true → IsFaultAfter sections rest fault → HasBadLine text fault
 bad_last {rest = rest} sections p none some wrong = record {
   before = sections;

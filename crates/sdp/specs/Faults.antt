@@ -1,4 +1,4 @@
--- When a line is wrong behind good ones, and by which fault. At most one holds.
+-- When a line is wrong after good ones, and by which fault. At most one holds.
 use Rattle.std.specs.Prelude.{◌≡◌, ◌≢◌, ◌<◌, ℕ, true, false, List, [], length, drop, codes}
 use Rattle.sdp.specs.declared.fault.SdpFault.{SdpFault}
 use Rattle.sdp.specs.declared.fault.SdpFault.TheVariants.{NoVersion, BadLine, UnknownLetter, BadMedia, NoMedia, TooManyTracks, OutOfMemory}
@@ -55,14 +55,14 @@ pub record NamesNothing (before : Sections) (line : List ℕ) : Type 0 where
   pub opens : OpensTrack before line
   pub nothing : (named : MediaLine) → ¬ IsMedia (drop 2 line) named
 
--- An `m=` line that names them behind sixteen tracks.
+-- An `m=` line that names them after sixteen tracks.
 pub record IsSeventeenth (before : Sections) (line : List ℕ) : Type 0 where
   pub opens : OpensTrack before line
   pub named : MediaLine
   pub names : IsMedia (drop 2 line) named
   pub sixteen : length before.tracks ≡ 16
 
--- what is wrong with a line behind these
+-- what is wrong with a line after these
 abbrev pub IsFaultAfter : Sections → List ℕ → SdpFault → Type 0
 IsFaultAfter before line NoVersion = LacksVersion before line
 IsFaultAfter before line BadLine = IsMalformed before line

@@ -3,7 +3,7 @@ use Rattle.std.specs.Prelude.{◌≡◌, ℕ, List, [], ◌∷◌, ◌++◌, map
 use Rattle.std.specs.List.{AllByRecursion, flat_map}
 use Rattle.base_syntax.specs.Lines.{HasNoLf, ended, said, has_bytes}
 
--- The lines of a text: those that an LF ends, each without the CR before it, and the bytes behind the last LF as
+-- The lines of a text: those that an LF ends, each without the CR before it, and the bytes after the last LF as
 -- they are. Empty ones don't count.
 pub record AreLines (text : List ℕ) (lines : List (List ℕ)) : Type 0 where
   pub whole_lines : List (List ℕ)

@@ -36,7 +36,7 @@ IsPort text = IsPortNumber text ⊎ ((port count : List ℕ) × (text ≡ port +
 abbrev pub HasBareEnd : List ℕ → Type 0
 HasBareEnd text = (0 < length text) × (is_blank (slice_index text (length text - 1)) ≡ false)
 
--- What stands behind `m=`: media, a port, the one protocol that this profile takes and one format or more, and spaces
+-- What stands after `m=`: media, a port, the one protocol that this profile takes and one format or more, and spaces
 -- and tabs at the end that don't count.
 pub record IsMedia (value : List ℕ) (named : MediaLine) : Type 0 where
   pub text : List ℕ

@@ -16,7 +16,7 @@ announced sections = sections.session ++ flat_map lines_of sections.tracks
 abbrev pub HasNoMedia : List (List ℕ) → Type 0
 HasNoMedia lines = AllByRecursion (λ line. is_media line ≡ false) lines
 
--- A track is an `m=` line, what that names, and the lines behind it up to the next `m=` line, with their control.
+-- A track is an `m=` line, what that names, and the lines after it up to the next `m=` line, with their control.
 pub record IsTrack (track : Track) : Type 0 where
   pub head : List ℕ
   pub others : List (List ℕ)

@@ -42,7 +42,7 @@ impl Description {
         })
     }
 
-    /// The same description once more, or want of memory. No line is copied: both hold the same ones.
+    /// The same description once more, or out of memory. No line is copied: both hold the same ones.
     pub fn copy(&self) -> Result<Description, AllocError>
         ensures { IfOk result (λ copied. copied ≡ self.now) }
     {

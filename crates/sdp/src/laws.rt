@@ -17,8 +17,8 @@ pub fn one_media()
     ensures named { (line : List ℕ) (named : MediaLine) → IsMedia (drop 2 line) named → media_of line ≡ Some named }
 {}
 
-/// A text reads in one way: as one list of sections, or it is refused for one fault, and never both. Want of memory
-/// stands apart, since it may refuse any text. A line behind others has one fault at most.
+/// A text reads in one way: as one list of sections, or it is refused for one fault, and never both. Running out of
+/// memory stands apart, since it may refuse any text. A line after others has one fault at most.
 pub fn one_reading()
     ensures sections { (text : List ℕ) (a b : Sections) → Reads text a → Reads text b → a ≡ b }
     ensures fault { (text : List ℕ) (f g : SdpFault) → f ≢ OutOfMemory → g ≢ OutOfMemory → IsRefused text f → IsRefused text g → f ≡ g }

@@ -22,7 +22,7 @@ fn is_count(count: Option<&[u8]>) -> bool
     }
 }
 
-/// Whether a text is a port, with a number of ports behind a slash or without.
+/// Whether a text is a port, with a number of ports after a slash or without.
 pub(crate) fn is_port(text: &[u8]) -> bool
     ensures { result ≡ is_good_port text.now }
 {

@@ -7,7 +7,7 @@ use crate::words::read_words;
 use base_syntax::{Bytes, Items};
 use std::alloc::{AllocError, Global};
 
-/// A track: an `m=` line and the lines behind it, up to the next one.
+/// A track: an `m=` line and the lines after it, up to the next one.
 #[derive(Drop)]
 pub struct Track {
     /// What is sent, as `audio` or `video`.

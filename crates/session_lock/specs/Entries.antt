@@ -23,7 +23,7 @@ pub record Written : Type 0 where
 abbrev pub AreNewest : (entries history : List Entry) → Type 0
 AreNewest entries history = take (length entries) history ≡ reverse entries
 
--- An entry is added, in room that was made for it, behind those that are kept, or behind a new base.
+-- An entry is added, in room that was made for it, after those that are kept, or after a new base.
 pub record Adds (next : Option Tables) (entry : Entry) (old new : Written) : Type 0 where
   pub history : new.history ≡ entry ∷ old.history
   pub cut : new.cut ≡ old.cut

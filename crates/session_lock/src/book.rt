@@ -132,7 +132,7 @@ impl<P: Drop> Book<P> {
     }
 
     /// Lets a connection come, and tells its number: from 1 on, and never used again. `Full` comes exactly where
-    /// `MAX_CONNECTIONS` are open or the numbers are used up, and want of memory only where they aren't; after an error
+    /// `MAX_CONNECTIONS` are open or the numbers are used up, and out of memory only where they aren't; after an error
     /// nothing has changed. Makes the room for its hang-up, and a new base where the kept entries are cut off.
     pub fn connect(&mut self) -> Result<u64, ConnectFault>
         ensures comes { IfOk result (λ conn. Comes self.old.history conn) }
@@ -186,7 +186,7 @@ impl<P: Drop> Book<P> {
     }
 
     /// Answers a request of an open connection. An ANNOUNCE comes with an offer of passes, one for each seat, and is given
-    /// them back unless it is accepted; a PLAY that takes a seat is handed its pass. The only error is want of memory, and
+    /// them back unless it is accepted; a PLAY that takes a seat is handed its pass. The only error is out of memory, and
     /// then nothing has changed: all copies, a new base where the kept entries are cut off, and all room are made before
     /// anything changes. Makes the room for the return of the seat.
     pub fn call(

@@ -64,7 +64,7 @@ fn answered(book: &mut Book<u16>, alloc: Global, conn: u64, text: &[u8]) -> Opti
     accepted(book, alloc, conn, text, offer)
 }
 
-/// The pass that was offered for a seat, behind the first one.
+/// The pass that was offered for a seat, after the first one.
 fn pass_of(first: u16, seat: usize) -> u16 {
     if seat == 0 {
         first

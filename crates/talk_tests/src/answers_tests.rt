@@ -111,14 +111,14 @@ const BAD_REQUEST: &[u8] = b"RTSP/1.0 400 Bad Request\r\n\r\n";
 
 const TOO_LARGE: &[u8] = b"RTSP/1.0 413 Request Entity Too Large\r\n\r\n";
 
-/// One text behind another.
+/// One text after another.
 fn joined(alloc: Global, first: &[u8], second: &[u8]) -> Result<Vec<u8>, Fail> {
     let mut bytes = Vec::from_slice(alloc, first)?;
     bytes.extend_from_slice(second)?;
     Ok(bytes)
 }
 
-/// The fault ends the talk, behind the answer to what came before it.
+/// The fault ends the talk, after the answer to what came before it.
 fn expect_fault(
     rt: &impl Abort,
     host: Host,

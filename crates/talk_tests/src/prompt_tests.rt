@@ -93,7 +93,7 @@ const ROWS: [Row; 4] = [
         end: TalkEnd::Done,
         reads: 4,
     },
-    // Behind a fault nothing is read.
+    // After a fault nothing is read.
     Row {
         pieces: [OPTIONS, OPTIONS, b"HELLO\r\n"],
         end: TalkEnd::StreamFault(Fault::BadLine),

@@ -153,7 +153,7 @@ fn taken(alloc: Global, seat: &mut Subscriber) -> Result<Vec<u8>, Fail> {
     Ok(bytes)
 }
 
-/// Whether a seat takes what comes while the session records, and nothing behind the connection's end.
+/// Whether a seat takes what comes while the session records, and nothing after the connection's end.
 fn are_taken(talker: &mut Talker, alloc: Global, seat: &mut Subscriber) -> Result<bool, Fail>
     requires { talker.old.book.seats ≡ 1 }
 {

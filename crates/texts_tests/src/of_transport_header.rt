@@ -54,7 +54,7 @@ fn with_session(alloc: Global, number: u32, word: u32) -> Result<Vec<u8>, Fail> 
     Ok(out)
 }
 
-/// Behind no entry, and behind one.
+/// After no entry, and after one.
 fn with_rtp_info(alloc: Global, entry: InfoEntry) -> Result<Vec<u8>, Fail> {
     let mut out = beginning(alloc)?;
     put_rtp_info(&mut out, &[])?;

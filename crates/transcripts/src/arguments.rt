@@ -1,4 +1,4 @@
-//! What stands behind a call's word.
+//! What stands after a call's word.
 ghost use Rattle.std.specs.Prelude.{◌≤◌, IfOk};
 
 use crate::escapes::{read_word, resolved};
@@ -6,14 +6,14 @@ use crate::fault::Fault;
 use base_syntax::{cut, read_number};
 use std::alloc::{AllocError, Global};
 
-/// The words behind a call's word, as far as they aren't taken, with a space between them.
+/// The words after a call's word, as far as they aren't taken, with a space between them.
 #[derive(Drop)]
 pub struct Arguments<'a> {
     rest: Option<&'a [u8]>,
 }
 
 impl<'a> Arguments<'a> {
-    /// What stands behind the space after a word, if there is one.
+    /// What follows the space after a word, if there is one.
     pub fn new(rest: Option<&'a [u8]>) -> Arguments<'a> {
         Arguments { rest }
     }

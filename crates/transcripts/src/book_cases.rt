@@ -49,7 +49,7 @@ const WORDS: [(&str, BookWord); 11] = [
 /// When a book cuts its entries off.
 #[derive(Clone, Copy, PartialEq, Drop)]
 pub enum Cutting {
-    /// Behind thousands.
+    /// After thousands.
     Seldom,
     /// Before each coming and each request that is accepted.
     Always,

@@ -24,7 +24,7 @@ fn put_told(report: &mut Vec<u8>, told: &Told) -> Result<(), AllocError> {
     put_lines(report, b"= ", &told.facts)
 }
 
-/// Writes lines, each behind a sign.
+/// Writes lines, each after a sign.
 fn put_lines(report: &mut Vec<u8>, sign: &[u8], text: &[u8]) -> Result<(), AllocError> {
     let lines = text.strip_suffix(b"\n").unwrap_or(text);
     if text.is_empty() {

@@ -39,7 +39,7 @@ pub fn resolved(alloc: Global, text: &[u8]) -> Result<Vec<u8>, Fault> {
     }
 }
 
-/// Adds what `N TEXT}` at the front of a text stands for, and answers what stands behind it.
+/// Adds what `N TEXT}` at the front of a text stands for, and answers what stands after it.
 fn resolve_repeated<'a>(out: &mut Vec<u8>, text: &'a [u8]) -> Result<&'a [u8], Fault> {
     let (repeated, Some(behind)) = cut(text, b'}') else {
         return Err(Fault::BadEscape);
@@ -70,7 +70,7 @@ fn resolved_bytes(alloc: Global, text: &[u8]) -> Result<Vec<u8>, Fault> {
     Ok(out)
 }
 
-/// Adds the byte that an escape stands for, without its backslash, and answers what stands behind it.
+/// Adds the byte that an escape stands for, without its backslash, and answers what stands after it.
 fn resolve_byte<'a>(out: &mut Vec<u8>, escape: &'a [u8]) -> Result<&'a [u8], Fault> {
     let (byte, behind) = match escape {
         [b't', behind @ ..] => (b'\t', behind),

@@ -18,15 +18,15 @@ pub enum Fault {
     BadEscape,
     /// A number that is missing, or isn't one, or is too large.
     BadNumber,
-    /// More stands behind a call than it takes.
+    /// More stands after a call than it takes.
     MoreArguments,
     /// What goes in of a kind that has no such input.
     NoInput,
-    /// What has to come out stands behind nothing that goes in.
+    /// Nothing goes in before what has to come out.
     NoStep,
     /// A connection is missing, or stands where there is none, or is another than the one before.
     BadConnection,
-    /// A line that has to come out stands behind `..`.
+    /// A line that has to come out stands after `..`.
     BehindRest,
     /// The input isn't exactly one message.
     NoMessage,

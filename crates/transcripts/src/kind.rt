@@ -50,7 +50,7 @@ impl Kind {
         None
     }
 
-    /// What stands behind a line that goes in or comes out.
+    /// What stands after a line that goes in or comes out.
     pub fn line_end(self) -> &'static [u8] {
         match self {
             Kind::Steps => b"\n",

@@ -110,7 +110,7 @@ impl Run {
         Ok(())
     }
 
-    /// Goes on with a case. Tells whether it goes on behind the line.
+    /// Goes on with a case. Tells whether it goes on after the line.
     fn go_on(&mut self, case: &mut Case, line: Line<'_>) -> Result<bool, Fault> {
         match line {
             Line::Input { from, text } => self.add_input(case, from, text)?,

@@ -15,7 +15,7 @@ const LONGEST_PIECE: usize = 7;
 /// A stream of at most so many bytes is cut in two at each place, and taken in.
 const MOST_CUT: usize = 4096;
 
-/// What is read of a stream: the units, as they are told, and what is wrong behind them.
+/// What is read of a stream: the units, as they are told, and what is wrong after them.
 #[derive(Drop)]
 struct Readout {
     units: Told,

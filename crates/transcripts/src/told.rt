@@ -6,7 +6,7 @@ use std::alloc::{AllocError, Global};
 #[derive(Drop)]
 pub struct Told {
     pub text: Vec<u8>,
-    /// The facts, an LF behind each.
+    /// The facts, an LF after each.
     pub facts: Vec<u8>,
 }
 
@@ -37,7 +37,7 @@ impl Told {
         Ok(())
     }
 
-    /// Tells a word, and what stands behind it, with a space between them where that is anything.
+    /// Tells a word, and what stands after it, with a space between them where that is anything.
     pub fn named(&mut self, word: &[u8], value: &[u8]) -> Result<(), AllocError> {
         self.facts.extend_from_slice(word)?;
         if !value.is_empty() {

@@ -101,7 +101,7 @@ fn tell_base(text: &[u8], told: &mut Told) -> Result<(), Fault> {
     Ok(())
 }
 
-/// Tells what a path says behind a mount's name.
+/// Tells what a path says after a mount's name.
 fn tell_rest(path: &[u8], name: &[u8], told: &mut Told) -> Result<(), Fault> {
     match rest_after(path, name) {
         None => told.fact(b"other")?,

@@ -39,7 +39,7 @@ channel_of digits = number_up_to 255 digits
 abbrev pub next_channel : ℕ → Option ℕ
 next_channel channel = cond (nat_lt channel 255) (Some (channel + 1)) None
 
--- the second channel: that of `interleaved=a-b`, where digits stand behind the dash, and the one after the first of
+-- the second channel: that of `interleaved=a-b`, where digits stand after the dash, and the one after the first of
 -- `interleaved=a`
 abbrev pub second_of : Option (List ℕ) → ℕ → Option ℕ
 second_of None first = next_channel first

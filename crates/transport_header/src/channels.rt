@@ -59,7 +59,7 @@ impl Channels {
         self.numbers[..self.count].contains(&channel)
     }
 
-    /// Puts a channel in, behind the others.
+    /// Puts a channel in, after the others.
     pub fn insert(&mut self, channel: u8)
         requires { length self.old < 32 }
         ensures { self.new ≡ self.old ++ channel ∷ [] }

@@ -104,7 +104,7 @@ fn write_transport(out: &mut Vec<u8>, chosen: &Chosen) -> Result<(), AllocError>
 }
 
 /// Appends the value of a reply's Transport header: `RTP/AVP/TCP;unicast;interleaved=A-B`, and
-/// `;mode="RECORD"` behind it where the session is to be recorded (RFC 2326, 12.39).
+/// `;mode="RECORD"` after it where the session is to be recorded (RFC 2326, 12.39).
 ///
 /// An error comes only where room for the text was missing and none was given; `out` is then as before.
 pub fn put_transport(out: &mut Vec<u8>, chosen: &Chosen) -> Result<(), AllocError>

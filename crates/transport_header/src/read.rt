@@ -50,7 +50,7 @@ fn read_spec(alloc: Global, text: &[u8]) -> Result<Spec, AllocError>
 /// double quotes into specs, and each spec at such semicolons into its transport and its parameters,
 /// without the spaces and tabs at their ends. Of a parameter that comes several times the first counts,
 /// names and the transport are read in any case, and unknown parameters are passed over
-/// (RFC 2326, 12.39). Any bytes are read; an error is want of memory.
+/// (RFC 2326, 12.39). Any bytes are read; the only error is out of memory.
 #[tactic(auto, unfolding(crate::specs::Transport::specs_of))]
 pub fn read_transport(alloc: Global, text: &[u8]) -> Result<Vec<Spec>, AllocError>
     ensures { IfOk result (λ specs. specs.items ≡ specs_of text.now) }

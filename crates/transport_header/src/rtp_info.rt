@@ -35,7 +35,7 @@ fn write_entry(out: &mut Vec<u8>, entry: &InfoEntry) -> Result<(), AllocError>
     out.extend_from_slice(number.format(entry.timestamp).as_bytes())
 }
 
-// Appends the text of the track at an index, behind a comma unless it is the first, or as much of it as
+// Appends the text of the track at an index, after a comma unless it is the first, or as much of it as
 // there was room for.
 fn write_item(out: &mut Vec<u8>, index: usize, entry: &InfoEntry) -> Result<(), AllocError>
     ensures text { OnOk result (out.new.items ≡ out.old.items ++ item_text index entry.now) }

@@ -3,7 +3,7 @@ use Rattle.std.specs.List.{suffix_len}
 use Rattle.base_syntax.specs.Blanks.{is_blank}
 use Rattle.base_syntax.proofs.blanks.trim_end.Given as goal
 
--- what stands behind the end is blank
+-- what stands after the end is blank
 abbrev pub invariant-loop-end : goal.invariant-loop-end
 invariant-loop-end l = record {
   within : l.end ≤ length l.text;

@@ -4,7 +4,7 @@ use Rattle.rtsp_message.specs.Knowns.{IsKnown, looks_for}
 use Rattle.rtsp_message.specs.Stream.{ReadsSoFar}
 use Rattle.rtsp_message.proofs.reader.read_units.Given as goal
 
--- the units so far, what is known of the bytes behind them, and the looks at both
+-- the units so far, what is known of the bytes after them, and the looks at both
 abbrev pub invariant-loop-len : goal.invariant-loop-len
 invariant-loop-len l =
     ReadsSoFar l.fn.store.bytes l.units.items l.len × IsKnown (drop l.len l.fn.store.bytes) l.known
