@@ -17,7 +17,9 @@ use transport_header::{Point, TrackChannels};
 /// it answers.
 ///
 /// `points` has a place for each track that is set up, which becomes the point of the last RTP packet
-/// published.
+/// published. They are told beside a feed that posts each point as soon as its packet is in the log
+/// (`Posting` of `relay_fanout`), since over any other feed, as in `talk`, the caller has them from
+/// here alone, all at once when this returns.
 pub fn relay_in<S: Source + Drop, F: Feed>(
     intake: &mut Intake<S>,
     feed: &mut F,
