@@ -17,8 +17,8 @@ use Rattle.session_state.specs.declared.method.Method.{Method}
 use Rattle.session_state.specs.declared.method.Method.TheVariants as methods
 use Rattle.session_state.specs.Methods.{is_announce, method_of}
 use Rattle.session_state.specs.History.{History, accepts_from}
-use Rattle.session_state.specs.declared.check.Check.{Check}
-use Rattle.session_state.specs.declared.check.Check.TheVariants.{HasCSeq, HasVersion, HasMethod, RequiresNothing, HasUri, HasItsSession, NamesAStream, FitsState, HasNoBody, AcceptsSdp, MayAnnounce, HasSdpType, IsDescription, HasFewTracks, HasRoomForMount, OwnsNoOther, NamesATrack, HasTransport, MayRecord, HasRoomForSession, IsForPlaying, IsForRecording, IsAggregate, HasFreeSeat}
+use Rattle.session_state.specs.declared.checks.Check.{Check}
+use Rattle.session_state.specs.declared.checks.Check.TheVariants.{HasCSeq, HasVersion, HasMethod, RequiresNothing, HasUri, HasItsSession, NamesAStream, FitsState, HasNoBody, AcceptsSdp, MayAnnounce, HasSdpType, IsDescription, HasFewTracks, HasRoomForMount, OwnsNoOther, NamesATrack, HasTransport, MayRecord, HasRoomForSession, IsForPlaying, IsForRecording, IsAggregate, HasFreeSeat}
 use Rattle.session_state.specs.Checks.{Asked, Passes, PassesAll, checks_of}
 use Rattle.session_state.specs.Legal.{IsAnswered, IsReplyOf}
 use Rattle.session_state.specs.Replies.{IsAccepted, status_of}

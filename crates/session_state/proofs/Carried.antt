@@ -16,9 +16,9 @@ use Rattle.mounts.proofs.Firsts.{found_all, found_passes}
 use Rattle.mounts.proofs.Sound.{sound_announced, sound_seat}
 use Rattle.session_state.specs.declared.act.Act.{Act}
 use Rattle.session_state.specs.declared.act.Act.TheVariants as acts
-use Rattle.session_state.specs.declared.change.Change.{Change}
-use Rattle.session_state.specs.declared.change.Change.TheVariants as changes
-use Rattle.session_state.specs.declared.check.Check.{Check}
+use Rattle.session_state.specs.declared.world.change.Change.{Change}
+use Rattle.session_state.specs.declared.world.change.Change.TheVariants as changes
+use Rattle.session_state.specs.declared.checks.Check.{Check}
 use Rattle.session_state.specs.declared.given.Given.{Given}
 use Rattle.session_state.specs.declared.entry.Entry.{Entry}
 use Rattle.session_state.specs.declared.entry.Entry.TheVariants.{Request}

@@ -1,9 +1,9 @@
 -- The checks of a request, one list after another.
 use Rattle.std.proofs.Common.{◌++◌, List, [], ◌∷◌, inl, inr}
-use Rattle.session_state.specs.declared.asking.Asking.{Asking}
-use Rattle.session_state.specs.declared.check.Check.{Check}
-use Rattle.session_state.specs.declared.refusal.Refusal.{Refusal}
-use Rattle.session_state.specs.declared.refusal.Refusal.TheVariants.{Fails, OutOfMemory}
+use Rattle.session_state.specs.declared.checks.asking.Asking.{Asking}
+use Rattle.session_state.specs.declared.checks.Check.{Check}
+use Rattle.session_state.specs.declared.checks.refusal.Refusal.{Refusal}
+use Rattle.session_state.specs.declared.checks.refusal.Refusal.TheVariants.{Fails, OutOfMemory}
 use Rattle.session_state.specs.Asking.{IsPassing, IsRefusedAt, asked_in}
 use Rattle.session_state.specs.Checks.{Asked, FailsFirst, PassesAll}
 

@@ -8,8 +8,8 @@ use Rattle.mounts.specs.declared.target.Target.{Target}
 use Rattle.mounts.specs.declared.uri.Uri.TheVariants.{At}
 use Rattle.mounts.specs.Mounts.{HasRoom}
 use Rattle.mounts.specs.Uri.{IsUri}
-use Rattle.session_state.specs.declared.asking.Asking.{Asking}
-use Rattle.session_state.specs.declared.check.Check.TheVariants.{MayAnnounce, HasFewTracks, HasRoomForMount, IsDescription}
+use Rattle.session_state.specs.declared.checks.asking.Asking.{Asking}
+use Rattle.session_state.specs.declared.checks.Check.TheVariants.{MayAnnounce, HasFewTracks, HasRoomForMount, IsDescription}
 use Rattle.session_state.specs.Asking.{IsPassing, IsRefusedAt, IsToldBy, asked_in, refusal_for}
 use Rattle.session_state.specs.Checks.{Asked, HasMountLeft, IsFreeName, Passes}
 use Rattle.session_state.specs.History.{History}

@@ -6,8 +6,8 @@ use Rattle.sdp.specs.Readings.{Reads}
 use Rattle.mounts.specs.declared.mount.Mount.{Mount}
 use Rattle.mounts.specs.declared.target.Target.{Target}
 use Rattle.mounts.specs.Mounts.{HasRoom}
-use Rattle.session_state.specs.declared.asking.Asking.{Asking}
-use Rattle.session_state.specs.declared.check.Check.TheVariants.{FitsState, HasFewTracks, HasRoomForSession, IsDescription, MayAnnounce, NamesAStream}
+use Rattle.session_state.specs.declared.checks.asking.Asking.{Asking}
+use Rattle.session_state.specs.declared.checks.Check.TheVariants.{FitsState, HasFewTracks, HasRoomForSession, IsDescription, MayAnnounce, NamesAStream}
 use Rattle.session_state.specs.declared.method.Method.TheVariants.{Announce, Describe, Setup}
 use Rattle.session_state.specs.Asking.{IsNamedForSetup, IsPassing, asked_in}
 use Rattle.session_state.specs.Checks.{IsFreeName, NamesMount}

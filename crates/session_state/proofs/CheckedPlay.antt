@@ -8,8 +8,8 @@ use Rattle.mounts.specs.declared.target.Target.{Target}
 use Rattle.mounts.specs.Mounts.{numbered}
 use Rattle.mounts.proofs.Firsts.{found_all}
 use Rattle.mounts.proofs.FreeSeats.{some_free}
-use Rattle.session_state.specs.declared.asking.Asking.{Asking}
-use Rattle.session_state.specs.declared.check.Check.TheVariants.{HasFreeSeat, IsAggregate}
+use Rattle.session_state.specs.declared.checks.asking.Asking.{Asking}
+use Rattle.session_state.specs.declared.checks.Check.TheVariants.{HasFreeSeat, IsAggregate}
 use Rattle.session_state.specs.declared.session.Session.{Session}
 use Rattle.session_state.specs.declared.session.State.TheVariants.{Ready}
 use Rattle.session_state.specs.Asking.{IsNamedInSession, IsToldBy, asked_in}

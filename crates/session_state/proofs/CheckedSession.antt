@@ -16,7 +16,7 @@ use Rattle.mounts.specs.Uri.{IsUri}
 use Rattle.mounts.proofs.Controls.{control_injective}
 use Rattle.mounts.proofs.Firsts.{found_all}
 use Rattle.mounts.proofs.OneAnswer.{one_rest, one_track}
-use Rattle.session_state.specs.declared.asking.Asking.{Asking}
+use Rattle.session_state.specs.declared.checks.asking.Asking.{Asking}
 use Rattle.session_state.specs.declared.method.Method.{Method}
 use Rattle.session_state.specs.declared.method.Method.TheVariants.{Options, Describe, Announce, Setup, Play, Pause, Record, Teardown, GetParameter}
 use Rattle.session_state.specs.declared.session.Session.{Session}

@@ -8,7 +8,7 @@ use Rattle.mounts.specs.Mounts.{numbered}
 use Rattle.mounts.specs.Tracks.{IsNamedBy}
 use Rattle.mounts.specs.Uri.{IsUri}
 use Rattle.mounts.proofs.Firsts.{found_passes}
-use Rattle.session_state.specs.declared.asking.Asking.{Asking}
+use Rattle.session_state.specs.declared.checks.asking.Asking.{Asking}
 use Rattle.session_state.specs.declared.method.Method.TheVariants.{Setup}
 use Rattle.session_state.specs.declared.session.Session.{Session}
 use Rattle.session_state.specs.Asking.{IsNamedForSetup, IsTrackBehind, asked_in}

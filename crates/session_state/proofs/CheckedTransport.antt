@@ -11,10 +11,10 @@ use Rattle.mounts.specs.declared.mount.Mount.{Mount}
 use Rattle.mounts.specs.declared.target.Target.{Target}
 use Rattle.mounts.specs.Mounts.{numbered, owned_by}
 use Rattle.mounts.specs.Tracks.{IsNamedBy}
-use Rattle.session_state.specs.declared.asking.Asking.{Asking}
-use Rattle.session_state.specs.declared.check.Check.TheVariants.{HasTransport, MayRecord, NamesATrack, OwnsNoOther}
-use Rattle.session_state.specs.declared.refusal.Refusal.TheVariants.{Fails}
-use Rattle.session_state.specs.declared.setting_up.Delivery.{Delivery}
+use Rattle.session_state.specs.declared.checks.asking.Asking.{Asking}
+use Rattle.session_state.specs.declared.checks.Check.TheVariants.{HasTransport, MayRecord, NamesATrack, OwnsNoOther}
+use Rattle.session_state.specs.declared.checks.refusal.Refusal.TheVariants.{Fails}
+use Rattle.session_state.specs.declared.checks.setup.Delivery.{Delivery}
 use Rattle.session_state.specs.Asking.{IsDelivery, IsNamedForSetup, IsPassing, IsRefusedAt, IsTheTrack, IsTrackBehind, asked_in}
 use Rattle.session_state.specs.Checks.{AsksFor, Asked, NamesForSetup, Passes, field}
 use Rattle.session_state.specs.History.{History}

@@ -5,12 +5,12 @@ use Rattle.rtsp_message.specs.declared.request.Request as messages
 use Rattle.mounts.specs.declared.mount.Mount.{Mount}
 use Rattle.mounts.specs.Mounts.{Table, numbered}
 use Rattle.mounts.proofs.Firsts.{found_all}
-use Rattle.session_state.specs.declared.accepted.Accepted.{Accepted}
-use Rattle.session_state.specs.declared.asking.Asking.{Asking}
-use Rattle.session_state.specs.declared.check.Check.{Check}
+use Rattle.session_state.specs.declared.checks.accepted.Accepted.{Accepted}
+use Rattle.session_state.specs.declared.checks.asking.Asking.{Asking}
+use Rattle.session_state.specs.declared.checks.Check.{Check}
 use Rattle.session_state.specs.declared.entry.Entry.{Entry}
-use Rattle.session_state.specs.declared.refusal.Refusal.{Refusal}
-use Rattle.session_state.specs.declared.refusal.Refusal.TheVariants.{Fails}
+use Rattle.session_state.specs.declared.checks.refusal.Refusal.{Refusal}
+use Rattle.session_state.specs.declared.checks.refusal.Refusal.TheVariants.{Fails}
 use Rattle.session_state.specs.declared.session.Session.{Session}
 use Rattle.session_state.specs.Asking.{IsChecked, IsRefusedAt, IsToldBy, asked_in}
 use Rattle.session_state.specs.Checks.{Asked, FailsFirst, checks_of}

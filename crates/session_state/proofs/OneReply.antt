@@ -20,7 +20,7 @@ use Rattle.mounts.proofs.Controls.{control_injective}
 use Rattle.mounts.proofs.Firsts.{found_all}
 use Rattle.mounts.proofs.OneAnswer.{named_once, one_rest, one_uri}
 use Rattle.session_state.specs.declared.act.Act.{Act}
-use Rattle.session_state.specs.declared.check.Check.{Check}
+use Rattle.session_state.specs.declared.checks.Check.{Check}
 use Rattle.session_state.specs.declared.given.Given.{Given}
 use Rattle.session_state.specs.declared.method.Method.{Method}
 use Rattle.session_state.specs.declared.method.Method.TheVariants as methods

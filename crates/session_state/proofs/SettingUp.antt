@@ -12,9 +12,9 @@ use Rattle.transport_header.specs.Session.{identifier_text}
 use Rattle.transport_header.specs.Tracks.{IsOfOther}
 use Rattle.mounts.specs.declared.mount.Mount.{Mount}
 use Rattle.mounts.specs.Mounts.{numbered}
-use Rattle.session_state.specs.declared.accepted.Accepted.TheVariants as found
-use Rattle.session_state.specs.declared.change.Change.{Change}
-use Rattle.session_state.specs.declared.change.Change.TheVariants as changes
+use Rattle.session_state.specs.declared.checks.accepted.Accepted.TheVariants as found
+use Rattle.session_state.specs.declared.world.change.Change.{Change}
+use Rattle.session_state.specs.declared.world.change.Change.TheVariants as changes
 use Rattle.session_state.specs.declared.given.Given.{Given}
 use Rattle.session_state.specs.declared.session.Session.{Session}
 use Rattle.session_state.specs.declared.session.State.TheVariants.{Ready}

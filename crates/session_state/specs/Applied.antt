@@ -4,8 +4,8 @@ use Rattle.std.specs.Option.{option_map}
 use Rattle.mounts.specs.Mounts.{IsSeat, announced, owned_by}
 use Rattle.session_state.specs.declared.act.Act.{Act}
 use Rattle.session_state.specs.declared.act.Act.TheVariants as acts
-use Rattle.session_state.specs.declared.change.Change.{Change}
-use Rattle.session_state.specs.declared.change.Change.TheVariants as changes
+use Rattle.session_state.specs.declared.world.change.Change.{Change}
+use Rattle.session_state.specs.declared.world.change.Change.TheVariants as changes
 use Rattle.session_state.specs.declared.session.Session.{Session}
 use Rattle.session_state.specs.declared.session.State.TheVariants.{Ready, Recording}
 use Rattle.session_state.specs.Checks.{state_in}

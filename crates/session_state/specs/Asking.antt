@@ -13,18 +13,18 @@ use Rattle.mounts.specs.declared.mount.Mount.{Mount}
 use Rattle.mounts.specs.declared.target.Target.{Target}
 use Rattle.mounts.specs.Mounts.{numbered}
 use Rattle.mounts.specs.Tracks.{IsNamedBy}
-use Rattle.session_state.specs.declared.asking.Asking.{Asking}
-use Rattle.session_state.specs.declared.check.Check.{Check}
-use Rattle.session_state.specs.declared.check.Check.TheVariants.{HasFewTracks, IsDescription, RequiresNothing, HasUri, HasItsSession, NamesAStream, FitsState}
+use Rattle.session_state.specs.declared.checks.asking.Asking.{Asking}
+use Rattle.session_state.specs.declared.checks.Check.{Check}
+use Rattle.session_state.specs.declared.checks.Check.TheVariants.{HasFewTracks, IsDescription, RequiresNothing, HasUri, HasItsSession, NamesAStream, FitsState}
 use Rattle.session_state.specs.declared.method.Method.{Method}
 use Rattle.session_state.specs.declared.method.Method.TheVariants.{Play, Record, Pause, Teardown}
-use Rattle.session_state.specs.declared.refusal.Refusal.{Refusal}
-use Rattle.session_state.specs.declared.refusal.Refusal.TheVariants.{Fails, OutOfMemory}
+use Rattle.session_state.specs.declared.checks.refusal.Refusal.{Refusal}
+use Rattle.session_state.specs.declared.checks.refusal.Refusal.TheVariants.{Fails, OutOfMemory}
 use Rattle.session_state.specs.declared.session.Session.{Session}
-use Rattle.session_state.specs.declared.setting_up.Delivery.{Delivery}
+use Rattle.session_state.specs.declared.checks.setup.Delivery.{Delivery}
 use Rattle.session_state.specs.Judged.{Finds, HasPlaceFor, IsFine, method_in}
-use Rattle.session_state.specs.declared.accepted.Accepted.{Accepted}
-use Rattle.session_state.specs.declared.accepted.Accepted.TheVariants as found
+use Rattle.session_state.specs.declared.checks.accepted.Accepted.{Accepted}
+use Rattle.session_state.specs.declared.checks.accepted.Accepted.TheVariants as found
 use Rattle.session_state.specs.Methods.{is_announce}
 use Rattle.session_state.specs.History.{History, accepts, how_many}
 use Rattle.session_state.specs.Lookups.{sessions_begun}

@@ -1,5 +1,10 @@
 -- What a request is checked for, in order: the first check that it doesn't pass decides how it is refused (RFC 2326, 10, 11.3
--- and 12).
+-- and 12). The order is defined here, by `checks_of`; `later_checks` in `Asking` is the part of it after HasMethod.
+--
+-- The files of `src/checks` make the checks: `any_request` those up to HasUri, `session_and_state` HasItsSession and FitsState,
+-- `named_mount` (DESCRIBE and SETUP) and `named_session` (PLAY, RECORD, PAUSE and TEARDOWN) NamesAStream, and of a method's own
+-- `announce` those of ANNOUNCE, `setup` those of SETUP, `playing` those of PLAY, RECORD, PAUSE and TEARDOWN, and `by_method`
+-- the others. `by_method` puts all of them in this order.
 use Rattle.std.specs.Prelude.{◌≡◌, ℕ, ◌-◌, ◌^◌, ◌<◌, ◌==◌, Bool, true, false, List, [], ◌∷◌, ◌⊎◌, length, Option, None, Some, IsSome, codes}
 use Rattle.rtsp_message.specs.declared.request.Request as messages
 use Rattle.rtsp_message.specs.Headers.{value_of}
@@ -21,8 +26,8 @@ use Rattle.mounts.specs.Mounts.{named, numbered, owned_by}
 use Rattle.mounts.specs.Names.{EndsInTrack, GoesOn, IsName}
 use Rattle.mounts.specs.Tracks.{IsNamedBy, IsNamedByOwner}
 use Rattle.mounts.specs.Uri.{IsUri}
-use Rattle.session_state.specs.declared.check.Check.{Check}
-use Rattle.session_state.specs.declared.check.Check.TheVariants.{HasCSeq, HasVersion, HasMethod, RequiresNothing, HasUri, HasItsSession, NamesAStream, FitsState, HasNoBody, AcceptsSdp, MayAnnounce, HasSdpType, IsDescription, HasFewTracks, HasRoomForMount, OwnsNoOther, NamesATrack, HasTransport, MayRecord, HasRoomForSession, IsForPlaying, IsForRecording, IsAggregate, HasFreeSeat}
+use Rattle.session_state.specs.declared.checks.Check.{Check}
+use Rattle.session_state.specs.declared.checks.Check.TheVariants.{HasCSeq, HasVersion, HasMethod, RequiresNothing, HasUri, HasItsSession, NamesAStream, FitsState, HasNoBody, AcceptsSdp, MayAnnounce, HasSdpType, IsDescription, HasFewTracks, HasRoomForMount, OwnsNoOther, NamesATrack, HasTransport, MayRecord, HasRoomForSession, IsForPlaying, IsForRecording, IsAggregate, HasFreeSeat}
 use Rattle.session_state.specs.declared.method.Method.{Method}
 use Rattle.session_state.specs.declared.method.Method.TheVariants.{Options, Describe, Announce, Setup, Play, Pause, Record, Teardown, GetParameter}
 use Rattle.session_state.specs.declared.session.Session.{Session}

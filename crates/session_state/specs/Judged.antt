@@ -19,12 +19,12 @@ use Rattle.mounts.specs.declared.uri.Uri.TheVariants.{At}
 use Rattle.mounts.specs.Mounts.{HasRoom, Table, named, numbered, owned_by}
 use Rattle.mounts.specs.Names.{EndsInTrack, IsName}
 use Rattle.mounts.specs.Uri.{IsUri}
-use Rattle.session_state.specs.declared.accepted.Accepted.{Accepted}
-use Rattle.session_state.specs.declared.accepted.Accepted.TheVariants as found
+use Rattle.session_state.specs.declared.checks.accepted.Accepted.{Accepted}
+use Rattle.session_state.specs.declared.checks.accepted.Accepted.TheVariants as found
 use Rattle.session_state.specs.declared.act.Act.{Act}
 use Rattle.session_state.specs.declared.act.Act.TheVariants as acts
-use Rattle.session_state.specs.declared.change.Change.{Change}
-use Rattle.session_state.specs.declared.change.Change.TheVariants as changes
+use Rattle.session_state.specs.declared.world.change.Change.{Change}
+use Rattle.session_state.specs.declared.world.change.Change.TheVariants as changes
 use Rattle.session_state.specs.declared.given.Given.{Given}
 use Rattle.session_state.specs.declared.method.Method.{Method}
 use Rattle.session_state.specs.declared.method.Method.TheVariants as methods

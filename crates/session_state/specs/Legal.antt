@@ -9,7 +9,7 @@ use Rattle.session_state.specs.declared.act.Act.TheVariants as acts
 use Rattle.session_state.specs.declared.given.Given.{Given}
 use Rattle.session_state.specs.declared.entry.Entry.{Entry}
 use Rattle.session_state.specs.declared.entry.Entry.TheVariants.{Connect, Request, HangUp, Back}
-use Rattle.session_state.specs.declared.check.Check.{Check}
+use Rattle.session_state.specs.declared.checks.Check.{Check}
 use Rattle.session_state.specs.declared.method.Method.{Method}
 use Rattle.session_state.specs.declared.session.Session.{Session}
 use Rattle.session_state.specs.Methods.{method_of}

@@ -24,8 +24,8 @@ use Rattle.mounts.specs.Uri.{resource_text}
 use Rattle.session_state.specs.declared.act.Act.{Act}
 use Rattle.session_state.specs.declared.act.Act.TheVariants as acts
 use Rattle.session_state.specs.declared.given.Given.{Given}
-use Rattle.session_state.specs.declared.check.Check.{Check}
-use Rattle.session_state.specs.declared.check.Check.TheVariants.{HasCSeq, HasVersion, HasMethod, RequiresNothing, HasUri, HasItsSession, NamesAStream, FitsState, HasNoBody, AcceptsSdp, MayAnnounce, HasSdpType, IsDescription, HasFewTracks, HasRoomForMount, OwnsNoOther, NamesATrack, HasTransport, MayRecord, HasRoomForSession, IsForPlaying, IsForRecording, IsAggregate, HasFreeSeat}
+use Rattle.session_state.specs.declared.checks.Check.{Check}
+use Rattle.session_state.specs.declared.checks.Check.TheVariants.{HasCSeq, HasVersion, HasMethod, RequiresNothing, HasUri, HasItsSession, NamesAStream, FitsState, HasNoBody, AcceptsSdp, MayAnnounce, HasSdpType, IsDescription, HasFewTracks, HasRoomForMount, OwnsNoOther, NamesATrack, HasTransport, MayRecord, HasRoomForSession, IsForPlaying, IsForRecording, IsAggregate, HasFreeSeat}
 use Rattle.session_state.specs.declared.method.Method.{Method}
 use Rattle.session_state.specs.declared.method.Method.TheVariants as methods
 use Rattle.session_state.specs.declared.session.Session.{Session}

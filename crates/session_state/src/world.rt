@@ -1,11 +1,17 @@
-//! What a server remembers to decide.
+//! What a server remembers to decide, and the calls that decide: `judging` finds the answer, of what `checks` and `replies`
+//! say, with its `change`, and `applying` carries that out.
 ghost use Rattle.std.specs.Prelude.{◌≡◌, ◌≤◌, ◌<◌, ◌+◌, ◌^◌, ◌∷◌, [], true, false, length, MatchBool, IfOk, OnErr, IfErr, List};
+
+mod applying;
+mod change;
+mod judging;
 
 use crate::act::Act;
 use crate::decision::Decision;
 use crate::fault::ConnectFault;
 use crate::given::Given;
 use crate::session::{Session, State, copy_session};
+pub(crate) use change::Change;
 use mounts::Mounts;
 use rtsp_message::{Reply, Request};
 use std::alloc::{AllocError, Global};

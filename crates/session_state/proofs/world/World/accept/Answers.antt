@@ -6,9 +6,9 @@ use Rattle.std.proofs.lemmas.List.Folds.{find_at}
 use Rattle.mounts.specs.declared.mount.Mount.{Mount}
 use Rattle.mounts.specs.Mounts.{IsSound, Table, named, numbered}
 use Rattle.mounts.proofs.Differing.{find_one, unequal}
-use Rattle.session_state.specs.declared.accepted.Accepted.{Accepted}
-use Rattle.session_state.specs.declared.accepted.Accepted.TheVariants as found
-use Rattle.session_state.specs.declared.change.Change.TheVariants as changes
+use Rattle.session_state.specs.declared.checks.accepted.Accepted.{Accepted}
+use Rattle.session_state.specs.declared.checks.accepted.Accepted.TheVariants as found
+use Rattle.session_state.specs.declared.world.change.Change.TheVariants as changes
 use Rattle.session_state.specs.Judged.{Finds, IsAcceptedWith, asked_of, method_in}
 use Rattle.session_state.proofs.world.World.accept.Goals as goal
 

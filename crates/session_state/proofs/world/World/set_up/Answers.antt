@@ -1,7 +1,7 @@
 use Rattle.std.proofs.Common.{◌==◌, ◌+◌, ap, sym, subst, ◌∙◌}
 use Rattle.std.specs.Option.{option_copied}
 use Rattle.mounts.specs.Mounts.{numbered}
-use Rattle.session_state.specs.declared.accepted.Accepted.TheVariants as found
+use Rattle.session_state.specs.declared.checks.accepted.Accepted.TheVariants as found
 use Rattle.session_state.specs.History.{History}
 use Rattle.session_state.specs.Judged.{Finds, GivesFirst, GivesMore, SetsUpBy, asked_of}
 use Rattle.session_state.specs.Stands.{Stands, Tables}
