@@ -24,16 +24,16 @@ fails_later asked (x ∷ xs) ys check p h = inr (p.0, fails_later asked xs ys ch
 pub passing_both : (asking : Asking) (xs ys : List Check) → IsPassing asking xs → IsPassing asking ys → IsPassing asking (xs ++ ys)
 passing_both asking xs ys p q = λ history told. passes_both (asked_in asking history) xs ys (p history told) (q history told)
 
--- a request that some checks refuse is refused however many come behind them
+-- a request that some checks refuse is refused however many come after them
 pub refused_before : (asking : Asking) (xs ys : List Check) (refusal : Refusal) → IsRefusedAt asking xs refusal → IsRefusedAt asking (xs ++ ys) refusal
 refused_before asking xs ys (Fails check) h = λ history told. fails_before (asked_in asking history) xs ys check (h history told)
 refused_before asking xs ys OutOfMemory h = tt
 
--- and one that passes some and is refused by those behind them is refused by all
+-- and one that passes some and is refused by those after them is refused by all
 pub refused_later : (asking : Asking) (xs ys : List Check) (refusal : Refusal) → IsPassing asking xs → IsRefusedAt asking ys refusal → IsRefusedAt asking (xs ++ ys) refusal
 refused_later asking xs ys (Fails check) p h = λ history told. fails_later (asked_in asking history) xs ys check (p history told) (h history told)
 refused_later asking xs ys OutOfMemory p h = tt
 
--- one that passes some and is refused by the next is refused however many come behind
+-- one that passes some and is refused by the next is refused however many come after
 pub refused_within : (asking : Asking) (xs ys zs : List Check) (refusal : Refusal) → IsPassing asking xs → IsRefusedAt asking ys refusal → IsRefusedAt asking (xs ++ (ys ++ zs)) refusal
 refused_within asking xs ys zs refusal p h = refused_later asking xs (ys ++ zs) refusal p (refused_before asking ys zs refusal h)

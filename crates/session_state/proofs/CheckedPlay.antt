@@ -1,4 +1,4 @@
--- What the checks of a PLAY, RECORD, PAUSE or TEARDOWN tell behind what it names.
+-- What the checks of a PLAY, RECORD, PAUSE or TEARDOWN tell after that of what it names.
 use Rattle.std.proofs.Common.{◌≡◌, ◌<◌, ◌==◌, ℕ, zero, suc, Bool, true, false, not, List, [], ◌∷◌, length, slice_get, get_or, count_by, Some, IsSome, refl, sym, ap, subst, ◌∙◌, arith}
 use Rattle.std.specs.Option.{option_copied}
 use Rattle.std.proofs.lemmas.Option.{slice_get-get_or}

@@ -1,4 +1,4 @@
--- What the checks of a SETUP tell behind what it names.
+-- What the checks of a SETUP tell after that of what it names.
 use Rattle.std.proofs.Common.{◌≡◌, ◌++◌, ◌==◌, ◌<◌, ◌≤◌, ℕ, suc, Bool, true, false, List, [], ◌∷◌, length, Option, None, Some, All, inl, inr, refl, sym, ap, subst, ◌∙◌, arith, codes}
 use Rattle.std.proofs.lemmas.Option.{slice_get_within}
 use Rattle.sdp.specs.declared.track.Track.{Track}

@@ -8,7 +8,7 @@ module _ (info : ℕ → List InfoEntry) where
   next : (track : ℕ) → track < 16 → infos info track (16 - track) ≡ info track ++ infos info (track + 1) (16 - (track + 1))
   next track low = let left : 16 - track ≡ suc (16 - (track + 1)) = omega (arith, low) in ap (infos info track) left
 
-  -- what was gathered up to a track, and what comes behind it, is all
+  -- what was gathered up to a track, and what comes after it, is all
   abbrev pub Gathered : List InfoEntry → (track : ℕ) → Type 0
   Gathered entries track = infos info 0 16 ≡ entries ++ infos info track (16 - track)
 

@@ -53,12 +53,12 @@ pub record IsToldBy (history : History) (asking : Asking) : Type 0 where
 abbrev pub IsPassing : Asking → List Check → Type 0
 IsPassing asking checks = (history : History) → IsToldBy history asking → PassesAll (asked_in asking history) checks
 
--- a request is refused by these checks, whatever history tells what is known for it; memory may be wanting at any
+-- a request is refused by these checks, whatever history tells what is known for it; memory may run out at any
 abbrev pub IsRefusedAt : Asking → List Check → Refusal → Type 0
 IsRefusedAt asking checks (Fails check) = (history : History) → IsToldBy history asking → FailsFirst (asked_in asking history) checks check
 IsRefusedAt asking checks OutOfMemory = Unit {0}
 
--- the track that stands behind a mount's name in a path, if anything does
+-- the track that stands after a mount's name in a path, if anything does
 abbrev pub IsTrackBehind : (conn : ℕ) → Target → Mount → (rest : Option (List ℕ)) → (track : Option ℕ) → Type 0
 IsTrackBehind conn target mount None track = track ≡ None
 IsTrackBehind conn target mount (Some rest) None = ⊥
@@ -117,7 +117,7 @@ pub record IsDelivery (asking : Asking) (delivery : Delivery) : Type 0 where
   pub first : IsFirstAcceptable delivery.specs spec
   pub records : delivery.recording ≡ true ↔ (spec.mode ≡ modes.Record)
 
--- the checks of a request of a method, behind those of any request
+-- the checks of a request whose method is known, after those that find the method
 abbrev pub later_checks : Method → List Check
 later_checks method = RequiresNothing ∷ HasUri method ∷ HasItsSession method ∷ NamesAStream method ∷ FitsState method ∷ own_checks method
 

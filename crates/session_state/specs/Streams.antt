@@ -79,7 +79,7 @@ pub record AreLive (seats : ℕ) (history : History) (mounts : List Mount) : Typ
 abbrev pub IsOwnMount : List Mount → (conn : ℕ) → (path : List ℕ) → (number : ℕ) → (rest : Option (List ℕ)) → Type 0
 IsOwnMount mounts conn path number rest = (own : Mount) × (owned_by conn mounts ≡ Some own) × GoesOn path own.name rest × (own.number ≡ number)
 
--- the mount that a SETUP names, and what its path says behind the name: the connection's own, else the one that the path
+-- the mount that a SETUP names, and what its path says after the name: the connection's own, else the one that the path
 -- finds
 abbrev pub IsSetUpOn : List Mount → (conn : ℕ) → (path : List ℕ) → (number : ℕ) → (rest : Option (List ℕ)) → Type 0
 IsSetUpOn mounts conn path number rest =

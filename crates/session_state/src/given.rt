@@ -17,7 +17,7 @@ pub struct Given {
 impl Given {
     ghost use Rattle.std.specs.Prelude.{◌≡◌, IfOk};
 
-    /// A copy, or want of memory.
+    /// A copy, or out of memory.
     pub fn copy(&self, alloc: Global) -> Result<Given, AllocError>
         ensures { IfOk result (λ copied. copied ≡ self.now) }
     {

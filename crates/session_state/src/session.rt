@@ -33,7 +33,7 @@ pub struct Session {
 }
 
 impl Session {
-    /// A copy, or want of memory.
+    /// A copy, or out of memory.
     fn copy(&self, alloc: Global) -> Result<Session, AllocError>
         ensures { IfOk result (λ copied. copied ≡ self.now) }
     {

@@ -68,7 +68,7 @@ impl World {
         }
     }
 
-    /// A copy, or want of memory: of at most `MAX_CONNECTIONS` sessions and of the table of mounts, whose descriptions are
+    /// A copy, or out of memory: of at most `MAX_CONNECTIONS` sessions and of the table of mounts, whose descriptions are
     /// shared.
     pub fn copy(&self, alloc: Global) -> Result<World, AllocError>
         ensures { IfOk result (λ copied. copied ≡ self.now) }
@@ -113,7 +113,7 @@ impl World {
     }
 
     /// Lets a connection come, and tells its number: from 1 on, and never used again. `Full` comes exactly where
-    /// `MAX_CONNECTIONS` are open or the numbers are used up, and want of memory only where they aren't; after an error
+    /// `MAX_CONNECTIONS` are open or the numbers are used up, and `OutOfMemory` only where they aren't; after an error
     /// nothing has changed.
     pub fn connect(&mut self) -> Result<u64, ConnectFault>
         ensures ok { IfOk result (λ conn. (history : History) → IsLegal self.old.mounts.seats history → Stands history self.old
@@ -137,7 +137,7 @@ impl World {
     /// two counts: of the sessions that have begun and of the mounts that were announced. At nothing else that has happened, and
     /// never at another connection's session. It takes memory for what the URI names, unless that is `*`, for an identifier where
     /// there is a Session field, for the specs of a Transport field and for the reply: of a DESCRIBE with one copy of a
-    /// description; and an ANNOUNCE reads its body into one. The only error is want of memory, and then nothing has changed.
+    /// description; and an ANNOUNCE reads its body into one. The only error is out of memory, and then nothing has changed.
     pub fn decide(
         &mut self,
         alloc: Global,

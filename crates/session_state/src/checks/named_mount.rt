@@ -41,7 +41,7 @@ impl<'a> Asking<'a> {
         }
     }
 
-    /// The mount that the path of a SETUP names, by its number, and what the path says behind its name: the connection's own
+    /// The mount that the path of a SETUP names, by its number, and what the path says after its name: the connection's own
     /// mount, else the one that the path finds.
     fn set_up_on<'b>(&self, path: &'b [u8]) -> Option<(u64, Option<&'b [u8]>)>
         ensures { MatchOption result

@@ -25,7 +25,7 @@ pub(crate) struct SessionNames<'a> {
     pub track: Option<usize>,
 }
 
-/// What stands in a path behind a name and a slash.
+/// What stands in a path after a name and a slash.
 fn rest_behind<'a>(path: &'a [u8], name: &[u8]) -> Option<&'a [u8]>
     ensures { MatchOption result ((rest : List ℕ) → GoesOn path.now name.now (Some rest) → ⊥) (λ rest. GoesOn path.now name.now (Some rest.now)) }
 {

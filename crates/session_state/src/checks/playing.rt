@@ -1,4 +1,4 @@
-//! The checks of a PLAY, RECORD, PAUSE or TEARDOWN behind what it names.
+//! The checks of a PLAY, RECORD, PAUSE or TEARDOWN after that of what it names.
 ghost use Rattle.std.specs.Prelude.{◌≡◌, ◌∷◌, [], ℕ, Some, IsSome, true, IfOk, MatchBool, MatchResult};
 ghost use Rattle.std.specs.Option.{option_copied};
 ghost use Rattle.transport_header.specs.Tracks.{pair_at};

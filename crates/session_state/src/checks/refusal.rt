@@ -10,7 +10,7 @@ use std::alloc::AllocError;
 pub(crate) enum Refusal {
     /// This is the first check that it doesn't pass.
     Fails(Check),
-    /// Memory was wanting to find out.
+    /// Memory ran out before that was known.
     OutOfMemory,
 }
 

@@ -1,4 +1,4 @@
-//! The checks of a SETUP behind what it names: its track, its Transport field, and a number for a session that begins.
+//! A SETUP's own checks, after that of what it names: its track, its Transport field, and a number for a session that begins.
 ghost use Rattle.std.specs.Prelude.{◌≡◌, ◌≤◌, ◌<◌, ◌-◌, ◌^◌, ◌⊎◌, ◌∷◌, [], ℕ, List, Option, None, Some, IsSome, IfSome, IfNone, true, length, codes, MatchBool, MatchResult, ◌↔◌};
 ghost use Rattle.std.specs.Option.{option_copied};
 ghost use Rattle.transport_header.specs.declared.spec.Spec.{Spec as transport_Spec};

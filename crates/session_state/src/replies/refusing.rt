@@ -48,7 +48,7 @@ impl Check {
         }
     }
 
-    /// Whether a refusal tells of the session: behind the check that it is named.
+    /// Whether a refusal tells of the session: at each check after the one that the session is named.
     fn tells_session(self) -> bool
         ensures { result ≡ tells_of_session self }
     {

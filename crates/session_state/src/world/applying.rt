@@ -55,8 +55,8 @@ impl World {
         self.begun += 1;
     }
 
-    /// Carries out what an answer changes, and tells what the connection has to do. Only want of memory refuses the call,
-    /// and then nothing has changed.
+    /// Carries out what an answer changes, and tells what the connection has to do. The only error is out of memory, and
+    /// then nothing has changed.
     pub(crate) fn apply(&mut self, conn: u64, change: Change) -> Result<Act, AllocError>
         requires { CanTake self.old conn change }
         ensures ok { IfOk result (λ act. IsApplied conn change self.old act self.new) }
