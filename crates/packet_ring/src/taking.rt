@@ -51,6 +51,7 @@ pub(crate) fn take(
     let at = unit * (width + 1);
     let word = pin(block, token, unit, at);
     if word / WRITING == 2 * (next + 1) {
+        // A publish to this slot is refused until the unpin, so no loop but the copy stands before it.
         let (tag, len) = get(block, token, unit, at + 1, buf);
         unpin(block, token, unit, at);
         let packet = Taken::Packet {
