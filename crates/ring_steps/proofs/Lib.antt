@@ -29,6 +29,7 @@ pub mod Potential
 pub mod Nearing
 pub mod RunningOut
 pub mod Others
+pub mod GoingOn
 pub mod Meeting
 pub mod Stepping
 pub mod Alone

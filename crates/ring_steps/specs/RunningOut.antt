@@ -34,3 +34,15 @@ pub record IsBadStop (config : Config) (calls : Calls) (schedule : List Actor) (
 abbrev pub IsOutRefusal : Config → Calls → (schedule : List Actor) → (stopped : Actor) → StepFault → Type 0
 IsOutRefusal config calls schedule stopped fault =
     IsRefusal config calls schedule fault ⊎ ((fault ≡ BadSchedule (length schedule)) × IsBadStop config calls schedule stopped)
+
+-- from here the publisher makes turns, and then each seat in its order, but not the stopped actor; and then nobody else has a
+-- call left
+pub record GoesOnWithout (calls : Calls) (stopped : Actor) (at : At) : Type 0 where
+  pub publisher : ℕ
+  pub seats : List ℕ
+  pub turns : List Turn
+  pub end : At
+  pub ran : Ran calls at turns end
+  pub by : actors turns ≡ in_turn publisher seats
+  pub stays : turns_by publisher seats stopped ≡ 0
+  pub answered : (actor : Actor) → actor ≢ stopped → ¬ HasCall calls end actor

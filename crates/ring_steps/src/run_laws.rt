@@ -4,10 +4,14 @@ ghost use Rattle.std.specs.Prelude.{◌≡◌, ◌≤◌, ℕ, List, map};
 ghost use Rattle.cursor.specs.Log.{LegalHistory, Log};
 ghost use Rattle.cursor.specs.Player.{PlayersReceive};
 ghost use Rattle.cursor.specs.Plain.{Plain, PlainRun, empty_plain};
+ghost use Rattle.ring_steps.specs.declared.calls.Actor.{Actor};
+ghost use Rattle.ring_steps.specs.declared.config.Config.{Config};
 ghost use Rattle.ring_steps.specs.Acting.{history_of};
 ghost use Rattle.ring_steps.specs.Answers.{packet_of};
 ghost use Rattle.ring_steps.specs.Faults.{actors};
+ghost use Rattle.ring_steps.specs.RunningOut.{GoesOnWithout};
 ghost use Rattle.ring_steps.specs.Runs.{At, Calls, Move, Ran, Turn, start};
+ghost use Rattle.ring_steps.specs.Scripts.{IsGoodConfig, IsGoodScript};
 ghost use Rattle.ring_steps.specs.Traces.{ActsOnce, MeetsPins, StepsAreFew, TellsAccounts};
 ghost use Rattle.ring_steps.specs.Within.{ActsWithin};
 
@@ -74,4 +78,11 @@ pub fn calls_make_few_atomic_steps()
 pub fn refused_publishes_met_pins()
     ensures { (script : Calls) (keep seats : ℕ) (turns : List Turn) (mid new : At) (t : Turn) → 1 ≤ keep → Ran script (start keep seats) turns mid → Move script mid t new
         → MeetsPins mid.ring t }
+{}
+
+/// Nobody waits for an actor that stops: wherever a run stands, and whoever stops there, the others can go on
+/// until each of their calls is answered.
+pub fn nobody_waits_for_who_stops()
+    ensures { (config : Config) (script : Calls) (turns : List Turn) (mid : At) (stopped : Actor) → IsGoodConfig config script → IsGoodScript script
+        → Ran script (start config.keep config.seats) turns mid → GoesOnWithout script stopped mid }
 {}
