@@ -41,7 +41,10 @@ fn a_seat_stops_while_it_reads(rt: HostRuntime) {
     let trace = run_out_told(&rt, alloc, &calls, actors.as_slice(), Actor::Seat(0));
     assert_eq!(&rt; trace.events.len(), 6);
     let told = last_events(&rt, alloc, &trace, 3);
-    assert_eq!(&rt; told.as_str(), "@17 p appended 2\n@18 p refused 1\n@19 p refused 1\n");
+    assert_eq!(&rt;
+        told.as_str(),
+        "@17 p appended 2\n@18 p refused 1\n@19 p refused 1\n"
+    );
 }
 
 /// A publisher that stops within a publish keeps no seat from what was published before.
@@ -53,7 +56,10 @@ fn a_publisher_stops_within_a_publish(rt: HostRuntime) {
     let trace = run_out_told(&rt, alloc, &calls, actors.as_slice(), Actor::P);
     assert_eq!(&rt; trace.events.len(), 7);
     let told = last_events(&rt, alloc, &trace, 4);
-    assert_eq!(&rt; told.as_str(), "@17 0 lost 1\n@18 0 took 1 66\n@23 0 took 2 67\n");
+    assert_eq!(&rt;
+        told.as_str(),
+        "@17 0 lost 1\n@18 0 took 1 66\n@23 0 took 2 67\n"
+    );
 }
 
 /// How many events are an actor's.
@@ -76,7 +82,10 @@ fn stops_anywhere(rt: &impl Abort, alloc: Global, calls: &Script, actors: &[Acto
             let trace = run_out_told(rt, alloc, calls, &actors[..end], stopped);
             assert_eq!(rt; events_by(&trace, other), answered, "{stopped} at {end}");
             let after = trace.steps.iter().skip(end);
-            assert!(rt; after.filter(|step| step.actor == stopped).count() == 0, "{stopped} at {end}");
+            assert!(rt;
+                after.filter(|step| step.actor == stopped).count() == 0,
+                "{stopped} at {end}"
+            );
         }
     }
 }
