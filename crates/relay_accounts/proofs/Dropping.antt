@@ -23,7 +23,7 @@ strangers_twice : (before : Counts) (frames : ℕ) → with_strangers (with_stra
 strangers_twice before frames = ap (λ (s : ℕ). record before { strangers = s }) (capped_twice before.strangers frames)
 
 module _ {S : Type 0} (incoming : S → Option (List ℕ)) where
-  -- Frames were handed out and counted as strangers: what comes then comes behind them.
+  -- Frames were handed out and counted as strangers: what comes then comes after them.
   pub record Drops (old now : IntakeState S) (before after : Counts) : Type 0 where
     pub frames : List Frame
     pub then : (new : IntakeState S) (us : List StreamUnit) → HandsOut incoming now new us → HandsOut incoming old new (units_of frames ++ us)

@@ -37,7 +37,7 @@ with_report counts report = record counts {
 abbrev pub with_strangers : Counts → ℕ → Counts
 with_strangers counts frames = record counts { strangers = capped (counts.strangers + frames) }
 
--- The counts with the account of a seat that was left, of a ring that keeps so many packets. Of the packets behind its
+-- The counts with the account of a seat that was left, of a ring that keeps so many packets. Of the packets after its
 -- cursor only the last so many are still there; the others are lost.
 abbrev pub with_left : Counts → Left → (keep : ℕ) → Counts
 with_left counts left keep = record counts {
@@ -48,6 +48,20 @@ with_left counts left keep = record counts {
 -- the counts with so many milliseconds for which packets waited
 abbrev pub with_wait : Counts → (milliseconds : ℕ) → Counts
 with_wait counts milliseconds = record counts { slowed = capped (counts.slowed + milliseconds) }
+
+-- what was counted between two moments of one connection
+abbrev pub counted_since : (counts earlier : Counts) → Counts
+counted_since counts earlier = record {
+  published = counts.published - earlier.published;
+  pinned = counts.pinned - earlier.pinned;
+  oversize = counts.oversize - earlier.oversize;
+  bad_rtp = counts.bad_rtp - earlier.bad_rtp;
+  strangers = counts.strangers - earlier.strangers;
+  unkept = counts.unkept - earlier.unkept;
+  taken = counts.taken - earlier.taken;
+  lost = counts.lost - earlier.lost;
+  slowed = counts.slowed - earlier.slowed;
+}
 
 -- how many packets of a mount were lost or refused
 abbrev pub losses : Counts → ℕ

@@ -9,22 +9,23 @@ use Rattle.relay_accounts.specs.declared.ending.ConnectionEnd.TheVariants as end
 use Rattle.relay_accounts.specs.declared.ending.FrameEnd.{FrameEnd}
 use Rattle.relay_accounts.specs.declared.ending.FrameEnd.TheVariants as frames
 
--- What is told where the reader met nothing that goes before: want of memory of the frames; then, where the peer was told the
--- end of its stream, that all is well; then a failed write of the frames; else the reader's own end.
+-- What is told where the reader met nothing that goes before: that the frames were out of memory; then, where the peer was told
+-- the end of its stream, that all is well; then a failed write of the frames; else the reader's own end.
 abbrev pub told_end : ConnectionEnd → FrameEnd → (is_over : Bool) → ConnectionEnd
 told_end read frames.OutOfMemory is_over = ends.OutOfMemory
 told_end read sent true = ends.Done
 told_end read frames.WriteFailed false = ends.WriteFailed
 told_end read sent false = read
 
--- How a connection ended. A fault of its stream, want of memory and want of a thread are told whatever became of its frames.
+-- How a connection ended. A fault of its stream, and that it was out of memory or had no thread, is told whatever became of its
+-- frames.
 abbrev pub end_of : ConnectionEnd → FrameEnd → (is_over : Bool) → ConnectionEnd
 end_of (ends.StreamFault fault) sent is_over = ends.StreamFault fault
 end_of ends.OutOfMemory sent is_over = ends.OutOfMemory
 end_of ends.NoThread sent is_over = ends.NoThread
 end_of read sent is_over = told_end read sent is_over
 
--- the status of the fixed text behind a fault (RFC 2326, 7.1.1): a head or a body that is too long, else a bad request
+-- the status of the fixed text after a fault (RFC 2326, 7.1.1): a head or a body that is too long, else a bad request
 abbrev pub status_of : Fault → Status
 status_of faults.HeadTooLong = statuses.RequestEntityTooLarge
 status_of faults.BodyTooLong = statuses.RequestEntityTooLarge

@@ -3,12 +3,12 @@ use Rattle.std.specs.Prelude.{ℕ, ◌+◌, ◌==◌, ◌≤◌, Option, None, S
 use Rattle.relay_accounts.specs.declared.tally.Tally.{Tally}
 use Rattle.relay_accounts.specs.Counting.{capped}
 
--- a minute behind this moment, or at once
+-- a minute after this moment, or at once
 abbrev pub a_minute_after : Option ℕ → ℕ
 a_minute_after None = 0
 a_minute_after (Some told) = capped (told + 60000)
 
--- when a tally is to be told: a minute behind the last time, or at once; never where nothing came
+-- when a tally is to be told: a minute after the last time, or at once; never where nothing came
 abbrev pub due_at : Tally → Option ℕ
 due_at tally = if tally.count == 0 then None else Some (a_minute_after tally.told)
 

@@ -84,7 +84,7 @@ impl<T: Drop> Backlog<T> {
         self.waiting.pop_front()
     }
 
-    /// How many found no room behind all that waits. Whoever asks tells it.
+    /// How many found no room after all that waits. Whoever asks tells it.
     pub fn take_missed(&mut self) -> u64
         ensures count { result ≡ self.old.missed }
         ensures new { self.new ≡ record self.old { missed = 0 } }

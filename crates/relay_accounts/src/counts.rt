@@ -1,6 +1,6 @@
 //! What became of the packets of a connection.
 ghost use Rattle.std.specs.Prelude.{◌≡◌, ◌<◌, ◌↔◌, IsTrue};
-ghost use Rattle.relay_accounts.specs.Counting.{losses, nothing_counted, with_left, with_report, with_strangers, with_wait};
+ghost use Rattle.relay_accounts.specs.Counting.{counted_since, losses, nothing_counted, with_left, with_report, with_strangers, with_wait};
 
 use cursor::Left;
 use publisher::InReport;
@@ -25,7 +25,7 @@ pub struct Counts {
     /// sixteen of them go nowhere.
     pub taken: u64,
     /// The packets of any track that this player lost, since it was too far behind: those that a take told lost, and those
-    /// that were behind its cursor when it left its seat and that the ring kept no longer. What the ring still kept then is in no
+    /// after its cursor that the ring kept no longer when it left its seat. What the ring still kept then is in no
     /// count.
     pub lost: u64,
     /// For how many milliseconds in all its packets waited for the players that keep up.
@@ -88,6 +88,23 @@ impl Counts {
         ensures { self.new ≡ with_wait self.old milliseconds }
     {
         self.slowed = self.slowed.saturating_add(milliseconds);
+    }
+
+    /// What was counted since these counts were taken, of the same connection.
+    pub fn since(&self, earlier: &Counts) -> Counts
+        ensures { result ≡ counted_since self.now earlier.now }
+    {
+        Counts {
+            published: self.published.saturating_sub(earlier.published),
+            pinned: self.pinned.saturating_sub(earlier.pinned),
+            oversize: self.oversize.saturating_sub(earlier.oversize),
+            bad_rtp: self.bad_rtp.saturating_sub(earlier.bad_rtp),
+            strangers: self.strangers.saturating_sub(earlier.strangers),
+            unkept: self.unkept.saturating_sub(earlier.unkept),
+            taken: self.taken.saturating_sub(earlier.taken),
+            lost: self.lost.saturating_sub(earlier.lost),
+            slowed: self.slowed.saturating_sub(earlier.slowed),
+        }
     }
 
     /// Whether a packet of a mount was lost or refused. Strangers are nobody's loss.

@@ -64,7 +64,7 @@ pub fn end_of(read: ConnectionEnd, sent: FrameEnd, is_over: bool) -> ConnectionE
     }
 }
 
-/// What the fixed text behind a fault says.
+/// What the fixed text after a fault says.
 pub fn status_of(fault: Fault) -> Status
     ensures { result ≡ fault_status fault }
 {

@@ -3,7 +3,7 @@ ghost use Rattle.std.specs.Prelude.{◌≡◌, ◌+◌, None, Some, MatchOption}
 ghost use Rattle.relay_accounts.specs.Counting.{capped};
 ghost use Rattle.relay_accounts.specs.Tallies.{due_at, IsDue};
 
-/// How long nothing is told behind what was told last, in milliseconds.
+/// How long nothing is told after what was told last, in milliseconds.
 const WHILE: u64 = 60_000;
 
 /// Counts what is told of at most once a minute, with its number. Moments are milliseconds of a clock that doesn't go back.
