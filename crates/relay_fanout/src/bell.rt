@@ -95,7 +95,7 @@ pub fn wake_players<R: Wait + Clock>(rt: &R, bell: &Bell, board: &Board, gather:
         // What is published from here on rings again; what was published before is marked already.
         bell.rung.store(QUIET, Ordering::SeqCst);
         board.wake_marked(rt);
-        // Looked at behind the clearing: a stop before it is seen here, and one after it rings.
+        // Looked at after the clearing: a stop before it is seen here, and one after it rings.
         if bell.stopped.load(Ordering::SeqCst) {
             return;
         }

@@ -1,4 +1,4 @@
-//! How a connection is closed behind a fixed text.
+//! How a connection is closed after a fixed text.
 use crate::socket::HangUp;
 use interleaved::Source;
 

@@ -184,7 +184,7 @@ impl Frames {
         }
     }
 
-    /// Starts the thread, which may fail for want of memory or of threads.
+    /// Starts the thread, which may fail where there is no memory or no thread.
     pub fn start<R, T, W, H>(
         &mut self,
         rt: R,
@@ -212,6 +212,11 @@ impl Frames {
     /// Whether a thread was started that isn't joined.
     pub fn has_thread(&self) -> bool {
         self.thread.is_some()
+    }
+
+    /// Which seat it is.
+    pub fn seat(&self) -> usize {
+        self.seat
     }
 
     /// The number of the mount, the seat and what tells of its packets.

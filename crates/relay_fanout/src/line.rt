@@ -56,7 +56,7 @@ impl<W: Sink + Drop> Line<W> {
         self.write(rt, &text[..len])
     }
 
-    /// Tells the peer the end of its stream, behind what is being written.
+    /// Tells the peer the end of its stream, after what is being written.
     pub(crate) fn close_writes(&self, rt: &impl Wait, wire: &impl HangUp) {
         let _sink = self.sink.lock(rt);
         wire.close_writes();

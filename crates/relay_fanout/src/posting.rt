@@ -32,7 +32,7 @@ pub struct Posting<R, F> {
     bell: Arc<Bell, Global>,
     /// Whether the waking thread knows of the mount; else its players are woken at each packet.
     posted: bool,
-    /// Behind so many packets it is looked where the players are.
+    /// After so many packets it is looked where the players are.
     stretch: u64,
     /// So many packets the slowest of those that keep up may be behind before they are waited for, until it is half as many.
     most: u64,
@@ -152,7 +152,7 @@ impl<R: Wait + Clock + Drop, F> Posting<R, F> {
         if awaited == 0 {
             return false;
         }
-        // Behind the opening, so that a player which looked before it doesn't sleep; what waking takes is waited, too.
+        // After the opening, so that a player which looked before it doesn't sleep; what waking takes is waited, too.
         self.notice.wake();
         self.wait_while_some_come(awaited, now, most);
         let then = self.now().unwrap_or(now.saturating_add(most));
