@@ -4,6 +4,7 @@ mod carrying_out;
 mod incoming;
 mod told;
 
+use crate::events::Events;
 use crate::gate::Gate;
 use crate::shared::Shared;
 use interleaved::{Sink, Source};
@@ -43,11 +44,12 @@ pub(crate) struct Connection<R, M: Maker, V, G, W: Sink, H> {
     /// Whether the last request ended the session.
     torn_down: bool,
     counts: Counts,
+    events: Events<R>,
 }
 
 /// Serves an open connection: answers its requests in order, publishes what comes in while it records, and sends what
-/// its seat takes while it plays. Ends when the peer says nothing more, at a fault, at a failed read or write or for want
-/// of memory, and hangs the connection up in the book.
+/// its seat takes while it plays. Ends when the peer says nothing more, at a fault, at a failed read or write or where it is
+/// out of memory, and hangs the connection up in the book.
 pub fn run_connection<R, M, V, G, S, W, H>(
     rt: R,
     alloc: Global,
@@ -56,6 +58,7 @@ pub fn run_connection<R, M, V, G, S, W, H>(
     mut reader: S,
     line: Line<W>,
     wire: H,
+    events: Events<R>,
 ) -> Outcome
 where
     R: Threads + Wait + Clock + Copy + Send + 'static,
@@ -93,6 +96,7 @@ where
         is_over: false,
         torn_down: false,
         counts: Counts::new(),
+        events,
     };
     let end = connection.run(reader);
     Outcome {
@@ -147,7 +151,7 @@ where
         for _ in rt.forever() {
             match self.serve_next(intake) {
                 Ok(()) => {}
-                // A peer may close right behind its TEARDOWN.
+                // A peer may close right after its TEARDOWN.
                 Err(ConnectionEnd::ReadFailed | ConnectionEnd::WriteFailed) if self.torn_down => {
                     return ConnectionEnd::Done;
                 }
@@ -184,13 +188,16 @@ where
             Ok((answer, feed)) => {
                 self.torn_down = answer.reply.status == Status::Ok
                     && read_method(request.method.as_slice()) == Some(Method::Teardown);
+                if answer.act == Act::Open {
+                    self.events.announced(self.alloc, request, &self.counts);
+                }
                 self.carry_out(answer, feed)
             }
             Err(_) => self.write_plain(Status::ServiceUnavailable, request.cseq),
         }
     }
 
-    /// Writes the fixed text that is the last of the connection: no frame comes behind it, and neither a peer that reads
+    /// Writes the fixed text that is the last of the connection: no frame comes after it, and neither a peer that reads
     /// nothing nor its frames are waited for longer than a moment each.
     fn write_last(&mut self, status: Status) {
         self.stop_frames(Duration::from_millis(AFTER_TEXT));
@@ -199,7 +206,7 @@ where
         let _ = self.write_plain(status, None);
     }
 
-    /// Hangs up in the book, and does what is left to do. Says how the connection ended, which may be by its frames. Behind
+    /// Hangs up in the book, and does what is left to do. Says how the connection ended, which may be by its frames. After
     /// a last text the peer is given a moment to read it.
     fn hang_up<S: Source>(&mut self, end: ConnectionEnd, source: &mut S) -> ConnectionEnd {
         let act = self.shared.book.lock(&self.rt).hangup(self.conn);
@@ -223,7 +230,7 @@ where
     }
 }
 
-/// How long a connection's end waits behind its last text: for the frames, and for each read. In milliseconds.
+/// How long a connection's end waits after its last text: for the frames, and for each read. In milliseconds.
 const AFTER_TEXT: u64 = 200;
 
 /// How many reads may follow the last text.

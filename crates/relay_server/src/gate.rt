@@ -1,9 +1,15 @@
-//! What a connection passes before each of its requests is decided.
+//! What stands between a server and each of its connections.
 
-/// What a connection passes before each call of the book, so that a test can hold one back.
+/// What a connection passes before each call of the book, so that a test can hold one back, and before each of its threads, so
+/// that a test can refuse one: a handle of a test's own can't, since `Threads` only says that threads may be started.
 pub trait Gate {
     /// `turn` counts the connection's calls from 0.
     fn pass(&self, conn: u64, turn: u64);
+
+    /// Whether a thread may be started. Where not, it counts as one that the system refuses.
+    fn may_start(&self) -> bool {
+        true
+    }
 }
 
 /// Holds nobody back.

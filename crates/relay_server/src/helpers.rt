@@ -45,7 +45,7 @@ impl Helpers {
         })
     }
 
-    /// Ends them, behind the last connection.
+    /// Ends them, after the last connection.
     pub(crate) fn end<R: Threads + Wait + Clock, V, G>(self, rt: &R, server: &Server<R, V, G>) {
         let Helpers { waking, closing } = self;
         server.shared.stop_waking();

@@ -1,7 +1,9 @@
 //! The server: connections over sockets, the threads that read and play, and what they share.
 #![tactic(auto)]
 
+mod accepts;
 mod connection;
+mod events;
 mod gate;
 mod helpers;
 mod lines;
@@ -11,7 +13,9 @@ mod refusing;
 mod server;
 mod shared;
 
+pub use accepts::Accepts;
 pub use connection::run_connection;
+pub use events::Events;
 pub use gate::{Gate, OpenGate};
 pub use lines::Lines;
 pub use options::Options;

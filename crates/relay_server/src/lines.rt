@@ -26,7 +26,7 @@ struct List {
     lines: Backlog<String>,
     /// No line comes any more.
     is_closed: bool,
-    /// Behind the last line nothing is left to write.
+    /// After the last line nothing is left to write.
     is_written: bool,
 }
 
@@ -57,6 +57,12 @@ impl<R: Drop> Lines<R> {
 }
 
 impl<R: Wait> Lines<R> {
+    /// A line couldn't be made: it counts as dropped.
+    pub(crate) fn miss(&self) {
+        self.list.lock(&self.rt).lines.miss();
+        self.changed.notify_one();
+    }
+
     /// What is to be done next, once there is anything.
     fn next(&self) -> Next {
         let mut list = self

@@ -13,7 +13,7 @@ pub enum Refusal {
     OutOfMemory,
     /// No thread could be started that reads it.
     NoThread,
-    /// It couldn't be accepted, mostly for want of descriptors.
+    /// It couldn't be accepted, mostly because there was no descriptor.
     NotAccepted,
 }
 

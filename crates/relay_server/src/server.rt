@@ -1,5 +1,7 @@
 //! The listening thread, and the threads of connections.
+use crate::accepts::Accepts;
 use crate::connection::run_connection;
+use crate::events::Events;
 use crate::gate::Gate;
 use crate::helpers::Helpers;
 use crate::lines::Lines;
@@ -15,11 +17,11 @@ use relay_fanout::{Line, RingMaker, Seat, Socket, low_half};
 use session_state::Words;
 use std::alloc::{AllocError, Global};
 use std::io::Eprint;
-use std::net::{SocketAddr, TcpListener, TcpStream};
+use std::net::{SocketAddr, TcpStream};
 use std::sync::atomic::Ordering;
 use std::sync::{Arc, Wait};
 use std::thread;
-use std::thread::Threads;
+use std::thread::{SpawnError, Threads};
 use std::time::{Clock, Duration};
 
 /// What the threads of a server share whose mounts are rings.
@@ -29,17 +31,17 @@ pub(crate) type RingShared<V, G> = Shared<RingMaker, V, G>;
 /// busy.
 const AFTER_NO_ACCEPT: u64 = 100;
 
-/// How many connections may have a thread: a little more than a book's, since those that are closed behind a last text have left
+/// How many connections may have a thread: a little more than a book's, since those that are closed after a last text have left
 /// it.
 const MOST_LIVE: u64 = 1_088;
 
 /// Serves connections of a listener: each is read by a thread of its own. Returns once as many as `options.accept` says
-/// were accepted and have ended, else never; or with an error where memory or a thread is wanting for what all
+/// were accepted and have ended, else never; or with an error where there is no memory or no thread for what all
 /// connections share. The book and the maker are of one number of seats; where they aren't, each ANNOUNCE is answered 503.
-pub fn run_server<R, V, G>(
+pub fn run_server<R, L, V, G>(
     rt: R,
     alloc: Global,
-    listener: &TcpListener,
+    listener: &L,
     options: Options,
     maker: RingMaker,
     book: SharedBook<Seat<Pass>>,
@@ -48,6 +50,7 @@ pub fn run_server<R, V, G>(
 ) -> Result<(), AllocError>
 where
     R: Threads + Wait + Clock + Log + Eprint + Copy + Send + Sync + 'static,
+    L: Accepts,
     V: Words + Drop + Send + 'static,
     G: Gate + Drop + Send + Sync + 'static,
 {
@@ -60,6 +63,7 @@ where
         shared,
         lines,
         refusing,
+        is_verbose: options.is_verbose,
     };
     let helpers = Helpers::start(rt, &server, options.gather)?;
     accept_all(rt, alloc, listener, options, &server);
@@ -74,18 +78,21 @@ pub(crate) struct Server<R, V, G> {
     pub(crate) shared: Arc<RingShared<V, G>, Global>,
     pub(crate) lines: Arc<Lines<R>, Global>,
     pub(crate) refusing: Arc<Refusing, Global>,
+    /// Whether lines tell of each mount and each player.
+    is_verbose: bool,
 }
 
 /// Accepts connections, for good or as many as are to be accepted.
-fn accept_all<R, V, G>(
+fn accept_all<R, L, V, G>(
     rt: R,
     alloc: Global,
-    listener: &TcpListener,
+    listener: &L,
     options: Options,
     server: &Server<R, V, G>,
 )
 where
     R: Threads + Wait + Clock + Log + Copy + Send + Sync + 'static,
+    L: Accepts,
     V: Words + Drop + Send + 'static,
     G: Gate + Drop + Send + Sync + 'static,
 {
@@ -187,13 +194,20 @@ where
     let theirs = Arc::try_clone(&server.shared)?;
     let same = Arc::try_clone(&server.shared)?;
     let lines = Arc::try_clone(&server.lines)?;
+    let is_verbose = server.is_verbose;
     server.shared.live.fetch_add(1, Ordering::SeqCst);
-    let started = thread::spawn(&rt, move || {
+    let run = move || {
         let line = Line::new(alloc, writer);
-        let outcome = run_connection(rt, alloc, theirs, conn, reader, line, wire);
+        let events = Events::new(&lines, peer, is_verbose);
+        let outcome = run_connection(rt, alloc, theirs, conn, reader, line, wire, events);
         tell_end(&lines, peer, &outcome);
         leave(&same);
-    });
+    };
+    let started = if server.shared.gate.may_start() {
+        thread::spawn(&rt, run)
+    } else {
+        Err(SpawnError { value: run })
+    };
     match started {
         Ok(_) => Ok(()),
         Err(_) => {
@@ -203,8 +217,8 @@ where
     }
 }
 
-/// A warning where a connection ended by a fault, a failed read or write, or for want of memory or a thread, and a line
-/// with its part in a mount where packets were lost or refused, or waited for players.
+/// A warning where a connection ended by a fault, a failed read or write, or because there was no memory or no thread, and a
+/// line with its part in a mount where packets were lost or refused, or waited for players.
 pub fn tell_end<R: Log>(rt: &R, peer: SocketAddr, outcome: &Outcome) {
     let Outcome { end, counts, part } = outcome;
     if *end != ConnectionEnd::Done {

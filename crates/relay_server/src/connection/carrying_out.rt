@@ -1,6 +1,7 @@
 //! What is done for an answer, and how it is written.
 use super::Connection;
 use crate::gate::Gate;
+use cursor::Left;
 use interleaved::Sink;
 use relay_accounts::{ConnectionEnd, FrameEnd};
 use relay_fanout::{Frames, HangUp, Maker, Posting, Seat, TapPlace};
@@ -22,8 +23,8 @@ where
     W: Sink + Drop + Send + 'static,
     H: HangUp + Drop + Send + Sync + 'static,
 {
-    /// Does what an answer asks for, and writes its reply. Frames come behind the reply of their PLAY, and have stopped
-    /// before the reply of a PAUSE or TEARDOWN.
+    /// Does what an answer asks for, and writes its reply. Frames come after the reply to their PLAY, and have stopped
+    /// before the reply to a PAUSE or TEARDOWN.
     pub(super) fn carry_out(
         &mut self,
         answer: Answer<Seat<M::Pass>>,
@@ -42,7 +43,7 @@ where
         }
     }
 
-    /// Writes a reply, behind what its request begins or ends for others and before the frames of a PLAY.
+    /// Writes a reply, after what its request begins or ends for others and before the frames of a PLAY.
     fn reply_to(&mut self, act: Act, reply: &Reply) -> Result<(), ConnectionEnd> {
         match act {
             Act::Record => self.record(),
@@ -72,6 +73,9 @@ where
         let (Some(feed), Some(session)) = (&mut self.publishing, &self.session) else {
             return;
         };
+        if self.mount.is_none() {
+            self.events.recorded(&self.rt);
+        }
         if !feed.is_posted() {
             let added = self
                 .shared
@@ -89,12 +93,16 @@ where
         self.is_over = false;
         self.hand.put(&self.rt, self.shared.maker.attach(pass));
         self.frames = Some(Frames::new(mount, seat, notice));
+        self.events.plays(&self.part, seat);
     }
 
     fn start_frames(&mut self) -> Result<(), ConnectionEnd> {
         let (Some(frames), Some(session)) = (&mut self.frames, &self.session) else {
             return Ok(());
         };
+        if !self.shared.gate.may_start() {
+            return Err(ConnectionEnd::NoThread);
+        }
         let channels = session.channels.copy();
         let after_end = self.shared.after_end;
         match frames.start(self.rt, self.alloc, &self.hand, channels, after_end) {
@@ -127,7 +135,7 @@ where
         match self.hand.take(&self.rt) {
             TapPlace::Attached(tap) => self.give_back(tap, frames),
             // The mount has ended: its seats are nobody's any more.
-            TapPlace::Left(left) => self.counts.add_out(&left, self.shared.maker.keep()),
+            TapPlace::Left(left) => self.count_left(frames.seat(), &left),
             TapPlace::Nowhere => {}
         }
         end
@@ -136,8 +144,8 @@ where
     /// Detaches a tap, and gives its seat back to the book.
     fn give_back(&mut self, tap: M::Out, frames: Frames) {
         let (pass, left) = self.shared.maker.detach(tap);
-        self.counts.add_out(&left, self.shared.maker.keep());
         let (mount, seat, notice) = frames.into_seat();
+        self.count_left(seat, &left);
         let mut book = self.shared.book.lock(&self.rt);
         let returned = book.give_back(mount, seat, Seat { pass, notice });
         // The pass comes back where the mount has ended, and its ring may go with it: not under the lock.
@@ -145,10 +153,18 @@ where
         drop(returned);
     }
 
+    /// Counts the account of a seat that was left, and tells of it.
+    fn count_left(&mut self, seat: usize, left: &Left) {
+        let keep = self.shared.maker.keep();
+        self.counts.add_out(left, keep);
+        self.events.leaves(&self.part, seat, left, keep);
+    }
+
     /// The mount has ended: no packet comes any more.
     pub(super) fn end_mount(&mut self) {
         if let Some(feed) = self.publishing.take() {
             self.counts.add_wait(feed.end());
+            self.events.ended(&self.rt, &self.counts);
         }
         if let Some(mount) = self.mount.take() {
             self.shared.board.remove(&self.rt, mount);
