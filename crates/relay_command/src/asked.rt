@@ -12,7 +12,7 @@ use std::convert::AsStr;
 /// What an accepted command line asks for.
 #[derive(Debug, Drop)]
 pub enum Asked {
-    /// One connection is answered, with what stands behind `--word`.
+    /// One connection is answered, with what stands after `--word`.
     Talk(Option<String>),
     /// A ring's schedule is run.
     Steps,
@@ -23,7 +23,7 @@ pub enum Asked {
 }
 
 /// What the words of a command line ask for, of which the first is the program's name. An error has a text and an exit
-/// code: it tells why the line isn't understood, gives the help that it asks for, or is want of memory.
+/// code: it tells why the line isn't understood, gives the help that it asks for, or says `out of memory`.
 pub fn read_words<S: AsStr>(alloc: Global, words: &[S]) -> Result<Asked, Error>
     ensures ranges { IfOk result IsServedInRange }
 {
@@ -49,7 +49,7 @@ fn asked_of(alloc: Global, matches: &ArgMatches) -> Result<Asked, AllocError>
     }
 }
 
-/// A copy of what stands behind an option or an argument.
+/// A copy of what stands after an option or for an argument.
 fn text_of(alloc: Global, matches: &ArgMatches, name: &str) -> Result<Option<String>, AllocError> {
     match matches.get_str(name) {
         Some(text) => Ok(Some(String::from_str(alloc, text)?)),

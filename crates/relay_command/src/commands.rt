@@ -62,7 +62,8 @@ fn serve_command<'a>(alloc: Global) -> Result<Command<'a>, AllocError> {
         .arg(packet_bytes_arg(alloc))?
         .arg(accept_arg(alloc))?
         .arg(gather_arg(alloc))?
-        .arg(hang_up_ended_arg(alloc))
+        .arg(hang_up_ended_arg(alloc))?
+        .arg(verbose_arg(alloc))
 }
 
 fn addr_arg<'a>(alloc: Global) -> Arg<'a> {
@@ -122,4 +123,11 @@ fn hang_up_ended_arg<'a>(alloc: Global) -> Arg<'a> {
         .long("hang-up-ended")
         .action(ArgAction::SetTrue)
         .help("Hang a player up once the last packet of its mount was written")
+}
+
+fn verbose_arg<'a>(alloc: Global) -> Arg<'a> {
+    Arg::new(alloc, "verbose")
+        .long("verbose")
+        .action(ArgAction::SetTrue)
+        .help("Tell of each mount and each player on standard error")
 }

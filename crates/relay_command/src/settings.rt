@@ -16,8 +16,10 @@ pub struct Settings {
     pub accept: Option<u64>,
     /// For how long packets gather before players are woken, 0 to 100 milliseconds.
     pub gather: u64,
-    /// Whether a player is hung up behind the last packet of its mount.
+    /// Whether a player is hung up after the last packet of its mount.
     pub hang_up_ended: bool,
+    /// Whether lines tell of each mount and each player.
+    pub is_verbose: bool,
 }
 
 impl Settings {
@@ -33,6 +35,7 @@ impl Settings {
             accept: matches.get_one::<u64>("accept"),
             gather: number(matches, "gather").min(100) as u64,
             hang_up_ended: matches.get_flag("hang-up-ended"),
+            is_verbose: matches.get_flag("verbose"),
         }
     }
 }
