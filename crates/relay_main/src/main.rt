@@ -81,7 +81,7 @@ fn steps_on_standard_streams(rt: &HostRuntime) -> anyhow::Result<ExitCode> {
     Ok(tell(rt, &ended))
 }
 
-/// Tells how a task ended. Behind status 0 nothing stands on standard error.
+/// Tells how a task ended. With status 0 nothing stands on standard error.
 fn tell(rt: &HostRuntime, ended: &Ended) -> ExitCode {
     if ended.status != 0 {
         return fails(rt, ended.status, &ended.line);

@@ -22,7 +22,7 @@ const CANNOT_LISTEN: &str = "relay: cannot listen";
 
 const OUT_OF_MEMORY: &str = "relay: out of memory";
 
-/// With `--hang-up-ended`, for how many milliseconds a player may stay behind the last packet of its mount.
+/// With `--hang-up-ended`, for how many milliseconds a player may stay after the last packet of its mount.
 const AFTER_END: u64 = 10_000;
 
 /// For how many milliseconds a write to a peer that reads nothing may move no byte.
@@ -67,6 +67,7 @@ where
         gather: settings.gather,
         after_end: settings.hang_up_ended.then_some(AFTER_END),
         write_wait: WRITE_WAIT,
+        is_verbose: settings.is_verbose,
     };
     if let Ok(bound) = listener.local_addr() {
         let _ = eprintln!(rt; "relay: listening on {bound}");

@@ -7,7 +7,7 @@ use relay_talk::Ended;
 use ring_script::{run_steps, steps_end};
 use std::alloc::{AllocError, Global};
 
-/// Runs a ring's schedule. The only error is want of memory for the line, with the schedule run.
+/// Runs a ring's schedule. The only error is that there is no memory for the line, with the schedule run.
 pub fn do_steps<R: Source + Drop, W: Sink>(
     alloc: Global,
     mut reader: R,
