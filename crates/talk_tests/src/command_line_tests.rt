@@ -14,6 +14,7 @@ const DEFAULTS: Settings = Settings {
     accept: None,
     gather: 5,
     hang_up_ended: false,
+    is_verbose: false,
 };
 
 /// What is said of a line has to hold.
@@ -36,7 +37,7 @@ fn settings(alloc: Global, line: &str) -> Result<Option<Settings>, Fail> {
 }
 
 /// Lines of `serve`, and what they ask for.
-const ACCEPTED: [(&str, Settings); 8] = [
+const ACCEPTED: [(&str, Settings); 9] = [
     ("relay serve 127.0.0.1:8554", DEFAULTS),
     (
         "relay serve a --keep 1 --seats 1 --packet-bytes 12 --accept 1 --gather 0",
@@ -47,10 +48,11 @@ const ACCEPTED: [(&str, Settings); 8] = [
             accept: Some(1),
             gather: 0,
             hang_up_ended: false,
+            is_verbose: false,
         },
     ),
     (
-        "relay serve --keep 4095 --seats 1024 --packet-bytes 65535 --accept 18446744073709551615 --gather 100 --hang-up-ended a",
+        "relay serve --keep 4095 --seats 1024 --packet-bytes 65535 --accept 18446744073709551615 --gather 100 --hang-up-ended --verbose a",
         Settings {
             keep: 4095,
             seats: 1024,
@@ -58,6 +60,7 @@ const ACCEPTED: [(&str, Settings); 8] = [
             accept: Some(18_446_744_073_709_551_615),
             gather: 100,
             hang_up_ended: true,
+            is_verbose: true,
         },
     ),
     (
@@ -95,6 +98,13 @@ const ACCEPTED: [(&str, Settings); 8] = [
             ..DEFAULTS
         },
     ),
+    (
+        "relay serve a --verbose",
+        Settings {
+            is_verbose: true,
+            ..DEFAULTS
+        },
+    ),
 ];
 
 #[test]
@@ -106,7 +116,7 @@ fn a_server_does_what_its_line_says(rt: HostRuntime) -> Result<(), Fail> {
 }
 
 /// Lines of `serve` that are refused: no address, two of them, a number that is out of its range or none.
-const REFUSED: [&str; 16] = [
+const REFUSED: [&str; 17] = [
     "relay serve",
     "relay serve a b",
     "relay serve a --keep 0",
@@ -121,6 +131,7 @@ const REFUSED: [&str; 16] = [
     "relay serve a --gather 101",
     "relay serve a --gather -1",
     "relay serve a --hang-up-ended yes",
+    "relay serve a --verbose yes",
     "relay serve a --keep 1 --keep 2",
     "relay serve a --unknown",
 ];
@@ -220,6 +231,7 @@ Options:
       --accept <N>        End when N connections were accepted and have ended
       --gather <MS>       For how long packets gather before players are woken, 0 to 100 milliseconds [default: 5]
       --hang-up-ended     Hang a player up once the last packet of its mount was written
+      --verbose           Tell of each mount and each player on standard error
   -h, --help              Print help
 
 Examples:
