@@ -28,7 +28,7 @@ const PLAY: &[u8] = b"PLAY rtsp://h/a RTSP/1.0\nCSeq: 3\nSession: 00000002000000
 /// The reply to RECORD.
 const RECORDING: &[u8] = b"RTSP/1.0 200 OK\r\nCSeq: 3\r\nSession: 0000000100000002\r\n\r\n";
 
-/// What a publisher asks behind its packets, and the end of the reply.
+/// What a publisher asks after its packets, and the end of the reply.
 const OPTIONS: &[u8] = b"OPTIONS * RTSP/1.0\nCSeq: 4\n\n";
 
 pub(crate) const PUBLIC_END: &[u8] = b", GET_PARAMETER\r\n\r\n";
@@ -42,7 +42,7 @@ pub(crate) const PACKETS: u64 = 40;
 /// More bytes than the reply to a player's SETUP has, and fewer than this and the reply to its PLAY.
 pub(crate) const SET_UP: usize = 150;
 
-/// The frames of a publisher, and its question behind them.
+/// The frames of a publisher, and its question after them.
 fn packets(alloc: Global) -> Result<Vec<u8>, AllocError> {
     let mut all = Vec::new(alloc);
     for _ in 1..PACKETS {
@@ -81,7 +81,7 @@ impl Stall {
     }
 }
 
-/// A line of a player that reads nothing behind the reply to its PLAY until it is let on.
+/// A line of a player that reads nothing after the reply to its PLAY until it is let on.
 fn stalled_line<R: Wait + Clock + Abort + Drop>(
     rt: R,
     alloc: Global,
@@ -142,7 +142,7 @@ where
     Serving { watch, thread }
 }
 
-/// How many packets a publisher has published up to its end, behind which its mount isn't recorded.
+/// How many packets a publisher has published up to its end, after which its mount isn't recorded.
 pub(crate) fn published<R: Threads + Wait + Abort>(
     rt: &R,
     shared: &SharedRings<CountedWords>,
@@ -154,7 +154,7 @@ pub(crate) fn published<R: Threads + Wait + Abort>(
     came.published
 }
 
-/// How many packets a player has taken or lost up to its end. What it has taken was written behind so many bytes of replies.
+/// How many packets a player has taken or lost up to its end. What it has taken was written after so many bytes of replies.
 pub(crate) fn accounted<R: Threads + Wait + Abort>(
     rt: &R,
     player: Serving,

@@ -8,7 +8,7 @@ use crate::rings::Rings;
 use crate::serving::{Serving, SharedRings, book_of, line_to, serve_camera, shared_over};
 use crate::words::OneWord;
 use interleaved::ListSource;
-use relay_server::{ConnectionEnd, run_connection};
+use relay_server::{ConnectionEnd, Events, run_connection};
 use std::alloc::Global;
 use std::process::Abort;
 use std::sync::atomic::Ordering;
@@ -38,7 +38,7 @@ where
     let told = Arc::new(alloc, Mutex::new(Vec::new(alloc))).expect(&rt, "memory");
     let line = line_to(rt, alloc, &told, 1000);
     let other = ListSource::new(said, 7, None);
-    let outcome = run_connection(rt, alloc, shared, 2, other, line, Open);
+    let outcome = run_connection(rt, alloc, shared, 2, other, line, Open, Events::none());
     assert!(rt; outcome.end == ConnectionEnd::Done);
     assert!(rt; told.lock(&rt).as_slice() == text);
 }

@@ -4,7 +4,7 @@ use crate::rings::Rings;
 use crate::serving::{book_of, line_to, shared_over};
 use crate::words::OneWord;
 use interleaved::ListSource;
-use relay_server::{ConnectionEnd, Counts, run_connection};
+use relay_server::{ConnectionEnd, Counts, Events, run_connection};
 use rtsp_message::Fault;
 use std::alloc::Global;
 use std::process::Abort;
@@ -17,7 +17,7 @@ use std::time::Clock;
 #[derive(Drop)]
 struct Peer {
     said: Vec<u8>,
-    /// Whether the read behind all that is said fails; else it is the end.
+    /// Whether the read after all that is said fails; else it is the end.
     read_fails: bool,
     /// How many bytes may be written.
     room: usize,
@@ -53,7 +53,7 @@ where
         None
     };
     let source = ListSource::new(peer.said, 7, fail_at);
-    let outcome = run_connection(rt, alloc, shared, 1, source, line, Open);
+    let outcome = run_connection(rt, alloc, shared, 1, source, line, Open, Events::none());
     let written = Vec::from_slice(alloc, bytes.lock(&rt).as_slice()).expect(&rt, "memory");
     let book = book.lock(&rt);
     Served {
@@ -170,7 +170,7 @@ const ROWS: [Row; 11] = [
         end: ConnectionEnd::Done,
         strangers: 0,
     },
-    // A failed read behind a frame and a request.
+    // A failed read after a frame and a request.
     Row {
         said: &[FRAME, ANNOUNCE],
         read_fails: true,
@@ -180,7 +180,7 @@ const ROWS: [Row; 11] = [
         end: ConnectionEnd::ReadFailed,
         strangers: 1,
     },
-    // A line that is no request, behind one that is.
+    // A line that is no request, after one that is.
     Row {
         said: &[ANNOUNCE, b"HELLO\n", FRAME],
         read_fails: false,
@@ -200,7 +200,7 @@ const ROWS: [Row; 11] = [
         end: ConnectionEnd::Done,
         strangers: 0,
     },
-    // Behind a 503 the session is known as before: it records, and a frame on its channel is no stranger.
+    // After a 503 the session is known as before: it records, and a frame on its channel is no stranger.
     Row {
         said: &[ANNOUNCE, SETUP, RECORD, OTHER, b"$\x01\x00\x00"],
         read_fails: false,
@@ -229,7 +229,7 @@ const ROWS: [Row; 11] = [
         end: ConnectionEnd::Done,
         strangers: 0,
     },
-    // A failed read behind a TEARDOWN's reply is an end like any other.
+    // A failed read after a TEARDOWN's reply is an end like any other.
     Row {
         said: &[ANNOUNCE, SETUP, TEARDOWN],
         read_fails: true,
@@ -239,7 +239,7 @@ const ROWS: [Row; 11] = [
         end: ConnectionEnd::Done,
         strangers: 0,
     },
-    // A failed read behind a request after a TEARDOWN is a failure, whatever that request is answered.
+    // A failed read after a request that follows a TEARDOWN is a failure, whatever that request is answered.
     Row {
         said: &[ANNOUNCE, SETUP, TEARDOWN, ANNOUNCE],
         read_fails: true,

@@ -60,7 +60,7 @@ impl<R: Wait> Write for Written<R> {
     }
 }
 
-/// Keeps what is written for whoever shares it, and counts the writes. Behind so many bytes it takes nothing until it is let
+/// Keeps what is written for whoever shares it, and counts the writes. After so many bytes it takes nothing until it is let
 /// on, for which it waits at most 10,000 turns of a millisecond.
 #[derive(Drop)]
 pub(crate) struct Held<R> {
@@ -159,7 +159,7 @@ impl<R: Clock> Read for Staged<R> {
     }
 }
 
-/// These, one behind another.
+/// These, one after another.
 pub(crate) fn joined(rt: &impl Abort, alloc: Global, parts: &[&[u8]]) -> Vec<u8> {
     let mut all = Vec::new(alloc);
     for part in parts {

@@ -91,7 +91,7 @@ fn insisting(refusals: u64, done: &Done) -> Insisting<Pinned<'_>, Counted<'_>> {
     Insisting::new(feed, Counted(done))
 }
 
-/// Three tries meet a reader, with a pause behind each, and the fourth publishes, once.
+/// Three tries meet a reader, with a pause after each, and the fourth publishes, once.
 #[test]
 fn a_pinned_publish_is_tried_again(rt: HostRuntime) {
     let done = Done::new();

@@ -19,7 +19,7 @@ use std::time::Duration;
 /// Lengths of replies: of the shortest, about as many bytes as are gathered, and more.
 const LENGTHS: [usize; 6] = [28, 32_767, 32_768, 32_769, 65_536, 100_000];
 
-/// Behind each call all of its reply is written, in a write for each 32,768 bytes and at most one more.
+/// After each call all of its reply is written, in a write for each 32,768 bytes and at most one more.
 #[test]
 fn a_reply_of_any_length_is_written_out_at_once(rt: HostRuntime) {
     let alloc = rt.alloc();

@@ -4,7 +4,8 @@ use crate::rings::{Owned, Rings};
 use interleaved::{Reading, Sink, Writing};
 use packet_ring::Pass;
 use relay_server::{
-    ConnectionEnd, Counts, Line, OpenGate, Outcome, Seat, Shared, SharedBook, run_connection,
+    ConnectionEnd, Counts, Events, Line, OpenGate, Outcome, Seat, Shared, SharedBook,
+    run_connection,
 };
 use session_lock::Book;
 use session_state::Words;
@@ -110,7 +111,16 @@ where
 {
     let theirs = Arc::try_clone(shared).expect(&rt, "a count of its users");
     thread::spawn(&rt, move || {
-        run_connection(rt, alloc, theirs, conn, Reading::new(source), line, Open)
+        run_connection(
+            rt,
+            alloc,
+            theirs,
+            conn,
+            Reading::new(source),
+            line,
+            Open,
+            Events::none(),
+        )
     })
     .expect(&rt, "a thread")
 }
