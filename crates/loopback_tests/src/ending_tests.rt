@@ -1,4 +1,4 @@
-//! How connections over loopback end, and the server behind them.
+//! How connections over loopback end, and the server after them.
 use crate::loopback::{Client, OPTIONS, Set, start, status};
 use relay_server::OpenGate;
 use std::alloc::{AllocError, Global};
@@ -76,7 +76,7 @@ fn closes_early<R: Net<Stream = TcpStream> + Abort>(rt: &R, alloc: Global, addr:
     assert!(rt; client.status_of(rt, flood(alloc).expect(rt, "memory").as_slice()) == 200);
 }
 
-/// Another client is answered before and behind that.
+/// Another client is answered before and after that.
 fn other_is_unhurt<R: Net<Stream = TcpStream> + Abort>(rt: &R, alloc: Global, addr: SocketAddr) {
     let mut other = Client::connect(rt, alloc, addr);
     other.ask(rt, OPTIONS);
@@ -94,7 +94,7 @@ fn a_reset_ends_one_connection_alone(rt: HostRuntime) {
     assert!(rt; !ended.open[0] && !ended.open[1]);
 }
 
-/// Two clients that are there together, and leave one behind the other.
+/// Two clients that are there together, and leave one after the other.
 fn two_that_left<R: Net<Stream = TcpStream> + Abort>(
     rt: &R,
     alloc: Global,

@@ -1,4 +1,4 @@
-//! How peers leave over loopback, and what is free behind them.
+//! How peers leave over loopback, and what is free after them.
 use crate::loopback::{Client, OPTIONS, Set, start};
 use crate::scripted::{
     FRAME, Peers, has_frame, passes_on, play, player, publish, publisher, status_in,
@@ -13,7 +13,7 @@ use std::time::{Clock, Duration, Instant};
 const DESCRIBE: &[u8] = b"DESCRIBE rtsp://127.0.0.1:8554/cam RTSP/1.0\r\nCSeq: 2\r\n\r\n";
 
 /// Asks to play until a seat is free, up to a thousand times. The status that is answered last.
-fn plays_at_last<R: Clock + Abort>(rt: &R, client: &mut Client, number: u8) -> u16 {
+pub(crate) fn plays_at_last<R: Clock + Abort>(rt: &R, client: &mut Client, number: u8) -> u16 {
     let mut answered = 0;
     for _ in 0..1000 {
         answered = client.status_of(rt, &play(number));
@@ -86,7 +86,7 @@ fn player_behind_the_end<R: Net<Stream = TcpStream> + Abort>(
     player
 }
 
-/// A player that neither speaks nor closes is hung up behind its mount's end: the server ends while it is still there.
+/// A player that neither speaks nor closes is hung up after its mount's end: the server ends while it is still there.
 #[test]
 fn a_silent_player_is_hung_up_behind_the_end(rt: HostRuntime) {
     let alloc = rt.alloc();
@@ -108,7 +108,7 @@ fn player_closes<R: Net<Stream = TcpStream> + Abort>(rt: &R, alloc: Global, addr
     assert!(rt; player.is_hung_up(rt));
 }
 
-/// The wait behind the end is longer than a test may last.
+/// The wait after the end is longer than a test may last.
 #[test]
 fn a_player_that_closes_behind_the_end_is_not_waited_for(rt: HostRuntime) {
     let alloc = rt.alloc();
@@ -127,7 +127,7 @@ fn asks_for_the_mount<R: Clock + Abort>(rt: &R, player: &mut Client) -> u16 {
         if player.status_of(rt, DESCRIBE) == 404 {
             break;
         }
-        // The description of a mount that lives comes behind its head.
+        // The description of a mount that lives comes after its head.
         player.bytes(rt, 149);
         thread::sleep(rt, Duration::from_millis(10));
     }
@@ -195,7 +195,7 @@ fn seat_is_freed<R: Clock + Abort>(rt: &R, peers: &mut Peers, last: Last<'_>) {
     assert!(rt; plays_at_last(rt, &mut peers.second, 3) == 200);
 }
 
-/// A player that stopped reading amid what its camera published, and whose seat was freed behind what it said last. The
+/// A player that stopped reading amid what its camera published, and whose seat was freed after what it said last. The
 /// other clients have closed.
 fn freed<R: Net<Stream = TcpStream> + Clock + Abort>(
     rt: &R,
@@ -251,7 +251,7 @@ fn a_stalled_player_that_tears_down_is_freed(rt: HostRuntime) {
     server.end(&rt);
 }
 
-/// A request, whose reply waits for the frames that the peer doesn't read, and what comes behind it: a fault, nothing more, a
+/// A request, whose reply waits for the frames that the peer doesn't read, and what comes after it: a fault, nothing more, a
 /// TEARDOWN.
 const BEHIND_A_REQUEST: [Last<'static>; 3] = [
     Last {
@@ -283,7 +283,7 @@ fn a_stalled_player_that_asked_before_is_freed(rt: HostRuntime) {
     }
 }
 
-/// Twenty clients, one behind another, for which there is no connection.
+/// Twenty clients, one after another, for which there is no connection.
 fn each_reads_why<R: Net<Stream = TcpStream> + Abort>(rt: &R, alloc: Global, addr: SocketAddr) {
     for place in 0..20u32 {
         let mut late = Client::connect(rt, alloc, addr);

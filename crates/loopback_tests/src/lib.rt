@@ -8,6 +8,10 @@ mod burst_tests;
 #[cfg(test)]
 mod ending_tests;
 #[cfg(test)]
+mod events_tests;
+#[cfg(test)]
+mod kept;
+#[cfg(test)]
 mod leaving_tests;
 #[cfg(test)]
 mod loopback;
@@ -15,6 +19,8 @@ mod loopback;
 mod mounts_tests;
 #[cfg(test)]
 mod order_tests;
+#[cfg(test)]
+mod refused_tests;
 #[cfg(test)]
 mod row_tests;
 #[cfg(test)]

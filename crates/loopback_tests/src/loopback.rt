@@ -1,7 +1,7 @@
 //! Clients over loopback, for tests.
 use log::Log;
 use packet_ring::Pass;
-use relay_server::{Gate, Options, RingMaker, Seat, SharedBook, run_server};
+use relay_server::{Accepts, Gate, Options, RingMaker, Seat, SharedBook, run_server};
 use relay_talk::FixedWord;
 use session_lock::Book;
 use std::alloc::{AllocError, Global};
@@ -48,6 +48,11 @@ impl Client {
             alloc,
             rest: Vec::new(alloc),
         }
+    }
+
+    /// Its own address, which the server names it by.
+    pub(crate) fn addr(&self, rt: &impl Abort) -> SocketAddr {
+        self.stream.local_addr().expect(rt, "its address")
     }
 
     pub(crate) fn say(&mut self, rt: &impl Abort, bytes: &[u8]) {
@@ -151,7 +156,7 @@ impl Client {
     }
 }
 
-/// The number behind the status code's place in a reply.
+/// The number that stands in the status code's place of a reply.
 pub(crate) fn status(head: &[u8]) -> u16 {
     let mut code = 0u16;
     for byte in head.get(9..12).unwrap_or(b"") {
@@ -180,11 +185,15 @@ pub(crate) struct Ended {
 }
 
 impl Running {
-    /// Opens as many connections as there may be.
-    pub(crate) fn fill<R: Wait>(&self, rt: &R) {
-        for _ in 0..1024 {
-            let _ = self.book.lock(rt).connect();
+    /// Opens as many connections as there may be. Tells how many these are.
+    pub(crate) fn fill<R: Wait>(&self, rt: &R) -> u32 {
+        let mut count = 0u32;
+        for _ in 0..1024u32 {
+            if self.book.lock(rt).connect().is_ok() {
+                count = count.saturating_add(1);
+            }
         }
+        count
     }
 
     /// Waits until the server has ended.
@@ -210,16 +219,19 @@ pub(crate) struct Set {
     pub(crate) seats: usize,
     /// How many packets a mount's ring keeps.
     pub(crate) keep: usize,
-    /// For so many milliseconds players may stay behind their mount's end; `None` for good.
+    /// For so many milliseconds players may stay after their mount's end; `None` for good.
     pub(crate) after_end: Option<u64>,
     /// The milliseconds for which packets gather.
     pub(crate) gather: u64,
     /// The milliseconds for which a write may move nothing.
     pub(crate) write_wait: u64,
+    /// Whether lines tell of each mount and each player.
+    pub(crate) is_verbose: bool,
 }
 
 impl Set {
-    /// Rings keep 512 packets, packets gather for a millisecond, and players stay when their mount has ended.
+    /// Rings keep 512 packets, packets gather for a millisecond, players stay when their mount has ended, and no line tells of
+    /// mounts and players.
     pub(crate) fn of(accept: u64, seats: usize) -> Set {
         Set {
             accept,
@@ -228,28 +240,42 @@ impl Set {
             after_end: None,
             gather: 1,
             write_wait: 20_000,
+            is_verbose: false,
         }
     }
 }
 
-/// Serves in a thread of its own.
-fn serve<R, G>(
-    rt: R,
+/// Serves in a thread of its own, with this runtime.
+fn serve<R, S, L, G>(
+    rt: &R,
+    served: S,
     alloc: Global,
-    listener: TcpListener,
+    listener: L,
     options: Options,
     maker: RingMaker,
     book: SharedBook<Seat<Pass>>,
     gate: G,
 ) -> JoinHandle<Result<(), AllocError>>
 where
-    R: Threads + Wait + Clock + Log + Eprint + Abort + Copy + Send + Sync + 'static,
+    R: Threads + Abort,
+    S: Threads + Wait + Clock + Log + Eprint + Copy + Send + Sync + 'static,
+    L: Accepts + Drop + Send + 'static,
     G: Gate + Drop + Send + Sync + 'static,
 {
-    thread::spawn(&rt, move || {
-        run_server(rt, alloc, &listener, options, maker, book, WORD, gate)
+    thread::spawn(rt, move || {
+        run_server(served, alloc, &listener, options, maker, book, WORD, gate)
     })
-    .expect(&rt, "a thread")
+    .expect(rt, "a thread")
+}
+
+/// A listener on a free port, and its address.
+pub(crate) fn listening<R>(rt: &R) -> (TcpListener, SocketAddr)
+where
+    R: Abort + Net<Listener = TcpListener, Stream = TcpStream>,
+{
+    let listener = TcpListener::bind(rt, "127.0.0.1:0").expect(rt, "a listener");
+    let addr = listener.local_addr().expect(rt, "its address");
+    (listener, addr)
 }
 
 /// Starts a server whose packets have at most 16,384 bytes.
@@ -269,20 +295,40 @@ where
         + 'static,
     G: Gate + Drop + Send + Sync + 'static,
 {
-    let listener = TcpListener::bind(&rt, "127.0.0.1:0").expect(&rt, "a listener");
-    let addr = listener.local_addr().expect(&rt, "its address");
+    let (listener, addr) = listening(&rt);
+    start_on(&rt, rt, alloc, listener, addr, set, gate)
+}
+
+/// Starts a server of this address, which has this runtime and takes its connections from there. Its packets have at most 16,384
+/// bytes.
+pub(crate) fn start_on<R, S, L, G>(
+    rt: &R,
+    served: S,
+    alloc: Global,
+    listener: L,
+    addr: SocketAddr,
+    set: Set,
+    gate: G,
+) -> Running
+where
+    R: Threads + RandomSource + Abort,
+    S: Threads + Wait + Clock + Log + Eprint + Copy + Send + Sync + 'static,
+    L: Accepts + Drop + Send + 'static,
+    G: Gate + Drop + Send + Sync + 'static,
+{
     let seats = set.seats.min(1024);
-    let hasher = RandomState::new(&rt).expect(&rt, "random bytes");
+    let hasher = RandomState::new(rt).expect(rt, "random bytes");
     let book = Book::new(alloc, seats, hasher);
-    let book = Arc::new(alloc, Mutex::new(book)).expect(&rt, "memory");
-    let theirs = Arc::try_clone(&book).expect(&rt, "a count of the book's users");
+    let book = Arc::new(alloc, Mutex::new(book)).expect(rt, "memory");
+    let theirs = Arc::try_clone(&book).expect(rt, "a count of the book's users");
     let options = Options {
         accept: Some(set.accept),
         gather: set.gather,
         after_end: set.after_end,
         write_wait: set.write_wait,
+        is_verbose: set.is_verbose,
     };
     let maker = RingMaker::new(set.keep.clamp(1, 4095), seats, 16_384);
-    let thread = serve(rt, alloc, listener, options, maker, theirs, gate);
+    let thread = serve(rt, served, alloc, listener, options, maker, theirs, gate);
     Running { addr, book, thread }
 }

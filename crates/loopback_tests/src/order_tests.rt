@@ -59,7 +59,7 @@ fn pauses<R: Clock + Abort>(rt: &R, client: &mut Client, pause: &[u8]) -> Durati
     began.elapsed(rt).expect(rt, "the time")
 }
 
-/// Joins and pauses so often: each reply to a PLAY comes before any frame, and none comes behind the reply to a PAUSE. The
+/// Joins and pauses so often: each reply to a PLAY comes before any frame, and none comes after the reply to a PAUSE. The
 /// shortest time that a PAUSE took.
 fn joins<R: Net<Stream = TcpStream> + Clock + Abort>(
     rt: &R,

@@ -12,7 +12,7 @@ use std::sync::atomic::{AtomicBool, Ordering};
 use std::thread;
 use std::time::{Clock, Duration};
 
-/// A frame comes to its player on the channel that it set up. Behind that the server has read all that the camera said.
+/// A frame comes to its player on the channel that it set up. After that the server has read all that the camera said.
 fn comes_out<R: Abort>(rt: &R, camera: &mut Client, player: &mut Client) {
     assert!(rt; player.status_of(rt, SETUP_OUT) == 200);
     assert!(rt; player.status_of(rt, &play(2)) == 200);
@@ -61,8 +61,12 @@ fn a_frame_comes_out_where_it_was_set_up(rt: HostRuntime) {
     server.end(&rt);
 }
 
-/// Two clients, one behind the other, each of which asks once.
-fn two_clients_ask<R: Net<Stream = TcpStream> + Abort>(rt: &R, alloc: Global, addr: SocketAddr) {
+/// Two clients, one after the other, each of which asks once.
+pub(crate) fn two_clients_ask<R: Net<Stream = TcpStream> + Abort>(
+    rt: &R,
+    alloc: Global,
+    addr: SocketAddr,
+) {
     for _ in 0..2 {
         let mut client = Client::connect(rt, alloc, addr);
         assert!(rt; client.status_of(rt, OPTIONS) == 200);
@@ -172,7 +176,7 @@ fn read_to_the_end(rt: &impl Abort, player: &mut Client) -> Option<u16> {
     Some(next)
 }
 
-/// Two players read each batch before the next one is published, and are hung up behind the mount's end.
+/// Two players read each batch before the next one is published, and are hung up after the mount's end.
 fn two_read_all<R: Abort>(rt: &R, alloc: Global, camera: &mut Client, players: &mut [Client; 2]) {
     let mut from = 0u16;
     for _ in 0..PUBLISHED / BATCH {
@@ -279,7 +283,7 @@ fn long_is_refused<R: Net<Stream = TcpStream> + Abort>(rt: &R, alloc: Global, ad
 }
 
 /// A client for which there is no connection is hung up.
-fn late_is_refused<R: Net<Stream = TcpStream> + Abort>(
+pub(crate) fn late_is_refused<R: Net<Stream = TcpStream> + Abort>(
     rt: &R,
     alloc: Global,
     addr: SocketAddr,

@@ -1,0 +1,150 @@
+//! Accepts and threads that are refused.
+use crate::kept::Kept;
+use crate::leaving_tests::plays_at_last;
+use crate::loopback::{Set, listening, start, start_on};
+use crate::scripted::{Peers, passes_on};
+use crate::serving_tests::{late_is_refused, two_clients_ask};
+use relay_server::{Accepts, Gate, OpenGate};
+use std::alloc::Global;
+use std::io;
+use std::net::{Net, SocketAddr, TcpListener, TcpStream};
+use std::process::Abort;
+use std::sync::atomic::{AtomicU64, Ordering};
+use std::time::{Clock, Duration, Instant};
+
+/// A listener that fails three times before each connection.
+#[derive(Drop)]
+struct Failing {
+    listener: TcpListener,
+    asked: AtomicU64,
+}
+
+impl Accepts for Failing {
+    fn accept(&self) -> io::Result<(TcpStream, SocketAddr)> {
+        if self.asked.fetch_add(1, Ordering::SeqCst) % 4 < 3 {
+            return Err(io::Error::from(io::ErrorKind::Other));
+        }
+        self.listener.accept()
+    }
+}
+
+/// The number that a line of a refusal with this text tells. `None` where it tells of something else.
+fn told(line: &str, text: &str) -> Option<u64> {
+    let rest = line.strip_prefix("[WARN  relay_server::refusing] ")?;
+    rest.strip_suffix(text)?.parse::<u64>().ok()
+}
+
+/// How many refusals with this text these lines tell of. `None` where one of them tells of something else.
+fn all_told(lines: &[String], text: &str) -> Option<u64> {
+    let mut sum = 0u64;
+    for line in lines {
+        sum = sum.saturating_add(told(line.as_str(), text)?);
+    }
+    Some(sum)
+}
+
+/// Six accepts fail, each of which is waited for a tenth of a second. The first is told at once and the others at the end,
+/// together.
+#[test]
+fn an_accept_that_fails_is_tried_again(rt: HostRuntime) {
+    let alloc = rt.alloc();
+    let began = Instant::now(&rt).expect(&rt, "the time");
+    let (listener, addr) = listening(&rt);
+    let failing = Failing {
+        listener,
+        asked: AtomicU64::new(0),
+    };
+    let served = Kept::new(rt, alloc);
+    let server = start_on(&rt, served, alloc, failing, addr, Set::of(2, 1), OpenGate);
+    two_clients_ask(&rt, alloc, server.addr);
+    server.end(&rt);
+    let took = began.elapsed(&rt).expect(&rt, "the time");
+    assert!(rt; took >= Duration::from_millis(600));
+    let lines = served.lines().expect(&rt, "memory");
+    let text = " not accepted: no descriptor or no memory";
+    assert!(rt; lines.len() <= 2 && all_told(lines.as_slice(), text) == Some(6));
+}
+
+/// Starts each thread but the one of this number, counted from 0.
+#[derive(Drop)]
+struct Refusing {
+    number: u64,
+    asked: AtomicU64,
+}
+
+impl Refusing {
+    fn new(number: u64) -> Refusing {
+        Refusing {
+            number,
+            asked: AtomicU64::new(0),
+        }
+    }
+}
+
+impl Gate for Refusing {
+    fn pass(&self, _conn: u64, _turn: u64) {}
+
+    fn may_start(&self) -> bool {
+        self.asked.fetch_add(1, Ordering::SeqCst) != self.number
+    }
+}
+
+/// Its peer is told so and closed, and the next ones are served. The server ends, for which no thread may be counted any more.
+#[test]
+fn a_connection_without_a_thread_is_refused(rt: HostRuntime) {
+    let alloc = rt.alloc();
+    let (listener, addr) = listening(&rt);
+    let served = Kept::new(rt, alloc);
+    let gate = Refusing::new(0);
+    let server = start_on(&rt, served, alloc, listener, addr, Set::of(3, 1), gate);
+    late_is_refused(&rt, alloc, server.addr);
+    two_clients_ask(&rt, alloc, server.addr);
+    let ended = server.end(&rt);
+    // Its coming and its hang-up, and those of two connections with a request each.
+    assert!(rt; ended.kept == 8 && !ended.open[0] && !ended.open[1]);
+    let lines = served.lines().expect(&rt, "memory");
+    assert!(rt; all_told(lines.as_slice(), " refused: no thread") == Some(1));
+}
+
+/// Its place in the book is free again before its peer is told.
+#[test]
+fn a_refused_connection_leaves_its_place(rt: HostRuntime) {
+    let alloc = rt.alloc();
+    let server = start(rt, alloc, Set::of(1, 1), Refusing::new(0));
+    let _refused = late_is_refused(&rt, alloc, server.addr);
+    assert!(rt; server.fill(&rt) == 1024);
+    server.end(&rt);
+}
+
+/// A player that has the only seat is hung up after the reply to its PLAY, and another one has the seat then. Tells who it was.
+fn seat_is_free_again<R: Net<Stream = TcpStream> + Clock + Abort>(
+    rt: &R,
+    alloc: Global,
+    addr: SocketAddr,
+) -> SocketAddr {
+    let Peers {
+        mut camera,
+        mut first,
+        mut second,
+    } = Peers::connect(rt, alloc, addr);
+    assert!(rt; first.is_hung_up(rt));
+    assert!(rt; plays_at_last(rt, &mut second, 3) == 200);
+    assert!(rt; passes_on(rt, &mut camera, &mut second));
+    first.addr(rt)
+}
+
+/// After those of a camera and of a player no thread can be started for the player's frames.
+#[test]
+fn a_player_without_a_thread_for_its_frames_is_let_go(rt: HostRuntime) {
+    let alloc = rt.alloc();
+    let (listener, addr) = listening(&rt);
+    let served = Kept::new(rt, alloc);
+    let gate = Refusing::new(2);
+    let server = start_on(&rt, served, alloc, listener, addr, Set::of(3, 1), gate);
+    let first = seat_is_free_again(&rt, alloc, server.addr);
+    server.end(&rt);
+    let lines = served.lines().expect(&rt, "memory");
+    let told = format!(in alloc; "[WARN  relay_server::server] {first}: no thread for its frames");
+    let told = told.expect(&rt, "memory");
+    assert!(rt; lines.len() == 1 && lines.iter().all(|line| line.as_str() == told.as_str()));
+}
