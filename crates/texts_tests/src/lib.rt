@@ -16,6 +16,8 @@ mod of_interleaved;
 #[cfg(test)]
 mod of_mounts;
 #[cfg(test)]
+mod of_rooms;
+#[cfg(test)]
 mod of_rtsp_message;
 #[cfg(test)]
 mod of_sdp;

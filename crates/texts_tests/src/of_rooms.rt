@@ -1,0 +1,88 @@
+//! How much room there is for more than what is in units, in copies of requests and in the lists of both.
+use base_syntax::Bytes;
+use rtsp_message::{Header, Reader, Request, Unit};
+use std::alloc::{AllocError, Global};
+use std::process::Abort;
+
+/// How many frames, and how many header fields, are read.
+const MANY: usize = 2_000;
+
+/// Whether so much room is for at most twice as many as are in it, and a few.
+fn is_close(capacity: usize, len: usize) -> bool {
+    capacity / 2 <= len.saturating_add(4)
+}
+
+/// Looks at the room of a text.
+fn look_at_bytes(rt: &impl Abort, bytes: Bytes) {
+    let bytes = bytes.into_vec();
+    assert!(rt;
+        is_close(bytes.capacity(), bytes.len()),
+        "{} of {}",
+        bytes.len(),
+        bytes.capacity()
+    );
+}
+
+/// Looks at the room of each text of a request, and of the list of its header fields.
+fn look_at_request(rt: &impl Abort, request: Request) {
+    let Request {
+        method,
+        uri,
+        version,
+        headers,
+        body,
+        ..
+    } = request;
+    for text in [method, uri, version, body] {
+        look_at_bytes(rt, text);
+    }
+    let headers = headers.into_vec();
+    assert_eq!(rt; headers.len(), MANY);
+    assert!(rt;
+        is_close(headers.capacity(), headers.len()),
+        "{}",
+        headers.capacity()
+    );
+    for Header { name, value } in headers {
+        look_at_bytes(rt, name);
+        look_at_bytes(rt, value);
+    }
+}
+
+/// Many frames of a byte, and a request of many header fields.
+fn long_piece(alloc: Global) -> Result<Vec<u8>, AllocError> {
+    let mut piece = Vec::new(alloc);
+    for _ in 0..MANY {
+        piece.extend_from_slice(b"$\x00\x00\x01a")?;
+    }
+    piece.extend_from_slice(b"OPTIONS * RTSP/1.0\r\nContent-Length: 3\r\n")?;
+    for _ in 1..MANY {
+        piece.extend_from_slice(b"a:\n")?;
+    }
+    piece.extend_from_slice(b"\r\nabc")?;
+    Ok(piece)
+}
+
+#[test]
+fn units_take_at_most_twice_the_room_they_need(rt: HostRuntime) {
+    let alloc = rt.alloc();
+    let piece = long_piece(alloc).expect(&rt, "memory");
+    let mut reader = Reader::new(alloc);
+    let fed = reader.feed(piece.as_slice()).ok().expect(&rt, "memory");
+    let units = fed.units;
+    assert_eq!(rt; units.len(), MANY + 1);
+    assert!(rt;
+        is_close(units.capacity(), units.len()),
+        "{}",
+        units.capacity()
+    );
+    for unit in units {
+        match unit {
+            Unit::Frame(frame) => look_at_bytes(&rt, frame.payload),
+            Unit::Message(request) => {
+                look_at_request(&rt, request.copy(alloc).expect(&rt, "memory"));
+                look_at_request(&rt, request);
+            }
+        }
+    }
+}
