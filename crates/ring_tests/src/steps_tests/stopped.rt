@@ -74,9 +74,10 @@ fn events_by(trace: &Trace, actor: Actor) -> usize {
 /// Wherever the schedule ends and whoever stops there, the other's calls are all answered, and the one that stopped takes no
 /// step more.
 fn stops_anywhere(rt: &impl Abort, alloc: Global, calls: &Script, actors: &[Actor]) {
+    let seat_calls = calls.seats.first().expect(rt, "a seat");
     for end in 0..actors.len() + 1 {
         for (stopped, other, answered) in [
-            (Actor::P, Actor::Seat(0), calls.seats[0].len()),
+            (Actor::P, Actor::Seat(0), seat_calls.len()),
             (Actor::Seat(0), Actor::P, calls.publisher.len()),
         ] {
             let trace = run_out_told(rt, alloc, calls, &actors[..end], stopped);
