@@ -26,7 +26,7 @@ pub account_after_event : (old new : Plain) (s : ℕ) (a : Account) (call : Call
 account_after_event old new s a (Publish p) (Appended n) h stays has = rw (h.accounts, ← with_answers-none a) has
 account_after_event old new s a (Publish p) Refused h stays has = rw (h.accounts, ← with_answers-none a) has
 account_after_event old new s a Close Closed h stays has = rw (h.accounts, ← with_answers-none a) has
-account_after_event old new s a (Attach t) (Attached c) h stays has =
+account_after_event old new s a (Attach t m) (Attached c) h stays has =
     let ne : t ≢ s = λ e. let free = rw e at h.event.0 in let there = cursor_at old s a has in cc in
     rw (← with_answers-none a) (other_account old new t s a _ ne h.accounts has)
 account_after_event old new s a (Take t) (Taken d) h stays has =
@@ -54,10 +54,10 @@ free_place (Some a ∷ xs) zero h = absurd (cc)
 free_place (x ∷ xs) (suc s) h = free_place xs s h
 
 -- an attachment's account is that of its answers
-pub account_of_attachment : (s start : ℕ) (during : List Event) (old new : Plain)
-    → PlainRun old (record { call = Attach s; answer = Attached start } ∷ during) new → StaysAttached s during
+pub account_of_attachment : (s back start : ℕ) (during : List Event) (old new : Plain)
+    → PlainRun old (record { call = Attach s back; answer = Attached start } ∷ during) new → StaysAttached s during
     → HasAccount new s (account_of start (takes_of s during))
-account_of_attachment s start during old new run stays =
+account_of_attachment s back start during old new run stays =
     let begun : Account = record { start = start; taken = 0; lost = 0 } in
     let place : HasAccount run.0 s begun = rw run.1.accounts (read_place old.seats s None (Some begun) (free_place old.seats s run.1.event.0)) in
     let answers = takes_of s during in
@@ -69,12 +69,12 @@ PlainRun-split old [] ys new run = (old, refl, run)
 PlainRun-split old (x ∷ xs) ys new run = let rest = PlainRun-split run.0 xs ys new run.2 in (rest.0, (run.0, run.1, rest.1), rest.2)
 
 -- what a detachment tells is the account of its attachment
-pub left_of_attachment : (s start : ℕ) (during : List Event) (l : Left) (old new : Plain)
-    → PlainRun old (record { call = Attach s; answer = Attached start } ∷ during ++ record { call = Detach s; answer = Detached l } ∷ []) new → StaysAttached s during
+pub left_of_attachment : (s back start : ℕ) (during : List Event) (l : Left) (old new : Plain)
+    → PlainRun old (record { call = Attach s back; answer = Attached start } ∷ during ++ record { call = Detach s; answer = Detached l } ∷ []) new → StaysAttached s during
     → (l.taken ≡ length (received (takes_of s during))) × (l.lost ≡ lost (takes_of s during))
-left_of_attachment s start during l old new run stays =
-    let split = PlainRun-split old (record { call = Attach s; answer = Attached start } ∷ during) (record { call = Detach s; answer = Detached l } ∷ []) new run in
-    let has = account_of_attachment s start during old split.0 split.1 stays in
+left_of_attachment s back start during l old new run stays =
+    let split = PlainRun-split old (record { call = Attach s back; answer = Attached start } ∷ during) (record { call = Detach s; answer = Detached l } ∷ []) new run in
+    let has = account_of_attachment s back start during old split.0 split.1 stays in
     let told = split.2.1.told in
     let same : told.0 ≡ account_of start (takes_of s during) = let tells = told.1 in cc in
     (told.2 ∙ ap (λ (a : Account). a.taken) same, told.3 ∙ ap (λ (a : Account). a.lost) same)

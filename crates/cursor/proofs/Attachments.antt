@@ -123,7 +123,7 @@ After-event keep old new s c (Publish p) Refused h stays at within = After-same 
 After-event keep old new s c Close Closed h stays at within =
     After-same old (record old { closed = true }) new s c [] h.1
     (record { to = c; cursor = at; settles = (refl, within); more = []; grows = sym (append-nil old.packets) })
-After-event keep old new s c (Attach t) (Attached n) h stays at within =
+After-event keep old new s c (Attach t m) (Attached n) h stays at within =
     let ne : t ≢ s = λ e. let free = rw e at h.0 in cc in
     After-same old _ new s c [] h.2 (After-other old t s c _ ne at within)
 After-event keep old new s c (Take t) (Taken d) h stays at within =
@@ -164,8 +164,8 @@ pub record Reached (seat start : ℕ) (during : List Event) (log : Log) : Type 0
   pub settles : Settles log.packets start (takes_of seat during) to
   pub adds : cursor_of (account_of start (takes_of seat during)) ≡ to
 
-pub reached : (keep seats seat start : ℕ) (before during : List Event) (log : Log) → Attachment keep seats seat start before during log → Reached seat start during log
-reached keep seats seat start before during log h =
+pub reached : (keep seats seat back start : ℕ) (before during : List Event) (log : Log) → Attachment keep seats seat back start before during log → Reached seat start during log
+reached keep seats seat back start before during log h =
     let split = Run-split keep (empty_log seats) before _ log h.legal in
     let old = split.0 in
     let run = split.2 in

@@ -10,7 +10,7 @@ use Rattle.cursor.specs.declared.takes.Delivery.{Delivery}
 use Rattle.cursor.specs.declared.takes.Delivery.TheVariants.{Got, Lost, Empty, Ended}
 use Rattle.cursor.specs.declared.calls.Call.TheVariants.{Attach, Take, Detach}
 use Rattle.cursor.specs.declared.calls.Answer.TheVariants.{Attached, Taken, Detached}
-use Rattle.cursor.specs.Log.{Log, with_cursor, floor}
+use Rattle.cursor.specs.Log.{Log, back_from, with_cursor, floor}
 use Rattle.cursor.specs.Account.{counted, cursor_of}
 use Rattle.cursor.specs.Plain.{Plain, PlainEvent, IsFree, IsSound, HasAccount, log_of}
 
@@ -36,10 +36,12 @@ log_of-with_place plain s place =
 pub same_place : (plain : Plain) (s : ℕ) (a : Account) → HasAccount plain s a → slice_set plain.seats s (Some a) ≡ plain.seats
 same_place plain s a h = rw (← get_or_from_slice_get plain.seats s (Some a) None h) (set-get_or plain.seats s None)
 
-pub attach_event : (plain : Plain) (s : ℕ) → IsFree plain s
-    → PlainEvent plain (Attach s) (Attached (length plain.packets)) (with_place plain s (Some (record { start = length plain.packets; taken = 0; lost = 0 })))
-attach_event plain s free =
-    let at : length plain.packets + 0 + 0 ≡ length plain.packets = omega arith in
+pub attach_event : (plain : Plain) (s back : ℕ) → IsFree plain s
+    → let start = back_from plain.keep back (length plain.packets) in
+    PlainEvent plain (Attach s back) (Attached start) (with_place plain s (Some (record { start = start; taken = 0; lost = 0 })))
+attach_event plain s back free =
+    let start = back_from plain.keep back (length plain.packets) in
+    let at : start + 0 + 0 ≡ start = omega arith in
     record {
       event = (free_at plain s free, refl, log_of-with_place plain s _ ∙ ap (λ c. with_cursor (log_of plain) s (Some c)) at);
       accounts = refl;

@@ -11,7 +11,7 @@ use Rattle.cursor.specs.declared.calls.Answer.{Answer}
 use Rattle.cursor.specs.declared.calls.Answer.TheVariants.{Appended, Refused, Closed, Attached, Taken, Detached}
 use Rattle.cursor.specs.Account.{StaysAttached, losses, take_of, takes_of, without}
 use Rattle.cursor.proofs.Counting.{read_place}
-use Rattle.cursor.specs.Log.{Event, LegalHistory, Log, LogEvent, Run, attached_at, detached_with, empty_log, with_cursor}
+use Rattle.cursor.specs.Log.{Event, LegalHistory, Log, LogEvent, Run, attached_at, back_from, detached_with, empty_log, with_cursor}
 use Rattle.cursor.specs.Player.{PlayersReceive, ReceivedFrom, StaysOut, appended, appended_by}
 use Rattle.cursor.proofs.Attachments.{Run-split, Settles, Settles-grows, Settles-within, reached, read_other}
 use Rattle.cursor.proofs.Kept.{received-without}
@@ -28,7 +28,7 @@ event_continues : (keep : ℕ) (old new : Log) (call : Call) (answer : Answer) �
 event_continues keep old new (Publish p) (Appended n) h = (p ∷ [], ap (λ (l : Log). l.packets) h.2, refl)
 event_continues keep old new (Publish p) Refused h = same_packets old.packets new.packets (ap (λ (l : Log). l.packets) h.1)
 event_continues keep old new Close Closed h = same_packets old.packets new.packets (ap (λ (l : Log). l.packets) h.1)
-event_continues keep old new (Attach s) (Attached c) h = same_packets old.packets new.packets (ap (λ (l : Log). l.packets) h.2)
+event_continues keep old new (Attach s m) (Attached c) h = same_packets old.packets new.packets (ap (λ (l : Log). l.packets) h.2)
 event_continues keep old new (Take s) (Taken (Got n p)) h = same_packets old.packets new.packets (ap (λ (l : Log). l.packets) h.3)
 event_continues keep old new (Take s) (Taken (Lost k)) h = same_packets old.packets new.packets (ap (λ (l : Log). l.packets) h.4)
 event_continues keep old new (Take s) (Taken Empty) h = same_packets old.packets new.packets (ap (λ (l : Log). l.packets) h.2)
@@ -43,26 +43,27 @@ run_continues keep old (e ∷ es) new run =
     let rest = run_continues keep run.0 es new run.2 in
     (first.0 ++ rest.0, rest.1 ∙ ap (λ ps. ps ++ rest.0) first.1 ∙ append_assoc old.packets first.0 rest.0, omega (arith, length-append first.0 rest.0, first.2, rest.2))
 
--- a seat is attached at the length of the log
-attached_at_end : (keep seats : ℕ) (before during : List Event) (log : Log) (seat start : ℕ) → LegalHistory keep seats (before ++ (attached_at seat start ∷ during)) log → start ≡ appended before
-attached_at_end keep seats before during log seat start legal =
-    let parts = Run-split keep (empty_log seats) before (attached_at seat start ∷ during) log legal in
+-- a seat is attached as far back from the length of the log as it asked for
+attached_back : (keep seats : ℕ) (before during : List Event) (log : Log) (seat back start : ℕ) → LegalHistory keep seats (before ++ (attached_at seat back start ∷ during)) log
+    → start ≡ back_from keep back (appended before)
+attached_back keep seats before during log seat back start legal =
+    let parts = Run-split keep (empty_log seats) before (attached_at seat back start ∷ during) log legal in
     let more = run_continues keep (empty_log seats) before parts.0 parts.1 in
-    parts.2.1.1 ∙ ap (λ (ps : List Packet). length ps) more.1 ∙ more.2
+    parts.2.1.1 ∙ ap (back_from keep back) (ap (λ (ps : List Packet). length ps) more.1 ∙ more.2)
 
 -- what an attachment was given, in a history that goes on
-attached_receives : (keep seats : ℕ) (events : List Event) (log : Log) → LegalHistory keep seats events log → (seat start : ℕ) (before during after : List Event)
-    → events ≡ before ++ (attached_at seat start ∷ during) ++ after → StaysAttached seat during → (start ≡ appended before) × ReceivedFrom log.packets start (takes_of seat during)
-attached_receives keep seats events log legal seat start before during after is stays =
+attached_receives : (keep seats : ℕ) (events : List Event) (log : Log) → LegalHistory keep seats events log → (seat back start : ℕ) (before during after : List Event)
+    → events ≡ before ++ (attached_at seat back start ∷ during) ++ after → StaysAttached seat during → (start ≡ back_from keep back (appended before)) × ReceivedFrom log.packets start (takes_of seat during)
+attached_receives keep seats events log legal seat back start before during after is stays =
     let answers = takes_of seat during in
-    let split = Run-split keep (empty_log seats) (before ++ (attached_at seat start ∷ during)) after log (subst (λ (es : List Event). Run keep (empty_log seats) es log) is legal) in
+    let split = Run-split keep (empty_log seats) (before ++ (attached_at seat back start ∷ during)) after log (subst (λ (es : List Event). Run keep (empty_log seats) es log) is legal) in
     let mid = split.0 in
-    let at = reached keep seats seat start before during mid (record { legal = split.1; stays = stays }) in
+    let at = reached keep seats seat back start before during mid (record { legal = split.1; stays = stays }) in
     let more = run_continues keep mid after log split.2 in
     let settles : Settles log.packets start answers at.to =
     subst (λ (ps : List Packet). Settles ps start answers at.to) (sym more.1) (Settles-grows mid.packets more.0 start answers at.to at.settles) in
     let adds = at.adds in (
-      attached_at_end keep seats before during mid seat start split.1,
+      attached_back keep seats before during mid seat back start split.1,
       record {
         in_order = received-without log.packets start answers at.to settles (losses start answers) (λ n above. refl) ∙ ap (λ e. without (losses start answers) start (slice_range log.packets start e)) (sym adds);
         within = rw adds (Settles-within log.packets start answers at.to settles);
@@ -95,11 +96,11 @@ take_out old new t s d ne out = elim (eqb_tells t s) [
   | inr e ↦ record { none = rw e.0 refl; out = out }
 ]
 
-event_out : (keep : ℕ) (old new : Log) (s : ℕ) (call : Call) (answer : Answer) → LogEvent keep old call answer new → call ≢ Attach s → IsOut old s → OutStays s call answer new
+event_out : (keep : ℕ) (old new : Log) (s : ℕ) (call : Call) (answer : Answer) → LogEvent keep old call answer new → ((back : ℕ) → call ≢ Attach s back) → IsOut old s → OutStays s call answer new
 event_out keep old new s (Publish p) (Appended n) h stays none = record { none = refl; out = same_out old new s (ap (λ (l : Log). l.cursors) h.2) none }
 event_out keep old new s (Publish p) Refused h stays none = record { none = refl; out = same_out old new s (ap (λ (l : Log). l.cursors) h.1) none }
 event_out keep old new s Close Closed h stays none = record { none = refl; out = same_out old new s (ap (λ (l : Log). l.cursors) h.1) none }
-event_out keep old new s (Attach t) (Attached c) h stays none = record { none = refl; out = other_out old new t s (Some c) (λ e. stays (ap Attach e)) h.2 none }
+event_out keep old new s (Attach t m) (Attached c) h stays none = record { none = refl; out = other_out old new t s (Some c) (λ e. stays m (ap (λ (u : ℕ). Attach u m) e)) h.2 none }
 event_out keep old new s (Take t) (Taken (Got n p)) h stays none =
     let ne = other_seat old t s n h.0 none in take_out old new t s (Got n p) ne (other_out old new t s (Some (n + 1)) ne h.3 none)
 event_out keep old new s (Take t) (Taken (Lost k)) h stays none =
@@ -128,7 +129,7 @@ empty_out zero s c at = cc
 empty_out (suc n) zero c at = cc
 empty_out (suc n) (suc s) c at = empty_out n s c at
 
-pub players_receive : (keep seats : ℕ) (events : List Event) (log : Log) → LegalHistory keep seats events log → PlayersReceive events log.packets
+pub players_receive : (keep seats : ℕ) (events : List Event) (log : Log) → LegalHistory keep seats events log → PlayersReceive keep events log.packets
 players_receive keep seats events log legal = record {
   attached = attached_receives keep seats events log legal;
   detached = λ seat left before out after is stays.

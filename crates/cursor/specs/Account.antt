@@ -92,8 +92,8 @@ abbrev pub StaysAttached : (seat : ℕ) → List Event → Type 0
 StaysAttached s [] = Unit {0}
 StaysAttached s (e ∷ es) = (e.call ≢ Detach s) × StaysAttached s es
 
--- a legal history that leads to this log, in whose course the seat was attached at `start` and has
--- been attached since: `during` is what came after that
-pub record Attachment (keep seats seat start : ℕ) (before during : List Event) (log : Log) : Type 0 where
-  pub legal : LegalHistory keep seats (before ++ attached_at seat start ∷ during) log
+-- a legal history that leads to this log, in whose course the seat was attached at `start`, as it asked
+-- for `back` packets back, and has been attached since: `during` is what came after that
+pub record Attachment (keep seats seat back start : ℕ) (before during : List Event) (log : Log) : Type 0 where
+  pub legal : LegalHistory keep seats (before ++ attached_at seat back start ∷ during) log
   pub stays : StaysAttached seat during

@@ -1,5 +1,5 @@
 -- The broadcast log: its state, which answers it may give to each call, and its legal histories.
-use Rattle.std.specs.Prelude.{◌≡◌, ℕ, ◌+◌, ◌-◌, ◌<◌, ◌≤◌, Bool, true, false, Option, Some, None, List, [], ◌∷◌, ◌++◌, length, slice_get, slice_set, replicate}
+use Rattle.std.specs.Prelude.{◌≡◌, ℕ, ◌+◌, ◌-◌, ◌<◌, ◌≤◌, Bool, true, false, Option, Some, None, List, [], ◌∷◌, ◌++◌, length, min, slice_get, slice_set, replicate}
 use Rattle.cursor.specs.declared.packets.Packet.{Packet}
 use Rattle.cursor.specs.declared.takes.Delivery.TheVariants.{Got, Lost, Empty, Ended}
 use Rattle.cursor.specs.declared.takes.Left.{Left}
@@ -31,14 +31,19 @@ with_cursor log seat cursor = record log { cursors = slice_set log.cursors seat 
 abbrev pub floor : (keep : ℕ) → Log → ℕ
 floor keep log = length log.packets - keep
 
+-- the number from which a seat reads that asks for so many packets back from the end of a log of this
+-- length: it is given what it asks for, but no more than are kept, and no more than there are
+abbrev pub back_from : (keep back count : ℕ) → ℕ
+back_from keep back count = count - min back (min keep count)
+
 -- a log that keeps so many packets may answer this to the call, and go on from old to new
 abbrev pub LogEvent : (keep : ℕ) → (old : Log) → Call → Answer → (new : Log) → Type 0
 LogEvent keep old (Publish p) (Appended n) new =
     (old.closed ≡ false) × (n ≡ length old.packets) × (new ≡ record old { packets = old.packets ++ p ∷ [] })
 LogEvent keep old (Publish p) Refused new = (old.closed ≡ false) × (new ≡ old)
 LogEvent keep old Close Closed new = (old.closed ≡ false) × (new ≡ record old { closed = true })
-LogEvent keep old (Attach s) (Attached c) new =
-    (slice_get old.cursors s ≡ Some None) × (c ≡ length old.packets) × (new ≡ with_cursor old s (Some c))
+LogEvent keep old (Attach s n) (Attached c) new =
+    (slice_get old.cursors s ≡ Some None) × (c ≡ back_from keep n (length old.packets)) × (new ≡ with_cursor old s (Some c))
 LogEvent keep old (Take s) (Taken (Got n p)) new =
     (slice_get old.cursors s ≡ Some (Some n)) × (floor keep old ≤ n) × (slice_get old.packets n ≡ Some p)
     × (new ≡ with_cursor old s (Some (n + 1)))
@@ -60,9 +65,9 @@ pub record Event : Type 0 where
   pub call : Call
   pub answer : Answer
 
--- a seat was attached, and reads from this number on
-abbrev pub attached_at : (seat start : ℕ) → Event
-attached_at seat start = record { call = Attach seat; answer = Attached start }
+-- a seat was attached, asked for so many packets back, and reads from this number on
+abbrev pub attached_at : (seat back start : ℕ) → Event
+attached_at seat back start = record { call = Attach seat back; answer = Attached start }
 
 -- a seat was detached, and was told this
 abbrev pub detached_with : (seat : ℕ) → Left → Event

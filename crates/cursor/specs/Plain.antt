@@ -49,7 +49,7 @@ IsAttached plain s = (a : Account) × HasAccount plain s a
 
 -- the accounts after a call and its answer
 abbrev pub accounts_after : List (Option Account) → Call → Answer → List (Option Account)
-accounts_after seats (Attach s) (Attached c) = slice_set seats s (Some (record { start = c; taken = 0; lost = 0 }))
+accounts_after seats (Attach s n) (Attached c) = slice_set seats s (Some (record { start = c; taken = 0; lost = 0 }))
 accounts_after seats (Take s) (Taken d) = slice_set seats s (option_map (counted d) (slice_index_or seats s None))
 accounts_after seats (Detach s) (Detached l) = slice_set seats s None
 accounts_after seats call answer = seats
@@ -112,7 +112,7 @@ PlainRun old (e ∷ es) new = (mid : Plain) × PlainEvent old e.call e.answer mi
 abbrev pub MayMake : Plain → Call → Type 0
 MayMake plain (Publish p) = (plain.closed ≡ false) × (length p.bytes ≤ plain.packet_bytes)
 MayMake plain Close = plain.closed ≡ false
-MayMake plain (Attach s) = IsFree plain s
+MayMake plain (Attach s n) = IsFree plain s
 MayMake plain (Take s) = IsAttached plain s
 MayMake plain (Detach s) = IsAttached plain s
 

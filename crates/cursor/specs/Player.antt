@@ -7,7 +7,7 @@ use Rattle.cursor.specs.declared.calls.Call.TheVariants.{Attach}
 use Rattle.cursor.specs.declared.takes.Delivery.{Delivery}
 use Rattle.cursor.specs.declared.takes.Left.{Left}
 use Rattle.cursor.specs.Account.{StaysAttached, account_of, cursor_of, lies_in, losses, positions, received, takes_of, without}
-use Rattle.cursor.specs.Log.{Event, attached_at, detached_with}
+use Rattle.cursor.specs.Log.{Event, attached_at, back_from, detached_with}
 
 -- a seat that began at `start` and was given these answers received, in order, the packets from there to
 -- its cursor less exactly the losses: each number between is that of one packet or lies in one loss
@@ -29,13 +29,13 @@ appended (e ∷ es) = appended_by e.answer + appended es
 -- the seat isn't attached in these events
 abbrev pub StaysOut : (seat : ℕ) → List Event → Type 0
 StaysOut s [] = Unit {0}
-StaysOut s (e ∷ es) = (e.call ≢ Attach s) × StaysOut s es
+StaysOut s (e ∷ es) = ((back : ℕ) → e.call ≢ Attach s back) × StaysOut s es
 
--- what the seats of a history with these packets are given: in each attachment the log from its start,
--- which is the length that the log had then, less the losses; and nothing between a detachment and the
--- next attachment or before the first one
-pub record PlayersReceive (events : List Event) (packets : List Packet) : Type 0 where
-  pub attached : (seat start : ℕ) (before during after : List Event) → events ≡ before ++ (attached_at seat start ∷ during) ++ after → StaysAttached seat during
-      → (start ≡ appended before) × ReceivedFrom packets start (takes_of seat during)
+-- what the seats of a history with these packets are given, where so many are kept: in each attachment the
+-- log from its start, which is the number of packets asked for back from the length that the log had then,
+-- less the losses; and nothing between a detachment and the next attachment or before the first one
+pub record PlayersReceive (keep : ℕ) (events : List Event) (packets : List Packet) : Type 0 where
+  pub attached : (seat back start : ℕ) (before during after : List Event) → events ≡ before ++ (attached_at seat back start ∷ during) ++ after → StaysAttached seat during
+      → (start ≡ back_from keep back (appended before)) × ReceivedFrom packets start (takes_of seat during)
   pub detached : (seat : ℕ) (left : Left) (before out after : List Event) → events ≡ before ++ (detached_with seat left ∷ out) ++ after → StaysOut seat out → takes_of seat out ≡ []
   pub unattached : (seat : ℕ) (out after : List Event) → events ≡ out ++ after → StaysOut seat out → takes_of seat out ≡ []

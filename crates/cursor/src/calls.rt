@@ -8,8 +8,8 @@ pub enum Call {
     Publish(Packet),
     /// The publisher ends the log.
     Close,
-    /// This seat begins to read.
-    Attach(u16),
+    /// This seat begins to read, up to so many packets back from the log's end.
+    Attach { seat: u16, back: u64 },
     /// This seat asks for its next packet.
     Take(u16),
     /// This seat stops to read.

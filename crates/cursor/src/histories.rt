@@ -50,7 +50,7 @@ fn reply(alloc: Global, log: &mut PlainLog, call: &Call) -> Result<Option<Answer
             log.close();
             Answer::Closed
         }
-        Call::Attach(seat) => Answer::Attached(log.attach(*seat)),
+        Call::Attach { seat, back } => Answer::Attached(log.attach_back(*seat, *back)),
         Call::Take(seat) => {
             let mut room = vec![in alloc; 0; log.packet_bytes()]?;
             let taken = log.take(*seat, room.as_mut_slice());
@@ -68,7 +68,7 @@ fn may_make(log: &PlainLog, call: &Call) -> bool
     match call {
         Call::Publish(packet) => !log.is_closed() && packet.bytes.len() <= log.packet_bytes(),
         Call::Close => !log.is_closed(),
-        Call::Attach(seat) => log.is_free(*seat),
+        Call::Attach { seat, .. } => log.is_free(*seat),
         Call::Take(seat) | Call::Detach(seat) => log.is_attached(*seat),
     }
 }

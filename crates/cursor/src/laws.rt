@@ -12,24 +12,24 @@ ghost use Rattle.cursor.specs.Plain.{Plain, PlainRun, HasAccount, empty_plain, l
 
 /// The cursor of an attached seat is its start, the packets that it took and those that it lost.
 pub fn cursor_adds_up()
-    ensures { (keep seats seat start : ℕ) (before during : List Event) (log : Log)
-        → Attachment keep seats seat start before during log
+    ensures { (keep seats seat back start : ℕ) (before during : List Event) (log : Log)
+        → Attachment keep seats seat back start before during log
         → let account = account_of start (takes_of seat during) in
         slice_get log.cursors seat ≡ Some (Some (cursor_of account)) }
 {}
 
 /// The numbers of the packets that a seat took rise.
 pub fn positions_rise()
-    ensures { (keep seats seat start : ℕ) (before during : List Event) (log : Log)
-        → Attachment keep seats seat start before during log
+    ensures { (keep seats seat back start : ℕ) (before during : List Event) (log : Log)
+        → Attachment keep seats seat back start before during log
         → IsStrictlyIncreasing (positions (takes_of seat during)) }
 {}
 
 /// Each number from the start on that is below the cursor is a position or lies in one loss, and not in
 /// both, nor twice.
 pub fn each_number_once()
-    ensures { (keep seats seat start : ℕ) (before during : List Event) (log : Log)
-        → Attachment keep seats seat start before during log
+    ensures { (keep seats seat back start : ℕ) (before during : List Event) (log : Log)
+        → Attachment keep seats seat back start before during log
         → let answers = takes_of seat during in
         (n : ℕ) → start ≤ n → n < cursor_of (account_of start answers)
         → count_by (λ m. m == n) (positions answers) + count_by (lies_in n) (losses start answers) ≡ 1 }
@@ -37,8 +37,8 @@ pub fn each_number_once()
 
 /// What a seat received is the log from its start to its cursor, in order, without the lost numbers.
 pub fn received_in_order()
-    ensures { (keep seats seat start : ℕ) (before during : List Event) (log : Log)
-        → Attachment keep seats seat start before during log
+    ensures { (keep seats seat back start : ℕ) (before during : List Event) (log : Log)
+        → Attachment keep seats seat back start before during log
         → let answers = takes_of seat during in
         let cursor = cursor_of (account_of start answers) in
         received answers ≡ without (losses start answers) start (slice_range log.packets start cursor) }
@@ -50,7 +50,7 @@ pub fn received_in_order()
 pub fn players_receive_the_log()
     ensures { (keep seats : ℕ) (events : List Event) (log : Log)
         → LegalHistory keep seats events log
-        → PlayersReceive events log.packets }
+        → PlayersReceive keep events log.packets }
 {}
 
 /// A new plain log is the empty log.
@@ -61,16 +61,16 @@ pub fn new_is_empty()
 
 /// What a plain log keeps of an attached seat is the account of its takes since it was attached.
 pub fn accounts_are_received()
-    ensures { (seat start : ℕ) (during : List Event) (old new : Plain)
-        → PlainRun old (attached_at seat start ∷ during) new
+    ensures { (seat back start : ℕ) (during : List Event) (old new : Plain)
+        → PlainRun old (attached_at seat back start ∷ during) new
         → StaysAttached seat during
         → HasAccount new seat (account_of start (takes_of seat during)) }
 {}
 
 /// A detachment tells the packets that were taken and lost since the seat was attached.
 pub fn left_is_received()
-    ensures { (seat start : ℕ) (during : List Event) (left : Left) (old new : Plain)
-        → PlainRun old (attached_at seat start ∷ during ++ detached_with seat left ∷ []) new
+    ensures { (seat back start : ℕ) (during : List Event) (left : Left) (old new : Plain)
+        → PlainRun old (attached_at seat back start ∷ during ++ detached_with seat left ∷ []) new
         → StaysAttached seat during
         → let answers = takes_of seat during in
         (left.taken ≡ length (received answers)) × (left.lost ≡ lost answers) }

@@ -84,18 +84,24 @@ impl PlainLog {
         self.closed = true;
     }
 
-    /// Attaches a seat that isn't attached, and answers the number that it reads from.
+    /// Attaches a seat that isn't attached, and answers the number that it reads from: the next packet's.
     pub fn attach(&mut self, seat: u16) -> u64
         requires { IsFree self.old seat }
-        ensures { PlainEvent self.old (Call.Attach seat) (Answer.Attached result) self.new }
+        ensures event { PlainEvent self.old (Call.Attach seat 0) (Answer.Attached result) self.new }
+        ensures end { result ≡ length self.old.packets }
     {
-        let start = self.packets.len() as u64;
-        self.seats[usize::from(seat)] = Some(Account {
-            start,
-            taken: 0,
-            lost: 0,
-        });
-        start
+        self.attach_back(seat, 0)
+    }
+
+    /// Attaches a seat that isn't attached, up to `back` packets back from the log's end, and answers the
+    /// number that it reads from. It isn't given more packets than the log keeps, nor than there are.
+    pub fn attach_back(&mut self, seat: u16, back: u64) -> u64
+        requires { IsFree self.old seat }
+        ensures { PlainEvent self.old (Call.Attach seat back) (Answer.Attached result) self.new }
+    {
+        let account = Account::begun(self.keep, back, self.packets.len() as u64);
+        self.seats[usize::from(seat)] = Some(account);
+        account.start
     }
 
     /// The seat's next packet, or why there is none now. A packet's bytes are the first `len` of the

@@ -48,6 +48,20 @@ pub struct Left {
 
 impl Account {
     ghost use Rattle.cursor.specs.Account.{cursor_of};
+    ghost use Rattle.cursor.specs.Log.{back_from};
+
+    /// The account of a seat that begins up to `back` packets back from the end of a log of `count`, whose
+    /// last `keep` are kept.
+    pub fn begun(keep: u64, back: u64, count: u64) -> Account
+        ensures { result ≡ record { start = back_from keep back count; taken = 0; lost = 0 } }
+    {
+        let kept = keep.min(count);
+        Account {
+            start: count - back.min(kept),
+            taken: 0,
+            lost: 0,
+        }
+    }
 
     /// The number of the next packet: the start, and the packets taken and lost since.
     pub fn cursor(self) -> u64

@@ -92,3 +92,17 @@ pub trait Sink {
     fn has_failed(&self) -> bool
         ensures { result ≡ failed self.now };
 }
+
+/// A sink that can also be written to without waiting, as a socket whose peer may read nothing for a while.
+pub trait TrySink: Sink {
+    /// Writes bytes from the front of `bytes`, as many as the device takes at once, and says how many: none where it takes
+    /// none now, which is no failure. `Failed` where the device fails now or failed before.
+    fn try_write(&mut self, bytes: &[u8]) -> Result<usize, Failed>
+        ensures count { IfOk result (λ n. n ≤ length bytes.now) }
+        ensures bytes { IfOk result (λ n. Appends (Self.written self.old) (Self.written self.new) (take n bytes.now)) }
+        ensures working { OnOk result ((Self.failed self.old ≡ false) × (Self.failed self.new ≡ false)) }
+
+        ensures refused { OnErr result (Self.failed self.new ≡ true) }
+        ensures refused_moves_none { OnErr result (Keeps (Self.written self.old) (Self.written self.new)) }
+        ensures stays { Self.failed self.old ≡ true → self.new ≡ self.old };
+}

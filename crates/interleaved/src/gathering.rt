@@ -1,9 +1,9 @@
 //! A sink that gathers what is written.
-ghost use Rattle.std.specs.Prelude.{◌≡◌, ◌+◌, ◌-◌, ◌<◌, ◌≤◌, ◌⊎◌, [], ◌++◌, true, false, min, length, take, IfOk, OnOk, OnErr};
+ghost use Rattle.std.specs.Prelude.{◌≡◌, ◌+◌, ◌-◌, ◌<◌, ◌≤◌, ◌⊎◌, [], ◌++◌, true, false, drop, min, length, take, IfOk, OnOk, OnErr};
 ghost use Rattle.std.specs.Io.KnownBytes.{Appends, Keeps};
 ghost use Rattle.interleaved.specs.Gatherings.{gathered, Fills, PassesOn};
 
-use super::device::{Failed, Sink};
+use super::device::{Failed, Sink, TrySink};
 use super::whole_write::{WriteCut, write_all};
 use std::marker::Model;
 
@@ -82,15 +82,47 @@ impl<W: Sink + Drop> Gathering<W> {
                 Ok(())
             }
             Err(WriteCut { written }) => {
-                self.buffer.copy_within(written..self.count, 0);
-                self.count -= written;
+                self.drop_front(written);
                 Err(Failed)
             }
         }
     }
 }
 
+impl<W: TrySink + Drop> Gathering<W> {
+    /// Passes on what the inner sink takes at once of all that is kept, by one write that doesn't wait, and says how many
+    /// bytes that were; the rest is still kept. `Failed` where the inner sink fails now or failed before, and then all is
+    /// still kept.
+    pub fn try_flush(&mut self) -> Result<usize, Failed>
+        ensures count { IfOk result (λ n. n ≤ length self.old.kept) }
+        ensures through { IfOk result (λ n. Appends (W.written self.old.inner) (W.written self.new.inner) (take n self.old.kept)) }
+        ensures rest { IfOk result (λ n. self.new.kept ≡ drop n self.old.kept) }
+        ensures working { OnOk result (W.failed self.new.inner ≡ W.failed self.old.inner) }
+        ensures told { Keeps (gathered W.written self.old) (gathered W.written self.new) }
+        ensures failed { OnErr result (W.failed self.new.inner ≡ true) }
+        ensures kept { OnErr result (self.new.kept ≡ self.old.kept) }
+        ensures only { OnErr result (0 < length self.old.kept) }
+        ensures size { self.new.size ≡ self.old.size }
+    {
+        if self.count == 0 {
+            return Ok(0);
+        }
+        let taken = self.inner.try_write(&self.buffer[..self.count])?;
+        self.drop_front(taken);
+        Ok(taken)
+    }
+}
+
 impl<W: Sink> Gathering<W> {
+    // The first so many of the bytes that are kept have gone.
+    fn drop_front(&mut self, gone: usize)
+        requires { gone ≤ length self.old.kept }
+        ensures { self.new ≡ record self.old { kept = drop gone self.old.kept } }
+    {
+        self.buffer.copy_within(gone..self.count, 0);
+        self.count -= gone;
+    }
+
     // Keeps as many bytes as there is room for, and says how many.
     fn keep(&mut self, bytes: &[u8]) -> usize
         ensures count { result ≡ min (self.old.size - length self.old.kept) (length bytes.now) }

@@ -12,7 +12,7 @@ mod reading;
 mod whole_write;
 mod writing;
 
-pub use device::{Failed, Sink, Source};
+pub use device::{Failed, Sink, Source, TrySink};
 pub use frame::{FRAME_HEAD, Frame, FrameAt, PutFault, frame_at, frame_head, frame_len, put_frame};
 pub use gathering::Gathering;
 pub use laws::no_frame_begins_another;
@@ -20,4 +20,4 @@ pub use list_sink::ListSink;
 pub use list_source::ListSource;
 pub use reading::Reading;
 pub use whole_write::{WriteCut, write_all};
-pub use writing::Writing;
+pub use writing::{TryWrite, Writing};

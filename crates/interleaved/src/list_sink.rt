@@ -2,7 +2,7 @@
 ghost use Rattle.std.specs.Prelude.{◌≡◌, ◌↔◌, ◌+◌, ◌<◌, ◌++◌, [], Some, true, false, min, length, take, IfOk, OnOk, OnErr, IsErr};
 ghost use Rattle.interleaved.specs.Devices.{RefusesWrite};
 
-use super::device::{Failed, Sink};
+use super::device::{Failed, Sink, TrySink};
 use std::alloc::{AllocError, Global};
 use std::marker::Model;
 
@@ -83,5 +83,12 @@ impl Sink for ListSink {
 
     fn has_failed(&self) -> bool {
         self.failed
+    }
+}
+
+impl TrySink for ListSink {
+    /// As `write`: it never has to wait.
+    fn try_write(&mut self, bytes: &[u8]) -> Result<usize, Failed> {
+        self.write(bytes)
     }
 }

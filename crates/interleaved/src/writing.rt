@@ -1,8 +1,23 @@
 //! A sink over one of std's writers.
 ghost use Rattle.std.specs.Prelude.{◌≡◌, true, false};
+ghost use Rattle.std.specs.Io.{WritesAtMost};
+ghost use Rattle.std.specs.Io.KnownBytes.{WriteAppends};
 
-use super::device::{Failed, Sink};
+use super::device::{Failed, Sink, TrySink};
+use std::io;
 use std::io::Write;
+
+/// One of std's writers that can also be written to without waiting.
+pub trait TryWrite: Write {
+    /// Writes bytes from the front of `buf`, as many as are taken at once, and says how many: 0 where none is taken now,
+    /// which is no error. As `write` where no more is said, which is right for a writer that never waits.
+    fn try_write(&mut self, buf: &[u8]) -> io::Result<usize>
+        ensures bound { WritesAtMost result buf.now }
+        ensures bytes { WriteAppends (Self.contents self.old) (Self.contents self.new) result buf.now }
+    {
+        self.write(buf)
+    }
+}
 
 /// One of std's writers as a sink.
 ///
@@ -54,5 +69,20 @@ impl<W: Write + Drop> Sink for Writing<W> {
 
     fn has_failed(&self) -> bool {
         self.failed
+    }
+}
+
+impl<W: TryWrite + Drop> TrySink for Writing<W> {
+    fn try_write(&mut self, bytes: &[u8]) -> Result<usize, Failed> {
+        if self.failed {
+            return Err(Failed);
+        }
+        match self.inner.try_write(bytes) {
+            Ok(taken) => Ok(taken),
+            Err(_) => {
+                self.failed = true;
+                Err(Failed)
+            }
+        }
     }
 }

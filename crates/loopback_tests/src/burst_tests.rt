@@ -1,5 +1,5 @@
 //! Whoever reads gets every packet: bursts, and slow neighbours, over loopback.
-use crate::loopback::{Client, Set, start};
+use crate::loopback::{Client, MODES, Set, start};
 use crate::scripted::{number_in, player, publish, publisher, small_frames};
 use crate::serving_tests::{BATCH, PUBLISHED};
 use log::Log;
@@ -142,13 +142,15 @@ fn five_read_bursts<R: Net<Stream = TcpStream> + Clock + Abort>(
 #[test]
 fn a_burst_waits_for_the_players_that_read(rt: HostRuntime) {
     let alloc = rt.alloc();
-    let set = Set {
-        keep: KEEP,
-        ..Set::of(7, 6)
-    };
-    let server = start(rt, alloc, set, OpenGate);
-    five_read_bursts(&rt, alloc, server.addr);
-    server.end(&rt);
+    for writers in MODES {
+        let set = Set {
+            keep: KEEP,
+            ..Set::of(7, 6).by(writers)
+        };
+        let server = start(rt, alloc, set, OpenGate);
+        five_read_bursts(&rt, alloc, server.addr);
+        server.end(&rt);
+    }
 }
 
 /// Does nothing but look whether it is to end.
@@ -225,7 +227,7 @@ where
 }
 
 /// Whether two players read all beside six slow ones, of a server of their own.
-fn slow_players_cost_nothing<R>(rt: R, alloc: Global) -> bool
+fn slow_players_cost_nothing<R>(rt: R, alloc: Global, writers: usize) -> bool
 where
     R: Threads
         + Wait
@@ -243,7 +245,7 @@ where
     let set = Set {
         keep: KEEP,
         after_end: Some(10_000),
-        ..Set::of(9, 8)
+        ..Set::of(9, 8).by(writers)
     };
     let server = start(rt, alloc, set, OpenGate);
     let is_read = two_read_beside_six(rt, alloc, server.addr);
@@ -254,9 +256,11 @@ where
 /// One time of four: a thread that has no processor for 20 milliseconds in the middle of its copy costs all others a packet.
 #[test]
 fn slow_players_cost_no_other_a_packet(rt: HostRuntime) {
-    let mut is_read = false;
-    for _ in 0..4u32 {
-        is_read = is_read || slow_players_cost_nothing(rt, rt.alloc());
+    for writers in MODES {
+        let mut is_read = false;
+        for _ in 0..4u32 {
+            is_read = is_read || slow_players_cost_nothing(rt, rt.alloc(), writers);
+        }
+        assert!(rt; is_read);
     }
-    assert!(rt; is_read);
 }

@@ -1,6 +1,6 @@
 //! Lines that tell of mounts and players as they come and go.
 use crate::kept::Kept;
-use crate::loopback::{Client, Set, listening, start_on};
+use crate::loopback::{Client, MODES, Set, listening, start_on};
 use crate::scripted::{SETUP_OUT, passes_on, play, publisher, status_in};
 use log::Log;
 use relay_server::OpenGate;
@@ -45,7 +45,13 @@ fn come_and_go<R: Net<Stream = TcpStream> + Abort>(
 }
 
 /// They come to a server that has this runtime and go again, and the server ends. Tells who they were.
-fn come_to_a_server<R, S>(rt: &R, served: S, alloc: Global, is_verbose: bool) -> Came
+fn come_to_a_server<R, S>(
+    rt: &R,
+    served: S,
+    alloc: Global,
+    is_verbose: bool,
+    writers: usize,
+) -> Came
 where
     R: Threads + Wait + RandomSource + Abort + Net<Listener = TcpListener, Stream = TcpStream>,
     S: Threads + Wait + Clock + Log + Eprint + Copy + Send + Sync + 'static,
@@ -53,7 +59,7 @@ where
     let (listener, addr) = listening(rt);
     let set = Set {
         is_verbose,
-        ..Set::of(2, 4)
+        ..Set::of(2, 4).by(writers)
     };
     let server = start_on(rt, served, alloc, listener, addr, set, OpenGate);
     let came = come_and_go(rt, alloc, addr);
@@ -64,7 +70,7 @@ where
 #[test]
 fn nothing_is_told_that_is_not_asked_for(rt: HostRuntime) {
     let served = Kept::new(rt, rt.alloc());
-    come_to_a_server(&rt, served, rt.alloc(), false);
+    come_to_a_server(&rt, served, rt.alloc(), false, 0);
     assert!(rt; served.lines().expect(&rt, "memory").is_empty());
 }
 
@@ -148,15 +154,17 @@ fn tells(rt: &impl Abort, alloc: Global, line: &str, came: Came, told: &Told) ->
 #[test]
 fn a_verbose_server_tells_of_mounts_and_players(rt: HostRuntime) {
     let alloc = rt.alloc();
-    let served = Kept::new(rt, alloc);
-    let came = come_to_a_server(&rt, served, alloc, true);
-    let lines = served.lines().expect(&rt, "memory");
-    assert!(rt; lines.len() == TOLD.len());
-    for (line, want) in lines.iter().zip(TOLD.iter()) {
-        assert!(rt;
-            tells(&rt, alloc, line.as_str(), came, want),
-            "{}",
-            want.text
-        );
+    for writers in MODES {
+        let served = Kept::new(rt, alloc);
+        let came = come_to_a_server(&rt, served, alloc, true, writers);
+        let lines = served.lines().expect(&rt, "memory");
+        assert!(rt; lines.len() == TOLD.len());
+        for (line, want) in lines.iter().zip(TOLD.iter()) {
+            assert!(rt;
+                tells(&rt, alloc, line.as_str(), came, want),
+                "{}",
+                want.text
+            );
+        }
     }
 }

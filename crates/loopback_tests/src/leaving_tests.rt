@@ -1,5 +1,5 @@
 //! How peers leave over loopback, and what is free after them.
-use crate::loopback::{Client, OPTIONS, Set, start};
+use crate::loopback::{Client, MODES, OPTIONS, Set, start};
 use crate::scripted::{
     FRAME, Peers, has_frame, passes_on, play, player, publish, publisher, status_in,
 };
@@ -41,14 +41,16 @@ fn mount_ends<R: Net<Stream = TcpStream> + Abort>(rt: &R, alloc: Global, addr: S
 #[test]
 fn a_mount_ends_where_its_publisher_just_closes(rt: HostRuntime) {
     let alloc = rt.alloc();
-    let set = Set {
-        after_end: Some(10_000),
-        ..Set::of(3, 1)
-    };
-    let server = start(rt, alloc, set, OpenGate);
-    mount_ends(&rt, alloc, server.addr);
-    let ended = server.end(&rt);
-    assert!(rt; !ended.open[0]);
+    for writers in MODES {
+        let set = Set {
+            after_end: Some(10_000),
+            ..Set::of(3, 1).by(writers)
+        };
+        let server = start(rt, alloc, set, OpenGate);
+        mount_ends(&rt, alloc, server.addr);
+        let ended = server.end(&rt);
+        assert!(rt; !ended.open[0]);
+    }
 }
 
 /// The second player has the seat as soon as the first one has closed, and then what is published.
@@ -67,10 +69,12 @@ fn seat_is_handed_on<R: Clock + Abort>(rt: &R, peers: Peers) {
 #[test]
 fn a_seat_is_free_again_where_its_player_just_closes(rt: HostRuntime) {
     let alloc = rt.alloc();
-    let server = start(rt, alloc, Set::of(3, 1), OpenGate);
-    let peers = Peers::connect(&rt, alloc, server.addr);
-    seat_is_handed_on(&rt, peers);
-    server.end(&rt);
+    for writers in MODES {
+        let server = start(rt, alloc, Set::of(3, 1).by(writers), OpenGate);
+        let peers = Peers::connect(&rt, alloc, server.addr);
+        seat_is_handed_on(&rt, peers);
+        server.end(&rt);
+    }
 }
 
 /// A player to which a packet was published before its mount ended.
@@ -90,14 +94,16 @@ fn player_behind_the_end<R: Net<Stream = TcpStream> + Abort>(
 #[test]
 fn a_silent_player_is_hung_up_behind_the_end(rt: HostRuntime) {
     let alloc = rt.alloc();
-    let set = Set {
-        after_end: Some(100),
-        ..Set::of(2, 1)
-    };
-    let server = start(rt, alloc, set, OpenGate);
-    let mut silent = player_behind_the_end(&rt, alloc, server.addr);
-    server.end(&rt);
-    assert!(rt; silent.bytes(&rt, 17).len() == 16);
+    for writers in MODES {
+        let set = Set {
+            after_end: Some(100),
+            ..Set::of(2, 1).by(writers)
+        };
+        let server = start(rt, alloc, set, OpenGate);
+        let mut silent = player_behind_the_end(&rt, alloc, server.addr);
+        server.end(&rt);
+        assert!(rt; silent.bytes(&rt, 17).len() == 16);
+    }
 }
 
 /// A player sees that its mount has ended, and closes.
@@ -112,13 +118,15 @@ fn player_closes<R: Net<Stream = TcpStream> + Abort>(rt: &R, alloc: Global, addr
 #[test]
 fn a_player_that_closes_behind_the_end_is_not_waited_for(rt: HostRuntime) {
     let alloc = rt.alloc();
-    let set = Set {
-        after_end: Some(600_000),
-        ..Set::of(2, 1)
-    };
-    let server = start(rt, alloc, set, OpenGate);
-    player_closes(&rt, alloc, server.addr);
-    server.end(&rt);
+    for writers in MODES {
+        let set = Set {
+            after_end: Some(600_000),
+            ..Set::of(2, 1).by(writers)
+        };
+        let server = start(rt, alloc, set, OpenGate);
+        player_closes(&rt, alloc, server.addr);
+        server.end(&rt);
+    }
 }
 
 /// Asks for the mount until it isn't found, up to a thousand times, and once more. The status that is answered last.
@@ -162,9 +170,11 @@ fn player_stays<R: Net<Stream = TcpStream> + Clock + Abort>(
 #[test]
 fn a_player_may_stay_behind_the_end(rt: HostRuntime) {
     let alloc = rt.alloc();
-    let server = start(rt, alloc, Set::of(2, 1), OpenGate);
-    player_stays(&rt, alloc, server.addr);
-    server.end(&rt);
+    for writers in MODES {
+        let server = start(rt, alloc, Set::of(2, 1).by(writers), OpenGate);
+        player_stays(&rt, alloc, server.addr);
+        server.end(&rt);
+    }
 }
 
 /// How many packets of 6,000 bytes are published at once to a player that reads nothing: fewer than its ring keeps.
@@ -188,51 +198,73 @@ struct Last<'a> {
 /// The second player has the seat as soon as it is free, and doesn't have it before the first one says this.
 fn seat_is_freed<R: Clock + Abort>(rt: &R, peers: &mut Peers, last: Last<'_>) {
     assert!(rt; peers.second.status_of(rt, &play(3)) == 453);
-    peers.first.say(rt, last.said);
-    if last.is_silent {
-        peers.first.fall_silent(rt);
-    }
+    peers.first.say_at_last(last.said, last.is_silent);
     assert!(rt; plays_at_last(rt, &mut peers.second, 3) == 200);
 }
 
-/// A player that stopped reading amid what its camera published, and whose seat was freed after what it said last. The
-/// other clients have closed.
+/// Peers of which the first player has stopped reading amid what the camera published.
+fn stalled<R: Net<Stream = TcpStream> + Clock + Abort>(
+    rt: &R,
+    alloc: Global,
+    addr: SocketAddr,
+) -> Peers {
+    let mut peers = Peers::connect(rt, alloc, addr);
+    stall(rt, alloc, &mut peers.camera);
+    // The server has read them all.
+    peers.camera.ask(rt, OPTIONS);
+    peers
+}
+
+/// A player that stopped reading, and whose seat was freed after what it said last. The other clients have closed.
 fn freed<R: Net<Stream = TcpStream> + Clock + Abort>(
     rt: &R,
     alloc: Global,
     addr: SocketAddr,
     last: Last<'_>,
 ) -> Client {
-    let mut peers = Peers::connect(rt, alloc, addr);
-    stall(rt, alloc, &mut peers.camera);
-    // The server has read them all.
-    peers.camera.ask(rt, OPTIONS);
+    let mut peers = stalled(rt, alloc, addr);
     seat_is_freed(rt, &mut peers, last);
     peers.first
+}
+
+/// A player that stopped reading is let go after a while, on a slow machine perhaps before it says this.
+fn let_go<R: Net<Stream = TcpStream> + Clock + Abort>(
+    rt: &R,
+    alloc: Global,
+    addr: SocketAddr,
+    last: Last<'_>,
+) {
+    let mut peers = stalled(rt, alloc, addr);
+    peers.first.say_at_last(last.said, last.is_silent);
+    assert!(rt; plays_at_last(rt, &mut peers.second, 3) == 200);
 }
 
 #[test]
 fn a_stalled_player_that_sends_a_fault_is_freed(rt: HostRuntime) {
     let alloc = rt.alloc();
-    let server = start(rt, alloc, Set::of(3, 1), OpenGate);
-    let last = Last {
-        said: b"HELLO\r\n",
-        is_silent: false,
-    };
-    let _first = freed(&rt, alloc, server.addr, last);
-    server.end(&rt);
+    for writers in MODES {
+        let server = start(rt, alloc, Set::of(3, 1).by(writers), OpenGate);
+        let last = Last {
+            said: b"HELLO\r\n",
+            is_silent: false,
+        };
+        let _first = freed(&rt, alloc, server.addr, last);
+        server.end(&rt);
+    }
 }
 
 #[test]
 fn a_stalled_player_that_falls_silent_is_freed(rt: HostRuntime) {
     let alloc = rt.alloc();
-    let server = start(rt, alloc, Set::of(3, 1), OpenGate);
-    let last = Last {
-        said: b"",
-        is_silent: true,
-    };
-    freed(&rt, alloc, server.addr, last);
-    server.end(&rt);
+    for writers in MODES {
+        let server = start(rt, alloc, Set::of(3, 1).by(writers), OpenGate);
+        let last = Last {
+            said: b"",
+            is_silent: true,
+        };
+        freed(&rt, alloc, server.addr, last);
+        server.end(&rt);
+    }
 }
 
 /// In the session of the first player.
@@ -242,13 +274,15 @@ const TEARDOWN: &[u8] =
 #[test]
 fn a_stalled_player_that_tears_down_is_freed(rt: HostRuntime) {
     let alloc = rt.alloc();
-    let server = start(rt, alloc, Set::of(3, 1), OpenGate);
-    let last = Last {
-        said: TEARDOWN,
-        is_silent: false,
-    };
-    freed(&rt, alloc, server.addr, last);
-    server.end(&rt);
+    for writers in MODES {
+        let server = start(rt, alloc, Set::of(3, 1).by(writers), OpenGate);
+        let last = Last {
+            said: TEARDOWN,
+            is_silent: false,
+        };
+        freed(&rt, alloc, server.addr, last);
+        server.end(&rt);
+    }
 }
 
 /// A request, whose reply waits for the frames that the peer doesn't read, and what comes after it: a fault, nothing more, a
@@ -272,13 +306,34 @@ const BEHIND_A_REQUEST: [Last<'static>; 3] = [
 #[test]
 fn a_stalled_player_that_asked_before_is_freed(rt: HostRuntime) {
     let alloc = rt.alloc();
-    for last in &BEHIND_A_REQUEST {
+    for writers in MODES {
+        for last in &BEHIND_A_REQUEST {
+            let set = Set {
+                write_wait: 2_000,
+                ..Set::of(3, 1).by(writers)
+            };
+            let server = start(rt, alloc, set, OpenGate);
+            let_go(&rt, alloc, server.addr, *last);
+            server.end(&rt);
+        }
+    }
+}
+
+/// It asks for nothing and doesn't close: what is written to it moves nothing, and that ends it.
+#[test]
+fn a_stalled_player_that_says_nothing_is_let_go(rt: HostRuntime) {
+    let alloc = rt.alloc();
+    let last = Last {
+        said: b"",
+        is_silent: false,
+    };
+    for writers in MODES {
         let set = Set {
-            write_wait: 3_000,
-            ..Set::of(3, 1)
+            write_wait: 2_000,
+            ..Set::of(3, 1).by(writers)
         };
         let server = start(rt, alloc, set, OpenGate);
-        freed(&rt, alloc, server.addr, *last);
+        let_go(&rt, alloc, server.addr, last);
         server.end(&rt);
     }
 }

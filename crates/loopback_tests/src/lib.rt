@@ -4,6 +4,8 @@
 #![tactic(auto)]
 
 #[cfg(test)]
+mod back_tests;
+#[cfg(test)]
 mod burst_tests;
 #[cfg(test)]
 mod ending_tests;
@@ -27,3 +29,5 @@ mod row_tests;
 mod scripted;
 #[cfg(test)]
 mod serving_tests;
+#[cfg(test)]
+mod writers_tests;

@@ -59,6 +59,14 @@ impl Client {
         self.stream.write_all(bytes).expect(rt, "a write");
     }
 
+    /// Says this where the server hasn't hung up, and then nothing more if that is asked for.
+    pub(crate) fn say_at_last(&mut self, bytes: &[u8], is_silent: bool) {
+        let _ = self.stream.write_all(bytes);
+        if is_silent {
+            let _ = self.stream.shutdown(Shutdown::Write);
+        }
+    }
+
     /// Reads a piece more. `false` at the end.
     fn read_more(&mut self) -> io::Result<bool> {
         let mut piece = [0; 4096];
@@ -225,9 +233,16 @@ pub(crate) struct Set {
     pub(crate) gather: u64,
     /// The milliseconds for which a write may move nothing.
     pub(crate) write_wait: u64,
+    /// How many of the kept packets a new player is given.
+    pub(crate) back: u64,
+    /// How many threads send all frames; 0 for a thread a player.
+    pub(crate) writers: usize,
     /// Whether lines tell of each mount and each player.
     pub(crate) is_verbose: bool,
 }
+
+/// By whom frames are sent: by a thread a player, and by two writers.
+pub(crate) const MODES: [usize; 2] = [0, 2];
 
 impl Set {
     /// Rings keep 512 packets, packets gather for a millisecond, players stay when their mount has ended, and no line tells of
@@ -240,8 +255,15 @@ impl Set {
             after_end: None,
             gather: 1,
             write_wait: 20_000,
+            back: 0,
+            writers: 0,
             is_verbose: false,
         }
+    }
+
+    /// So many threads send all frames.
+    pub(crate) fn by(self, writers: usize) -> Set {
+        Set { writers, ..self }
     }
 }
 
@@ -326,9 +348,10 @@ where
         gather: set.gather,
         after_end: set.after_end,
         write_wait: set.write_wait,
+        writers: set.writers,
         is_verbose: set.is_verbose,
     };
-    let maker = RingMaker::new(set.keep.clamp(1, 4095), seats, 16_384);
+    let maker = RingMaker::new(set.keep.clamp(1, 4095), seats, 16_384).going_back(set.back);
     let thread = serve(rt, served, alloc, listener, options, maker, theirs, gate);
     Running { addr, book, thread }
 }

@@ -1,5 +1,5 @@
 //! Two mounts at a time.
-use crate::loopback::{Client, OPTIONS, Set, start};
+use crate::loopback::{Client, MODES, OPTIONS, Set, start};
 use relay_server::OpenGate;
 use std::alloc::{AllocError, Global};
 use std::net::{Net, SocketAddr, TcpStream};
@@ -142,7 +142,9 @@ fn mounts_stay_apart<R: Net<Stream = TcpStream> + Abort>(rt: &R, alloc: Global, 
 #[test]
 fn each_mount_has_its_own_packets(rt: HostRuntime) {
     let alloc = rt.alloc();
-    let server = start(rt, alloc, Set::of(4, 1), OpenGate);
-    mounts_stay_apart(&rt, alloc, server.addr);
-    server.end(&rt);
+    for writers in MODES {
+        let server = start(rt, alloc, Set::of(4, 1).by(writers), OpenGate);
+        mounts_stay_apart(&rt, alloc, server.addr);
+        server.end(&rt);
+    }
 }

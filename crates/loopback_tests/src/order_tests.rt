@@ -1,5 +1,5 @@
 //! The order of what a player is sent, and of seats that are given back.
-use crate::loopback::{Client, Set, start};
+use crate::loopback::{Client, MODES, Set, start};
 use crate::scripted::{
     FRAME, SETUP_OUT, asking, has_frame, play, player, publisher, small_frames, status_in,
 };
@@ -83,14 +83,16 @@ fn joins<R: Net<Stream = TcpStream> + Clock + Abort>(
 #[test]
 fn a_player_of_a_running_stream_reads_its_reply_first(rt: HostRuntime) {
     let alloc = rt.alloc();
-    let server = start(rt, alloc, Set::of(2, 1), OpenGate);
-    let over = Arc::new(alloc, AtomicBool::new(false)).expect(&rt, "memory");
-    let camera = running(rt, alloc, server.addr, &over);
-    let best = joins(&rt, alloc, server.addr, JOINS);
-    over.store(true, Ordering::SeqCst);
-    camera.join(&rt);
-    server.end(&rt);
-    assert!(rt; best < Duration::from_millis(PROMPT));
+    for writers in MODES {
+        let server = start(rt, alloc, Set::of(2, 1).by(writers), OpenGate);
+        let over = Arc::new(alloc, AtomicBool::new(false)).expect(&rt, "memory");
+        let camera = running(rt, alloc, server.addr, &over);
+        let best = joins(&rt, alloc, server.addr, JOINS);
+        over.store(true, Ordering::SeqCst);
+        camera.join(&rt);
+        server.end(&rt);
+        assert!(rt; best < Duration::from_millis(PROMPT));
+    }
 }
 
 /// While nothing is published.
@@ -106,10 +108,12 @@ fn quiet_pause<R: Net<Stream = TcpStream> + Clock + Abort>(
 #[test]
 fn a_pause_of_a_quiet_stream_is_answered_at_once(rt: HostRuntime) {
     let alloc = rt.alloc();
-    let server = start(rt, alloc, Set::of(2, 1), OpenGate);
-    let best = quiet_pause(&rt, alloc, server.addr);
-    server.end(&rt);
-    assert!(rt; best < Duration::from_millis(PROMPT));
+    for writers in MODES {
+        let server = start(rt, alloc, Set::of(2, 1).by(writers), OpenGate);
+        let best = quiet_pause(&rt, alloc, server.addr);
+        server.end(&rt);
+        assert!(rt; best < Duration::from_millis(PROMPT));
+    }
 }
 
 /// Three players on three seats, and the orders in which they leave.
@@ -189,7 +193,9 @@ fn all_orders<R: Net<Stream = TcpStream> + Abort>(rt: &R, alloc: Global, addr: S
 #[test]
 fn seats_come_back_in_any_order(rt: HostRuntime) {
     let alloc = rt.alloc();
-    let server = start(rt, alloc, Set::of(5, 3), OpenGate);
-    all_orders(&rt, alloc, server.addr);
-    server.end(&rt);
+    for writers in MODES {
+        let server = start(rt, alloc, Set::of(5, 3).by(writers), OpenGate);
+        all_orders(&rt, alloc, server.addr);
+        server.end(&rt);
+    }
 }

@@ -1,8 +1,8 @@
 //! Accepts and threads that are refused.
 use crate::kept::Kept;
 use crate::leaving_tests::plays_at_last;
-use crate::loopback::{Set, listening, start, start_on};
-use crate::scripted::{Peers, passes_on};
+use crate::loopback::{Client, Set, listening, start, start_on};
+use crate::scripted::{SETUP_OUT, passes_on, play, publisher};
 use crate::serving_tests::{late_is_refused, two_clients_ask};
 use relay_server::{Accepts, Gate, OpenGate};
 use std::alloc::Global;
@@ -122,24 +122,25 @@ fn seat_is_free_again<R: Net<Stream = TcpStream> + Clock + Abort>(
     alloc: Global,
     addr: SocketAddr,
 ) -> SocketAddr {
-    let Peers {
-        mut camera,
-        mut first,
-        mut second,
-    } = Peers::connect(rt, alloc, addr);
+    let mut camera = publisher(rt, alloc, addr);
+    let mut first = Client::connect(rt, alloc, addr);
+    first.ask(rt, SETUP_OUT);
+    let mut second = Client::connect(rt, alloc, addr);
+    second.ask(rt, SETUP_OUT);
+    first.ask(rt, &play(2));
     assert!(rt; first.is_hung_up(rt));
     assert!(rt; plays_at_last(rt, &mut second, 3) == 200);
     assert!(rt; passes_on(rt, &mut camera, &mut second));
     first.addr(rt)
 }
 
-/// After those of a camera and of a player no thread can be started for the player's frames.
+/// After those of a camera and of two players no thread can be started for the first player's frames.
 #[test]
 fn a_player_without_a_thread_for_its_frames_is_let_go(rt: HostRuntime) {
     let alloc = rt.alloc();
     let (listener, addr) = listening(&rt);
     let served = Kept::new(rt, alloc);
-    let gate = Refusing::new(2);
+    let gate = Refusing::new(3);
     let server = start_on(&rt, served, alloc, listener, addr, Set::of(3, 1), gate);
     let first = seat_is_free_again(&rt, alloc, server.addr);
     server.end(&rt);

@@ -1,5 +1,5 @@
 //! Rows of requests over loopback.
-use crate::loopback::{Client, Set, start};
+use crate::loopback::{Client, MODES, Set, start};
 use crate::scripted::FRAME;
 use relay_server::OpenGate;
 use std::alloc::Global;
@@ -132,11 +132,13 @@ fn owner_and_player_ask<R: Net<Stream = TcpStream> + Abort>(
 #[test]
 fn a_track_has_its_owners_name_and_its_players(rt: HostRuntime) {
     let alloc = rt.alloc();
-    let set = Set {
-        gather: 0,
-        ..Set::of(2, 1)
-    };
-    let server = start(rt, alloc, set, OpenGate);
-    owner_and_player_ask(&rt, alloc, server.addr);
-    server.end(&rt);
+    for writers in MODES {
+        let set = Set {
+            gather: 0,
+            ..Set::of(2, 1).by(writers)
+        };
+        let server = start(rt, alloc, set, OpenGate);
+        owner_and_player_ask(&rt, alloc, server.addr);
+        server.end(&rt);
+    }
 }

@@ -1,3 +1,4 @@
+pub mod Patiences
 pub mod Rounds
 pub mod Allowances
 pub mod Insisting

@@ -4,10 +4,12 @@
 
 mod allowance;
 mod insisting;
+mod patience;
 mod round;
 mod standing;
 
 pub use allowance::Allowance;
 pub use insisting::{Insisting, Pause};
+pub use patience::Patience;
 pub use round::Round;
 pub use standing::Standing;

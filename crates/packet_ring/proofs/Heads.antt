@@ -98,9 +98,27 @@ module _ (phase : SeatPhase) (f : Head → Seat → Seat) (units : ℕ) (idle : 
       }))
 
 -- an attachment and a detachment
-pub attaches : {L : Limits} (units i : ℕ) (x : Seat) (me : Knows) → me.view ≡ inr x → x.phase ≡ seating.Out → Allows (Holds L) (Operation L) units (suc i) me 0 (λ n. n) (Loads (units - 2) attached x me)
-attaches units = loads_allow seating.Out attached units (λ at j. refl) (λ h x w at j. refl) (λ s i x k sound there within. attach_keeps s i x sound there within)
-    (λ s i x k there within. record { by = by_seat i Attach; own = refl; from = s; copied = refl; outcome = attach s i x; step = record { view = x; there = there; acts = subst (λ (φ : SeatPhase). SeatActs φ Attach s i x (attach s i x)) (sym within) refl }; atomic = refl; leads = refl })
+module _ (keep units : ℕ) (size : keep + 2 ≡ units) (back : ℕ) where
+  attach_leads : (s : Ring.State) (i : ℕ) (x : Seat) → s.keep + 2 ≡ units → (attach s i x back).state ≡ with_seat s i (attached keep back s.head x)
+  attach_leads s i x k = let e : s.keep ≡ keep = omega arith in ap (λ (m : ℕ). with_seat s i (attached m back s.head x)) e
+
+  attached_keeps : (s : Ring.State) (i : ℕ) (x : Seat) → s.keep + 2 ≡ units → Invariant s → slice_get s.seats i ≡ Some x → x.phase ≡ seating.Out → Invariant (with_seat s i (attached keep back s.head x))
+  attached_keeps s i x k sound there within = subst Invariant (attach_leads s i x k) (attach_keeps s i x back sound there within)
+
+  attach_does : (s : Ring.State) (i : ℕ) (x : Seat) → s.keep + 2 ≡ units → slice_get s.seats i ≡ Some x → x.phase ≡ seating.Out → OneStep (suc i) s (with_seat s i (attached keep back s.head x))
+  attach_does s i x k there within = record {
+    by = by_seat i (Attach back);
+    own = refl;
+    from = s;
+    copied = refl;
+    outcome = attach s i x back;
+    step = record { view = x; there = there; acts = subst (λ (φ : SeatPhase). SeatActs φ (Attach back) s i x (attach s i x back)) (sym within) refl };
+    atomic = refl;
+    leads = attach_leads s i x k;
+  }
+
+  pub attaches : {L : Limits} (i : ℕ) (x : Seat) (me : Knows) → me.view ≡ inr x → x.phase ≡ seating.Out → Allows (Holds L) (Operation L) units (suc i) me 0 (λ n. n) (Loads (units - 2) (attached keep back) x me)
+  attaches = loads_allow seating.Out (attached keep back) units (λ at j. refl) (λ h x w at j. refl) attached_keeps attach_does
 
 pub detaches : {L : Limits} (units i : ℕ) (x : Seat) (me : Knows) → me.view ≡ inr x → x.phase ≡ seating.Between → Allows (Holds L) (Operation L) units (suc i) me 0 (λ n. n) (Loads (units - 2) detached x me)
 detaches units = loads_allow seating.Between detached units (λ at j. refl) (λ h x w at j. refl) (λ s i x k sound there within. detach_keeps s i x sound there within)

@@ -2,6 +2,7 @@
 use Rattle.std.specs.Prelude.{◌≡◌, ◌≢◌, ℕ, ◌≤◌, ◌<◌, ◌+◌, ◌-◌, ◌^◌, ◌==◌, Bool, false, true, nat_lt, List, [], ◌∷◌, ◌++◌, length, take, drop, Some, slice_get, slice_index_or, if◌then◌else◌}
 use mathlib.Core.Logic.{inl, inr}
 use mathlib.Core.List.{IsPrefix}
+use Rattle.cursor.specs.Log.{back_from}
 use Rattle.ring_steps.specs.declared.words.Head.{Head}
 use Rattle.ring_steps.specs.declared.words.Word.{Word}
 use Rattle.ring_steps.specs.declared.views.Publisher.{Publisher}
@@ -27,8 +28,9 @@ one_number = 131072
 abbrev pub looked : Head → Seat → Seat
 looked h x = record x { seen = h.length; saw_closed = h.closed; loads = x.loads + 1 }
 
-abbrev pub attached : Head → Seat → Seat
-attached h x = record (looked h x) { phase = seating.Between; account = record { start = h.length; taken = 0; lost = 0 } }
+-- its view once it is attached so many packets back, in a ring that keeps so many
+abbrev pub attached : (keep back : ℕ) → Head → Seat → Seat
+attached keep n h x = record (looked h x) { phase = seating.Between; account = record { start = back_from keep n h.length; taken = 0; lost = 0 } }
 
 abbrev pub detached : Head → Seat → Seat
 detached h x = record (looked h x) { phase = seating.Out }

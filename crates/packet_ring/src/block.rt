@@ -89,12 +89,14 @@ impl Shared {
 }
 
 impl Shared {
-    /// One load of a unit's word, which lies `at` words from the first.
-    pub(crate) fn load<M: Play>(&self, token: &mut Token, unit: usize, at: usize) -> u64
-        requires { (token.old.id ≡ self.now.id) × (unit < self.now.id.units) × (at ≡ unit * (self.now.id.width + 1)) × Allows (Holds self.now.id.limits) (Operation self.now.id.limits) self.now.id.units token.old.number token.old.me unit (λ n. n) (M.then (step self.now.id.limits self.now.id.units unit 0 0) token.old.me) }
-        ensures { (token.new.id ≡ token.old.id) × (token.new.number ≡ token.old.number) × M.then (step self.now.id.limits self.now.id.units unit 0 0) token.old.me result token.new.me }
+    /// One load of a unit's word, which lies `at` words from the first. What is asked for shows in the
+    /// token's view alone.
+    pub(crate) fn load<M: Play>(&self, token: &mut Token, unit: usize, at: usize, ask: u64) -> u64
+        requires { (token.old.id ≡ self.now.id) × (unit < self.now.id.units) × (at ≡ unit * (self.now.id.width + 1)) × Allows (Holds self.now.id.limits) (Operation self.now.id.limits) self.now.id.units token.old.number token.old.me unit (λ n. n) (M.then (step self.now.id.limits self.now.id.units unit ask 0) token.old.me) }
+        ensures { (token.new.id ≡ token.old.id) × (token.new.number ≡ token.old.number) × M.then (step self.now.id.limits self.now.id.units unit ask 0) token.old.me result token.new.me }
     {
         let _ = unit;
+        let _ = ask;
         unsafe { raw::load::<Brand>(self.base.add(at), SeqCst) }
     }
 

@@ -9,7 +9,8 @@ use crate::block::{Play, Shared, Token};
 struct Attaching;
 
 impl Play for Attaching {
-    ghost then = { λ at me found next. Loads (at.units - 2) attached (seat_of me.view) me found next };
+    // The first operand is the packets back that the seat asks for.
+    ghost then = { λ at me found next. Loads (at.units - 2) (attached (at.units - 2) at.first) (seat_of me.view) me found next };
 }
 
 struct Detaching;
@@ -42,14 +43,14 @@ impl Play for Closing {
     ghost then = { λ at me stored next. Closes (log_of me.view) (publisher_of me.view) me next };
 }
 
-/// The load of an attachment.
-pub(crate) fn attach(block: &Shared, token: &mut Token) -> u64
-    requires same { (token.old.id ≡ block.now.id) × (0 < block.now.id.units) }
+/// The load of an attachment, so many packets back.
+pub(crate) fn attach(block: &Shared, token: &mut Token, back: u64) -> u64
+    requires same { (token.old.id ≡ block.now.id) × (1 < block.now.id.units) }
     requires seat { IsSeat token.old.number token.old.me seating.Out }
     ensures same { (token.new.id ≡ token.old.id) × (token.new.number ≡ token.old.number) }
-    ensures step { Loads (block.now.id.units - 2) attached (seat_of token.old.me.view) token.old.me result token.new.me }
+    ensures step { Loads (block.now.id.units - 2) (attached (block.now.id.units - 2) back) (seat_of token.old.me.view) token.old.me result token.new.me }
 {
-    block.load::<Attaching>(token, 0, 0)
+    block.load::<Attaching>(token, 0, 0, back)
 }
 
 /// The load of a detachment.
@@ -59,7 +60,7 @@ pub(crate) fn detach(block: &Shared, token: &mut Token) -> u64
     ensures same { (token.new.id ≡ token.old.id) × (token.new.number ≡ token.old.number) }
     ensures step { Loads (block.now.id.units - 2) detached (seat_of token.old.me.view) token.old.me result token.new.me }
 {
-    block.load::<Detaching>(token, 0, 0)
+    block.load::<Detaching>(token, 0, 0, 0)
 }
 
 /// A take's first load.
@@ -69,7 +70,7 @@ pub(crate) fn load_first(block: &Shared, token: &mut Token) -> u64
     ensures same { (token.new.id ≡ token.old.id) × (token.new.number ≡ token.old.number) }
     ensures step { Loads (block.now.id.units - 2) (first_seen (block.now.id.units - 2)) (seat_of token.old.me.view) token.old.me result token.new.me }
 {
-    block.load::<Finding>(token, 0, 0)
+    block.load::<Finding>(token, 0, 0, 0)
 }
 
 /// A take's second load, after a pin that failed.
@@ -79,7 +80,7 @@ pub(crate) fn load_second(block: &Shared, token: &mut Token) -> u64
     ensures same { (token.new.id ≡ token.old.id) × (token.new.number ≡ token.old.number) }
     ensures step { Loads (block.now.id.units - 2) (second_seen (block.now.id.units - 2)) (seat_of token.old.me.view) token.old.me result token.new.me }
 {
-    block.load::<Losing>(token, 0, 0)
+    block.load::<Losing>(token, 0, 0, 0)
 }
 
 /// The store of an append, of the head with one packet more.

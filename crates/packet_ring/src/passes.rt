@@ -1,9 +1,10 @@
 //! Seats of a ring that nobody reads from, and how a seat is attached.
 ghost use Rattle.std.specs.Prelude.{◌≡◌, ◌⊎◌, ◌+◌, ◌*◌, ◌^◌, ◌<◌, ◌≤◌, length};
 ghost use Rattle.std.specs.Arc.{arc_value};
+ghost use Rattle.cursor.specs.Log.{back_from};
 ghost use Rattle.ring_steps.specs.declared.views.SeatPhase.TheVariants as seating;
 ghost use Rattle.packet_ring.specs.Calls.{SeesOn, head_of};
-ghost use Rattle.packet_ring.specs.Views.{IsSeated, Passing, passing_of};
+ghost use Rattle.packet_ring.specs.Views.{IsSeated, Passing, keep_of, passing_of};
 
 use crate::allocated::Block;
 use crate::block::Token;
@@ -40,23 +41,32 @@ impl Pass {
         ensures found { result.found ≡ head_of result.seen result.closed }
         ensures account { result.account ≡ record { start = length result.seen; taken = 0; lost = 0 } }
     {
+        self.attach_back(0)
+    }
+
+    /// Attaches the seat. It reads from `back` packets back from the end of the log as this call's one load
+    /// saw it, but from none that the ring doesn't keep then, and from the first where there are fewer.
+    pub fn attach_back(self, back: u64) -> Subscriber
+        ensures ring { result.ring ≡ self.ring }
+        ensures loads { result.loads ≡ self.loads + 1 }
+        ensures sees { SeesOn self.seen self.closed result.seen result.closed }
+        ensures found { result.found ≡ head_of result.seen result.closed }
+        ensures account { result.account ≡ record { start = back_from (keep_of self.ring) back (length result.seen); taken = 0; lost = 0 } }
+    {
         let Pass {
             ring,
             mut token,
             known: _,
         } = self;
         let block: &Block = &ring;
-        let head = attach(&block.shared, &mut token);
-        let start = head / 2;
+        let head = attach(&block.shared, &mut token, back);
+        let known = head / 2;
+        let account = Account::begun(block.keep as u64, back, known);
         Subscriber {
             ring,
             token,
-            known: start,
-            account: Account {
-                start,
-                taken: 0,
-                lost: 0,
-            },
+            known,
+            account,
         }
     }
 

@@ -1,19 +1,21 @@
 -- What the command line of the server may ask for.
-use Rattle.std.specs.Prelude.{◌≤◌, ⊤}
+use Rattle.std.specs.Prelude.{◌≤◌, ⊤, IfSome}
 use Rattle.relay_command.specs.declared.settings.Settings.{Settings}
 use Rattle.relay_command.specs.declared.asked.Asked.{Asked}
 use Rattle.relay_command.specs.declared.asked.Asked.TheVariants as asks
 
--- the ranges of a ring's numbers and of the time that packets gather for, in milliseconds
+-- the ranges of a ring's numbers, of the time that packets gather for, in milliseconds, and of how many threads send frames
 pub record IsInRange (settings : Settings) : Type 0 where
   pub keeps : (1 ≤ settings.keep) × (settings.keep ≤ 4095)
   pub seated : (1 ≤ settings.seats) × (settings.seats ≤ 1024)
   pub bounded : (12 ≤ settings.packet_bytes) × (settings.packet_bytes ≤ 65535)
   pub gathers : settings.gather ≤ 100
+  pub goes_back : settings.back ≤ 4095
+  pub writes : IfSome settings.writers (λ count. count ≤ 64)
 
 -- a server that is asked for has its numbers in their ranges
 abbrev pub IsServedInRange : Asked → Type 0
 IsServedInRange (asks.Serve addr settings) = IsInRange settings
 IsServedInRange (asks.Talk word) = ⊤
-IsServedInRange asks.Steps = ⊤
+IsServedInRange (asks.Steps stopped) = ⊤
 IsServedInRange asks.Nothing = ⊤

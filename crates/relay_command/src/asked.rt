@@ -1,11 +1,18 @@
 //! A command line, from its words to what it asks for.
-ghost use Rattle.std.specs.Prelude.{IfOk};
+ghost use Rattle.std.specs.Prelude.{◌≡◌, IfOk, IfErr};
+ghost use Rattle.clap.specs.Values.{kind_of};
+ghost use Rattle.clap.specs.declared.error.kind.ErrorKind.TheVariants.{ValueValidation};
+ghost use Rattle.std.specs.Option.{option_copied};
 ghost use Rattle.relay_command.specs.Serving.{IsServedInRange};
+ghost use Rattle.relay_command.specs.Stopping.{IsStopped, IsNoActor};
 
-use crate::commands::command;
+use crate::commands::{command, steps_command};
 use crate::settings::Settings;
 use crate::task::{Task, task_named};
+use clap::error::ErrorKind;
 use clap::{ArgMatches, Error};
+use ring_script::read_actor;
+use ring_steps::Actor;
 use std::alloc::{AllocError, Global};
 use std::convert::AsStr;
 
@@ -14,8 +21,8 @@ use std::convert::AsStr;
 pub enum Asked {
     /// One connection is answered, with what stands after `--word`.
     Talk(Option<String>),
-    /// A ring's schedule is run.
-    Steps,
+    /// A ring's schedule is run, behind which this actor stops, if one does.
+    Steps(Option<Actor>),
     /// Connections are served at this address.
     Serve(String, Settings),
     /// No command, which the parser lets nobody say.
@@ -28,11 +35,11 @@ pub fn read_words<S: AsStr>(alloc: Global, words: &[S]) -> Result<Asked, Error>
     ensures ranges { IfOk result IsServedInRange }
 {
     let matches = command(alloc)?.try_get_matches_from(words)?;
-    Ok(asked_of(alloc, &matches)?)
+    asked_of(alloc, &matches)
 }
 
 /// What the parser found, as what is asked for.
-fn asked_of(alloc: Global, matches: &ArgMatches) -> Result<Asked, AllocError>
+fn asked_of(alloc: Global, matches: &ArgMatches) -> Result<Asked, Error>
     ensures ranges { IfOk result IsServedInRange }
 {
     let Some((name, of_command)) = matches.subcommand() else {
@@ -40,7 +47,10 @@ fn asked_of(alloc: Global, matches: &ArgMatches) -> Result<Asked, AllocError>
     };
     match task_named(name) {
         Some(Task::Talk) => Ok(Asked::Talk(text_of(alloc, of_command, "word")?)),
-        Some(Task::Steps) => Ok(Asked::Steps),
+        Some(Task::Steps) => {
+            let stopped = stopped_of(alloc, of_command.get_str("stopped"))?;
+            Ok(Asked::Steps(stopped))
+        }
         Some(Task::Serve) => {
             let addr = text_of(alloc, of_command, "addr")?.unwrap_or(String::new(alloc));
             Ok(Asked::Serve(addr, Settings::of(of_command)))
@@ -55,4 +65,29 @@ fn text_of(alloc: Global, matches: &ArgMatches, name: &str) -> Result<Option<Str
         Some(text) => Ok(Some(String::from_str(alloc, text)?)),
         None => Ok(None),
     }
+}
+
+/// The actor that stops, where a text stands after `--stopped`. An error tells that the text names none.
+fn stopped_of(alloc: Global, text: Option<&str>) -> Result<Option<Actor>, Error>
+    ensures stopped { IfOk result (IsStopped (option_copied text.entry)) }
+    ensures refused { IfErr result (IsNoActor (option_copied text.entry)) }
+{
+    let Some(name) = text else {
+        return Ok(None);
+    };
+    match read_actor(name.as_bytes()) {
+        Some(actor) => Ok(Some(actor)),
+        None => Err(no_actor(alloc, name)?),
+    }
+}
+
+/// Tells that a text names no actor, as a command line is told that it isn't understood.
+fn no_actor(alloc: Global, name: &str) -> Result<Error, AllocError>
+    ensures { IfOk result (λ error. kind_of error ≡ ValueValidation) }
+{
+    let why = format!(in alloc;
+        "invalid value '{name}' for '--stopped <A>': not p and no seat's number"
+    )?;
+    let mut command = steps_command(alloc)?.bin_name("relay steps")?;
+    command.error(ErrorKind::ValueValidation, &why)
 }

@@ -20,13 +20,14 @@ printf 'keep 2\\nseats 1\\np 41\\np 42\\np 43\\n0 attach\\n0 take\\n0 take\\n0 d
 pub(crate) fn command<'a>(alloc: Global) -> Result<Command<'a>, AllocError> {
     let serve = serve_command(alloc)?;
     let talk = talk_command(alloc)?;
+    let steps = steps_command(alloc)?;
     Command::new(alloc, "relay")
         .version(VERSION)
         .about("A live relay for RTSP 1.0 (RFC 2326)")
         .subcommand_required(true)
         .subcommand(serve)?
         .subcommand(talk)?
-        .subcommand(steps_command(alloc))
+        .subcommand(steps)
 }
 
 fn talk_command<'a>(alloc: Global) -> Result<Command<'a>, AllocError> {
@@ -39,10 +40,16 @@ fn talk_command<'a>(alloc: Global) -> Result<Command<'a>, AllocError> {
         .arg(word)
 }
 
-fn steps_command<'a>(alloc: Global) -> Command<'a> {
+/// `relay steps`, with its option.
+pub(crate) fn steps_command<'a>(alloc: Global) -> Result<Command<'a>, AllocError> {
+    let stopped = Arg::new(alloc, "stopped")
+        .long("stopped")
+        .value_name("A")
+        .help("Stop p or this seat behind the schedule, and let the others finish their calls");
     Command::new(alloc, "steps")
         .about("Runs a ring's schedule from standard input, and writes what each step did")
         .after_help(STEPS_EXAMPLE)
+        .arg(stopped)
 }
 
 /// Command lines of the server.
@@ -62,7 +69,9 @@ fn serve_command<'a>(alloc: Global) -> Result<Command<'a>, AllocError> {
         .arg(packet_bytes_arg(alloc))?
         .arg(accept_arg(alloc))?
         .arg(gather_arg(alloc))?
+        .arg(back_arg(alloc))?
         .arg(hang_up_ended_arg(alloc))?
+        .arg(writers_arg(alloc))?
         .arg(verbose_arg(alloc))
 }
 
@@ -118,11 +127,32 @@ fn gather_arg<'a>(alloc: Global) -> Arg<'a> {
         .help("For how long packets gather before players are woken, 0 to 100 milliseconds")
 }
 
+fn back_arg<'a>(alloc: Global) -> Arg<'a> {
+    Arg::new(alloc, "back")
+        .long("back")
+        .value_name("N")
+        .default_value("0")
+        .value_parser(clap::value_parser!(u16).range(0..4096))
+        .help(
+            "How many of the kept packets a new player is given at once, 0 to 4095; above 0 without RTP-Info",
+        )
+}
+
 fn hang_up_ended_arg<'a>(alloc: Global) -> Arg<'a> {
     Arg::new(alloc, "hang-up-ended")
         .long("hang-up-ended")
         .action(ArgAction::SetTrue)
         .help("Hang a player up once the last packet of its mount was written")
+}
+
+fn writers_arg<'a>(alloc: Global) -> Arg<'a> {
+    Arg::new(alloc, "writers")
+        .long("writers")
+        .value_name("N")
+        .value_parser(clap::value_parser!(u16).range(0..65))
+        .help(
+            "How many threads send frames, 0 to 64, where 0 gives each player its own [default: one a processor]",
+        )
 }
 
 fn verbose_arg<'a>(alloc: Global) -> Arg<'a> {

@@ -16,8 +16,13 @@ pub struct Settings {
     pub accept: Option<u64>,
     /// For how long packets gather before players are woken, 0 to 100 milliseconds.
     pub gather: u64,
+    /// How many of the kept packets a player is given that begins to play, 0 to 4095.
+    pub back: u64,
     /// Whether a player is hung up after the last packet of its mount.
     pub hang_up_ended: bool,
+    /// How many threads send the frames of all players, 0 to 64; 0 gives each player a thread of its own, and `None` is one for
+    /// each processor.
+    pub writers: Option<usize>,
     /// Whether lines tell of each mount and each player.
     pub is_verbose: bool,
 }
@@ -34,7 +39,11 @@ impl Settings {
             packet_bytes: number(matches, "packet-bytes").clamp(12, 65_535),
             accept: matches.get_one::<u64>("accept"),
             gather: number(matches, "gather").min(100) as u64,
+            back: number(matches, "back").min(4095) as u64,
             hang_up_ended: matches.get_flag("hang-up-ended"),
+            writers: matches
+                .get_one::<u16>("writers")
+                .map(|count| usize::from(count).min(64)),
             is_verbose: matches.get_flag("verbose"),
         }
     }

@@ -1,5 +1,6 @@
 //! The one thread that wakes players.
 use crate::board::Board;
+use crate::signal::Signal;
 use std::sync::Wait;
 use std::sync::atomic::{AtomicBool, AtomicU64, Ordering};
 use std::thread;
@@ -23,6 +24,8 @@ pub struct Bell {
     /// `QUIET`, `RUNG` or `URGENT`.
     rung: AtomicU64,
     stopped: AtomicBool,
+    /// What writers sleep on.
+    pub(crate) writers: Signal,
 }
 
 impl Bell {
@@ -31,6 +34,7 @@ impl Bell {
         Bell {
             rung: AtomicU64::new(QUIET),
             stopped: AtomicBool::new(false),
+            writers: Signal::new(),
         }
     }
 
@@ -94,7 +98,9 @@ pub fn wake_players<R: Wait + Clock>(rt: &R, bell: &Bell, board: &Board, gather:
         bell.gather(rt, gather);
         // What is published from here on rings again; what was published before is marked already.
         bell.rung.store(QUIET, Ordering::SeqCst);
-        board.wake_marked(rt);
+        if board.wake_marked(rt) {
+            bell.writers.raise();
+        }
         // Looked at after the clearing: a stop before it is seen here, and one after it rings.
         if bell.stopped.load(Ordering::SeqCst) {
             return;

@@ -85,11 +85,13 @@ impl Board {
         Ok(None)
     }
 
-    /// Wakes the players of each mount that packets came to.
-    pub(crate) fn wake_marked(&self, rt: &impl Wait) {
+    /// Wakes the players of each mount that packets came to, but for those that a writer has. Says whether there was one.
+    pub(crate) fn wake_marked(&self, rt: &impl Wait) -> bool {
         let mounts = self.mounts.lock(rt);
+        let mut is_any = false;
         for posted in mounts.iter() {
-            posted.notice.wake_if_marked();
+            is_any |= posted.notice.wake_if_marked();
         }
+        is_any
     }
 }

@@ -1,16 +1,20 @@
-//! The thread of a playing connection.
+//! A playing connection, and who sends its frames.
 ghost use Rattle.std.specs.Prelude.{◌≤◌, length};
 
+use crate::bell::Bell;
 use crate::line::Line;
 use crate::maker::Leave;
 use crate::notice::Notice;
 use crate::pace::KnownLevel;
 use crate::phase::FramePhase;
+use crate::playing::{Next, Playing, TapPlace};
 use crate::socket::HangUp;
-use cursor::{Left, Tap};
-use interleaved::Sink;
+use crate::writers::{NoWriter, Place, Writers};
+use cursor::Tap;
+use interleaved::{Failed, Sink, TrySink};
 use player::OutStop;
 use relay_accounts::FrameEnd;
+use rtsp_message::{Status, put_plain};
 use std::alloc::{AllocError, Global};
 use std::sync::{Arc, Mutex, Wait};
 use std::thread::{JoinHandle, Threads};
@@ -18,25 +22,41 @@ use std::time::{Clock, Duration};
 use std::{mem, thread};
 use transport_header::TrackChannels;
 
-/// Where a connection's tap is.
-#[derive(Drop)]
-pub enum TapPlace<T> {
-    Nowhere,
-    /// A frame thread takes from it.
-    Attached(T),
-    /// Its mount has ended, and it was left with this account, so that nothing is kept of the mount's packets for a
-    /// player that stays.
-    Left(Left),
-}
-
-/// What a frame thread has of its connection. The thread holds the tap's lock as long as it takes from it; the thread
-/// that reads takes the tap out when it has joined it.
+/// What the thread that sends a connection's frames has of it: a thread of its own, or a writer, which has other players, too.
+///
+/// A frame thread holds the tap's lock as long as it takes from it; the thread that reads takes the tap out when it has joined it.
+/// A writer holds the player's lock for one look, and the line's meanwhile.
 #[derive(Drop)]
 pub struct Hand<T, W: Sink, H> {
     pub line: Line<W>,
     pub wire: H,
     pub phase: FramePhase,
     tap: Mutex<TapPlace<T>>,
+    playing: Mutex<Option<Playing<T>>>,
+}
+
+impl<T, W: Sink + Drop, H> Hand<T, W, H> {
+    /// Writes a reply. A writer that found the line taken meanwhile is woken.
+    pub fn write(&self, rt: &impl Wait, bell: &Bell, text: &[u8]) -> Result<(), Failed> {
+        let written = self.line.write(rt, text);
+        if self.line.was_skipped() {
+            bell.writers.raise();
+        }
+        written
+    }
+
+    /// Writes a reply that has no field but CSeq. Takes no memory.
+    pub fn write_plain(
+        &self,
+        rt: &impl Wait,
+        bell: &Bell,
+        status: Status,
+        cseq: Option<u32>,
+    ) -> Result<(), Failed> {
+        let mut text = [0; 128];
+        let len = put_plain(&mut text, status, cseq);
+        self.write(rt, bell, &text[..len])
+    }
 }
 
 impl<T: Tap + Leave + Drop, W: Sink + Drop, H: HangUp + Drop> Hand<T, W, H> {
@@ -47,7 +67,36 @@ impl<T: Tap + Leave + Drop, W: Sink + Drop, H: HangUp + Drop> Hand<T, W, H> {
             wire,
             phase: FramePhase::new(),
             tap: Mutex::new(TapPlace::Nowhere),
+            playing: Mutex::new(None),
         }
+    }
+
+    /// Puts the player in that a writer will look at, with the tap that was put in before.
+    pub(crate) fn play(
+        &self,
+        rt: &impl Wait,
+        notice: Arc<Notice, Global>,
+        seat: usize,
+        channels: TrackChannels,
+        after_end: Option<Duration>,
+    ) {
+        let TapPlace::Attached(tap) = self.take(rt) else {
+            return;
+        };
+        let after_end = after_end.map(|time| u64::try_from(time.as_millis()).unwrap_or(u64::MAX));
+        notice.pace.join(rt, seat);
+        let playing = Playing::new(tap, notice, seat, channels, after_end);
+        *self.playing.lock(rt) = Some(playing);
+    }
+
+    /// Takes the player out again, after at most one look of its writer, and says how its frames ended. Its tap is put back.
+    fn stop_playing(&self, rt: &impl Wait) -> FrameEnd {
+        let Some(playing) = self.playing.lock(rt).take() else {
+            return FrameEnd::Stopped;
+        };
+        let (end, tap) = playing.stop(rt);
+        *self.tap.lock(rt) = tap;
+        end
     }
 
     /// Puts a tap in that a frame thread will take from.
@@ -63,12 +112,7 @@ impl<T: Tap + Leave + Drop, W: Sink + Drop, H: HangUp + Drop> Hand<T, W, H> {
 
     /// Leaves the tap where its mount has ended.
     fn leave(&self, rt: &impl Wait) {
-        let mut place = self.tap.lock(rt);
-        let left = match mem::replace(&mut *place, TapPlace::Nowhere) {
-            TapPlace::Attached(tap) => TapPlace::Left(tap.leave_for_good()),
-            other => other,
-        };
-        *place = left;
+        self.tap.lock(rt).leave();
     }
 
     /// Sends what the tap gives until it is told to stop, the mount has ended or the connection fails, and says how that
@@ -164,13 +208,37 @@ impl<T: Tap + Leave + Drop, W: Sink + Drop, H: HangUp + Drop> Hand<T, W, H> {
     }
 }
 
-/// A seat that a connection is attached to, and the thread that sends what it takes.
+impl<T: Tap + Leave + Drop, W: TrySink + Drop, H: HangUp + Drop> Hand<T, W, H> {
+    /// A writer looks at the player. While the thread that reads puts it in or takes it out, or the writer that had it before looks
+    /// at it yet, it is looked at again after a moment.
+    pub(crate) fn look(&self, rt: &impl Wait, buf: &mut Vec<u8>, now: u64, most: u64) -> Next {
+        match self.playing.try_lock() {
+            Some(mut playing) => match &mut *playing {
+                Some(playing) => playing.look(rt, &self.line, &self.wire, buf, now, most),
+                None => Next::Sleep,
+            },
+            None => Next::Later(1),
+        }
+    }
+}
+
+/// Who sends the frames of a seat.
+#[derive(Drop)]
+enum Sender {
+    /// Nobody yet.
+    Nobody,
+    Thread(JoinHandle<FrameEnd>),
+    /// The writer with which it has this place.
+    Writer(Place),
+}
+
+/// A seat that a connection is attached to, and who sends what it takes.
 #[derive(Drop)]
 pub struct Frames {
     mount: u64,
     seat: usize,
     pub notice: Arc<Notice, Global>,
-    thread: Option<JoinHandle<FrameEnd>>,
+    sender: Sender,
 }
 
 impl Frames {
@@ -180,11 +248,11 @@ impl Frames {
             mount,
             seat,
             notice,
-            thread: None,
+            sender: Sender::Nobody,
         }
     }
 
-    /// Starts the thread, which may fail where there is no memory or no thread.
+    /// Starts a thread of its own, which may fail where there is no memory or no thread.
     pub fn start<R, T, W, H>(
         &mut self,
         rt: R,
@@ -205,13 +273,33 @@ impl Frames {
         let thread = thread::spawn(&rt, move || {
             hand.send(&rt, alloc, &notice, seat, &channels, after_end)
         })?;
-        self.thread = Some(thread);
+        self.sender = Sender::Thread(thread);
+        Ok(())
+    }
+
+    /// Gives the seat to a writer.
+    pub fn give<T, W, H>(
+        &mut self,
+        rt: &impl Wait,
+        hand: &Arc<Hand<T, W, H>, Global>,
+        writers: &Writers<T, W, H>,
+        channels: TrackChannels,
+        after_end: Option<Duration>,
+    ) -> Result<(), NoWriter>
+    where
+        T: Tap + Leave + Drop,
+        W: Sink + Drop,
+        H: HangUp + Drop,
+    {
+        let notice = Arc::try_clone(&self.notice)?;
+        hand.play(rt, notice, self.seat, channels, after_end);
+        self.sender = Sender::Writer(writers.add(rt, hand)?);
         Ok(())
     }
 
     /// Whether a thread was started that isn't joined.
     pub fn has_thread(&self) -> bool {
-        self.thread.is_some()
+        matches!(self.sender, Sender::Thread(_))
     }
 
     /// Which seat it is.
@@ -224,11 +312,29 @@ impl Frames {
         (self.mount, self.seat, self.notice)
     }
 
-    /// Waits for the thread's end, and says how it ended.
-    pub fn join<R: Threads>(&mut self, rt: &R) -> FrameEnd {
-        match self.thread.take() {
-            Some(thread) => thread.join(rt),
-            None => FrameEnd::Stopped,
+    /// Takes the seat from who sends its frames, waits for the end of its thread or its writer's look, and says how they ended.
+    pub fn join<R, T, W, H>(
+        &mut self,
+        rt: &R,
+        hand: &Hand<T, W, H>,
+        writers: Option<&Writers<T, W, H>>,
+    ) -> FrameEnd
+    where
+        R: Threads + Wait,
+        T: Tap + Leave + Drop,
+        W: Sink + Drop,
+        H: HangUp + Drop,
+    {
+        match mem::replace(&mut self.sender, Sender::Nobody) {
+            Sender::Thread(thread) => thread.join(rt),
+            Sender::Writer(place) => {
+                if let Some(writers) = writers {
+                    writers.remove(rt, place);
+                }
+                hand.stop_playing(rt)
+            }
+            // Without a sender the player may have been put in in vain.
+            Sender::Nobody => hand.stop_playing(rt),
         }
     }
 }

@@ -3,36 +3,65 @@ ghost use Rattle.std.specs.Prelude.{◌≡◌, ◌≤◌, length};
 
 use crate::socket::HangUp;
 use cursor::Tap;
-use interleaved::{Failed, Gathering, Sink, write_all};
+use interleaved::{FRAME_HEAD, Failed, Gathering, Sink, write_all};
 use player::{OutStop, relay_out};
-use rtsp_message::{Status, put_plain};
 use std::alloc::Global;
-use std::sync::{Mutex, Wait};
+use std::sync::atomic::{AtomicBool, Ordering};
+use std::sync::{Mutex, MutexGuard, Wait};
 use transport_header::TrackChannels;
 
 /// So many bytes of frames leave in one write, where there are so many.
-const GATHERED: usize = 32 * 1024;
+pub(crate) const GATHERED: usize = 32 * 1024;
 
 /// How many takes are made before a reply may be written between frames.
 pub(crate) const TAKES: u64 = 16;
 
 /// The sink of a connection. A reply, or the frames of up to sixteen takes, are written while its lock is held, so that
 /// each stays whole. Its lock may be held as long as the peer reads nothing; no other lock is taken meanwhile.
+///
+/// A writer, which waits for nothing, passes a line whose lock is taken over, and marks it: who gives the lock back looks for
+/// the mark afterwards.
 #[derive(Drop)]
 pub struct Line<W: Sink> {
     sink: Mutex<Gathering<W>>,
+    gathers: bool,
+    skipped: AtomicBool,
 }
 
 impl<W: Sink + Drop> Line<W> {
-    /// Without memory for a buffer each frame is written by itself.
-    pub fn new(alloc: Global, sink: W) -> Line<W> {
-        let buffer = match Vec::from_elem(alloc, 0, GATHERED) {
-            Ok(buffer) => buffer,
-            Err(_) => Vec::new(alloc),
+    /// For frames of at most so many bytes of data. Without memory for a buffer each frame is written by itself.
+    pub fn new(alloc: Global, sink: W, longest: usize) -> Line<W> {
+        let room = longest.saturating_add(FRAME_HEAD).saturating_add(GATHERED);
+        let (buffer, gathers) = match Vec::from_elem(alloc, 0, room) {
+            Ok(buffer) => (buffer, true),
+            Err(_) => (Vec::new(alloc), false),
         };
         Line {
             sink: Mutex::new(Gathering::new(sink, buffer)),
+            gathers,
+            skipped: AtomicBool::new(false),
         }
+    }
+
+    /// Whether there is a buffer, without which no writer sends frames.
+    pub fn gathers(&self) -> bool {
+        self.gathers
+    }
+
+    /// The sink, where nobody has it. `None` marks the line: who has the sink tells the writers when it gives it back.
+    pub(crate) fn try_hold(&self) -> Option<MutexGuard<'_, Gathering<W>>> {
+        if let Some(sink) = self.sink.try_lock() {
+            return Some(sink);
+        }
+        self.skipped.store(true, Ordering::SeqCst);
+        // Once more after the mark, so that who gave it back before doesn't keep it to itself.
+        self.sink.try_lock()
+    }
+
+    /// Whether a writer has passed it over since it was last asked. Asked after the sink was given back, and by a swap, which no
+    /// processor makes before that is seen.
+    pub(crate) fn was_skipped(&self) -> bool {
+        self.skipped.swap(false, Ordering::SeqCst)
     }
 
     /// Writes a reply.
@@ -42,18 +71,6 @@ impl<W: Sink + Drop> Line<W> {
             return Err(Failed);
         }
         sink.flush()
-    }
-
-    /// Writes a reply that has no field but CSeq. Takes no memory.
-    pub fn write_plain(
-        &self,
-        rt: &impl Wait,
-        status: Status,
-        cseq: Option<u32>,
-    ) -> Result<(), Failed> {
-        let mut text = [0; 128];
-        let len = put_plain(&mut text, status, cseq);
-        self.write(rt, &text[..len])
     }
 
     /// Tells the peer the end of its stream, after what is being written.

@@ -31,7 +31,7 @@ pub trait Maker {
     /// A feed, and a pass for each seat.
     fn make(&self, alloc: Global) -> Result<(Self::In, Vec<Self::Pass>), AllocError>;
 
-    /// Attaches a seat: what is published from now on comes out of the tap.
+    /// Attaches a seat: what is published from now on comes out of the tap, and `back` packets before it.
     fn attach(&self, pass: Self::Pass) -> Self::Out;
 
     /// Detaches it again.
@@ -39,6 +39,12 @@ pub trait Maker {
 
     /// How many packets are kept for a player that is behind.
     fn keep(&self) -> u64;
+
+    /// How many bytes the longest packet has.
+    fn packet_bytes(&self) -> usize;
+
+    /// How many of the kept packets come out of a tap that is attached, before those that are published from then on.
+    fn back(&self) -> u64;
 }
 
 /// Makes rings.
@@ -47,6 +53,7 @@ pub struct RingMaker {
     keep: usize,
     seats: usize,
     packet_bytes: usize,
+    back: u64,
     ghost keeps: { (1 ≤ keep) × (keep ≤ 4095) },
     ghost seated: { seats ≤ 1024 },
     ghost bounded: { (1 ≤ packet_bytes) × (packet_bytes ≤ 65535) },
@@ -63,6 +70,17 @@ impl RingMaker {
             keep,
             seats,
             packet_bytes,
+            back: 0,
+        }
+    }
+
+    /// The same, where a seat that is attached is given so many of the kept packets.
+    pub fn going_back(self, back: u64) -> RingMaker {
+        RingMaker {
+            keep: self.keep,
+            seats: self.seats,
+            packet_bytes: self.packet_bytes,
+            back,
         }
     }
 }
@@ -79,7 +97,7 @@ impl Maker for RingMaker {
     }
 
     fn attach(&self, pass: Pass) -> Subscriber {
-        pass.attach()
+        pass.attach_back(self.back)
     }
 
     fn detach(&self, out: Subscriber) -> (Pass, Left) {
@@ -88,6 +106,14 @@ impl Maker for RingMaker {
 
     fn keep(&self) -> u64 {
         self.keep as u64
+    }
+
+    fn packet_bytes(&self) -> usize {
+        self.packet_bytes
+    }
+
+    fn back(&self) -> u64 {
+        self.back
     }
 }
 

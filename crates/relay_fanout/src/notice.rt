@@ -1,12 +1,13 @@
 //! What tells the players of a mount that there are packets.
 ghost use Rattle.std.specs.Prelude.{◌≡◌, ◌%◌, ◌^◌};
 
+use crate::bell::Bell;
 use crate::line::TAKES;
 use crate::pace::Pace;
 use base_syntax::Items;
 use std::alloc::{AllocError, Global};
-use std::sync::atomic::{AtomicU64, Ordering};
-use std::sync::{Mutex, Wait};
+use std::sync::atomic::{AtomicBool, AtomicU64, Ordering};
+use std::sync::{Arc, Mutex, Wait};
 use transport_header::{MOST_TRACKS, Point};
 
 /// What the publisher of a mount and its players share beside the ring: where each track stands, and the word that
@@ -20,18 +21,23 @@ pub struct Notice {
     news: AtomicU64,
     /// How often the players were woken.
     wakes: AtomicU64,
+    /// Whether no packet comes any more.
+    ended: AtomicBool,
     /// Who keeps up with the publisher.
     pub(crate) pace: Pace,
+    bell: Arc<Bell, Global>,
 }
 
 impl Notice {
-    /// Of a mount with so many seats.
-    pub fn new(alloc: Global, seats: usize) -> Result<Notice, AllocError> {
+    /// Of a mount with so many seats, in the server that this bell is of.
+    pub fn new(alloc: Global, seats: usize, bell: Arc<Bell, Global>) -> Result<Notice, AllocError> {
         Ok(Notice {
             points: Mutex::new([None; MOST_TRACKS]),
             news: AtomicU64::new(0),
             wakes: AtomicU64::new(0),
+            ended: AtomicBool::new(false),
             pace: Pace::new(alloc, seats)?,
+            bell,
         })
     }
 
@@ -58,16 +64,34 @@ impl Notice {
         self.news.fetch_add(1, Ordering::SeqCst) == TAKES - 1
     }
 
-    /// Wakes the players if packets came since they were last woken.
-    pub(crate) fn wake_if_marked(&self) {
-        if self.news.swap(0, Ordering::SeqCst) > 0 {
-            self.wake();
+    /// Wakes the players if packets came since they were last woken, but for those that a writer has. Says whether any came.
+    pub(crate) fn wake_if_marked(&self) -> bool {
+        let is_marked = self.news.swap(0, Ordering::SeqCst) > 0;
+        if is_marked {
+            self.wake_threads();
         }
+        is_marked
+    }
+
+    /// No packet comes any more.
+    pub(crate) fn end(&self) {
+        self.ended.store(true, Ordering::SeqCst);
+        self.wake();
+    }
+
+    pub(crate) fn has_ended(&self) -> bool {
+        self.ended.load(Ordering::SeqCst)
     }
 
     /// Wakes the players of the mount, to whatever came.
     pub fn wake(&self) {
         self.news.store(0, Ordering::SeqCst);
+        self.wake_threads();
+        self.bell.writers.raise();
+    }
+
+    /// Wakes the players that have a thread of their own.
+    fn wake_threads(&self) {
         self.wakes.fetch_add(1, Ordering::SeqCst);
         self.wakes.wake_all();
     }

@@ -1,4 +1,5 @@
 //! What ANNOUNCEs offer, and no mount has used yet.
+use crate::bell::Bell;
 use crate::maker::{Maker, Seat};
 use crate::notice::Notice;
 use std::alloc::{AllocError, Global};
@@ -25,9 +26,14 @@ pub struct Offer<M: Maker> {
 
 impl<M: Maker> Offer<M> {
     /// A new one, which takes the memory of a mount.
-    pub fn make(alloc: Global, maker: &M) -> Result<Offer<M>, AllocError> {
+    pub fn make(
+        alloc: Global,
+        maker: &M,
+        bell: &Arc<Bell, Global>,
+    ) -> Result<Offer<M>, AllocError> {
         let (feed, passes) = maker.make(alloc)?;
-        let notice = Arc::new(alloc, Notice::new(alloc, passes.len())?)?;
+        let notice = Notice::new(alloc, passes.len(), Arc::try_clone(bell)?)?;
+        let notice = Arc::new(alloc, notice)?;
         let seats = Seat::of(alloc, passes, &notice)?;
         Ok(Offer {
             feed,

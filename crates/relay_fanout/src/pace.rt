@@ -7,10 +7,10 @@ use std::time::{Clock, Duration};
 
 /// The players of a mount as their publisher sees them, and what it waits on.
 ///
-/// A player's thread writes its own cursor after each of its writes, and changes its own standing only where it isn't known to
+/// A player's thread, or its writer, writes its cursor after each of its writes, and changes its own standing only where it isn't known to
 /// keep up or a round was opened since. The publisher's thread opens a round, wakes the players, and sleeps until the last that
 /// it waits for has taken as many as the round asks for, or left. The lock is held for a look at each seat or a change of one;
-/// it may be taken under the lock of a frame thread's tap, and no other is taken meanwhile.
+/// it may be taken under the lock of a frame thread's tap or of a writer's player and its line, and no other is taken meanwhile.
 #[derive(Drop)]
 pub(crate) struct Pace {
     round: Mutex<Round>,

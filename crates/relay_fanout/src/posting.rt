@@ -91,7 +91,7 @@ impl<R: Clock + Drop, F: Feed> Posting<R, F> {
             ..
         } = self;
         feed.close();
-        notice.wake();
+        notice.end();
         waited
     }
 

@@ -1,8 +1,11 @@
 //! Sockets that several threads have.
+use interleaved::TryWrite;
+use libc::net;
 use std::alloc::{AllocError, Global};
 use std::io;
-use std::io::{Read, Write};
+use std::io::{ErrorKind, Read, Write};
 use std::net::{Shutdown, TcpStream};
+use std::os::fd::AsRawFd;
 use std::sync::Arc;
 use std::time::Duration;
 
@@ -86,5 +89,20 @@ impl HangUp for Socket {
 
     fn limit_waits(&self, wait: u64) {
         self.stream.limit_waits(wait);
+    }
+}
+
+impl TryWrite for Socket {
+    fn try_write(&mut self, buf: &[u8]) -> io::Result<usize> {
+        let flags = net::MSG_DONTWAIT | net::MSG_NOSIGNAL;
+        let sent = unsafe { net::send(self.stream.as_raw_fd(), buf, flags) };
+        if let Ok(sent) = usize::try_from(sent) {
+            return Ok(sent);
+        }
+        let error = io::Error::from_raw_os_error(os::errno());
+        match error.kind() {
+            ErrorKind::WouldBlock | ErrorKind::Interrupted => Ok(0),
+            _ => Err(error),
+        }
     }
 }

@@ -9,6 +9,7 @@ use rand::make_rng;
 use rand::rngs::StdRng;
 use relay_command::{Asked, exit_code, read_words};
 use relay_talk::{DrawnWords, Ended, FixedWord, NoWords, WordSource, do_talk, word_source};
+use ring_steps::Actor;
 use serve::serve;
 use session_state::Words;
 use std::collections::hash_map::RandomState;
@@ -21,7 +22,7 @@ fn main(rt: HostRuntime) -> anyhow::Result<ExitCode> {
     let words: Vec<String> = std::env::args(&rt)?.collect(alloc)?;
     match read_words(alloc, words.as_slice()) {
         Ok(Asked::Talk(text)) => talk_on_standard_streams(&rt, text.as_deref()),
-        Ok(Asked::Steps) => steps_on_standard_streams(&rt),
+        Ok(Asked::Steps(stopped)) => steps_on_standard_streams(&rt, stopped),
         Ok(Asked::Serve(addr, settings)) => match serve(rt, alloc, &addr, settings) {
             Ok(()) => Ok(exit_code(0)),
             Err(line) => Ok(fails(&rt, FAILED, line)),
@@ -73,11 +74,11 @@ fn has_no_words(rt: &HostRuntime, why: NoWords) -> ExitCode {
     fails(rt, why.status(), why.line())
 }
 
-/// Runs a ring's schedule over the standard streams.
-fn steps_on_standard_streams(rt: &HostRuntime) -> anyhow::Result<ExitCode> {
+/// Runs a ring's schedule over the standard streams, behind which this actor stops, if one does.
+fn steps_on_standard_streams(rt: &HostRuntime, stopped: Option<Actor>) -> anyhow::Result<ExitCode> {
     let reader = Reading::new(rt.stdin());
     let mut writer = Writing::new(rt.stdout());
-    let ended = do_steps(rt.alloc(), reader, &mut writer)?;
+    let ended = do_steps(rt.alloc(), reader, &mut writer, stopped)?;
     Ok(tell(rt, &ended))
 }
 

@@ -9,13 +9,13 @@ use relay_server::{OpenGate, Options, RingMaker, run_server, shared_book};
 use relay_talk::{DrawnWords, NoWords};
 use std::alloc::Global;
 use std::collections::hash_map::RandomState;
-use std::io;
 use std::io::Eprint;
 use std::net::{Net, TcpListener, TcpStream};
 use std::random::RandomSource;
 use std::sync::Wait;
 use std::thread::Threads;
 use std::time::Clock;
+use std::{io, thread};
 
 /// How a server that can't go on is told of on standard error.
 const CANNOT_LISTEN: &str = "relay: cannot listen";
@@ -27,6 +27,14 @@ const AFTER_END: u64 = 10_000;
 
 /// For how many milliseconds a write to a peer that reads nothing may move no byte.
 const WRITE_WAIT: u64 = 20_000;
+
+/// A writer for each processor that the process may use, as far as the system tells how many, and at most 64.
+fn one_a_processor(rt: &impl Threads) -> usize {
+    match thread::available_parallelism(rt) {
+        Ok(count) => count.get().min(64),
+        Err(_) => 1,
+    }
+}
 
 /// Listens and serves. Answers the line that tells why it can't go on.
 pub fn serve<R>(rt: R, alloc: Global, addr: &str, settings: Settings) -> Result<(), &'static str>
@@ -58,7 +66,9 @@ where
     let Ok(rng) = drawn else {
         return Err(NoWords::NoRandomSource.line());
     };
-    let maker = RingMaker::new(settings.keep, settings.seats, settings.packet_bytes);
+    let maker = RingMaker::new(settings.keep, settings.seats, settings.packet_bytes).going_back(
+        settings.back,
+    );
     let Ok(book) = shared_book(alloc, settings.seats, hasher) else {
         return Err(OUT_OF_MEMORY);
     };
@@ -67,6 +77,7 @@ where
         gather: settings.gather,
         after_end: settings.hang_up_ended.then_some(AFTER_END),
         write_wait: WRITE_WAIT,
+        writers: settings.writers.unwrap_or_else(|| one_a_processor(&rt)),
         is_verbose: settings.is_verbose,
     };
     if let Ok(bound) = listener.local_addr() {

@@ -10,7 +10,7 @@ use crate::shared::Shared;
 use interleaved::{Sink, Source};
 use publisher::InStop;
 use relay_accounts::{ConnectionEnd, Counts, Outcome, Part, end_of, status_of};
-use relay_fanout::{Frames, Hand, HangUp, Line, Maker, Posting, close_behind_text};
+use relay_fanout::{Frames, Hand, HangUp, Line, Maker, Posting, Writers, close_behind_text};
 use rtsp_message::{Intake, Request, Status};
 use session_state::{Act, Method, Words, read_method};
 use std::alloc::Global;
@@ -26,6 +26,8 @@ pub(crate) struct Connection<R, M: Maker, V, G, W: Sink, H> {
     alloc: Global,
     shared: Arc<Shared<M, V, G>, Global>,
     hand: Arc<Hand<M::Out, W, H>, Global>,
+    /// Who sends its frames; `None` where a thread of its own does.
+    writers: Option<Arc<Writers<M::Out, W, H>, Global>>,
     conn: u64,
     /// How many requests have passed the gate.
     turns: u64,
@@ -47,6 +49,15 @@ pub(crate) struct Connection<R, M: Maker, V, G, W: Sink, H> {
     events: Events<R>,
 }
 
+/// Where a connection's replies and frames go: its line, what ends it, and the writers that send its frames, or `None` where a
+/// thread of its own does.
+#[derive(Drop)]
+pub struct Outgoing<T, W: Sink, H> {
+    pub line: Line<W>,
+    pub wire: H,
+    pub writers: Option<Arc<Writers<T, W, H>, Global>>,
+}
+
 /// Serves an open connection: answers its requests in order, publishes what comes in while it records, and sends what
 /// its seat takes while it plays. Ends when the peer says nothing more, at a fault, at a failed read or write or where it is
 /// out of memory, and hangs the connection up in the book.
@@ -56,8 +67,7 @@ pub fn run_connection<R, M, V, G, S, W, H>(
     shared: Arc<Shared<M, V, G>, Global>,
     conn: u64,
     mut reader: S,
-    line: Line<W>,
-    wire: H,
+    outgoing: Outgoing<M::Out, W, H>,
     events: Events<R>,
 ) -> Outcome
 where
@@ -70,6 +80,11 @@ where
     W: Sink + Drop + Send + 'static,
     H: HangUp + Drop + Send + Sync + 'static,
 {
+    let Outgoing {
+        line,
+        wire,
+        writers,
+    } = outgoing;
     let hand = match Arc::new(alloc, Hand::new(line, wire)) {
         Ok(hand) => hand,
         Err(refused) => {
@@ -86,6 +101,7 @@ where
         alloc,
         shared,
         hand,
+        writers,
         conn,
         turns: 0,
         session: None,
@@ -123,7 +139,7 @@ where
     W: Sink + Drop,
     H: HangUp + Drop,
 {
-    let _ = hand.line.write_plain(rt, Status::ServiceUnavailable, None);
+    let _ = hand.write_plain(rt, &shared.bell, Status::ServiceUnavailable, None);
     let _ = shared.book.lock(rt).hangup(conn);
     close_behind_text(&hand.wire, reader, LAST_READS, AFTER_TEXT);
 }
@@ -206,6 +222,13 @@ where
         let _ = self.write_plain(status, None);
     }
 
+    /// Whether a thread of its own sends its frames.
+    fn has_frame_thread(&self) -> bool {
+        self.frames
+            .as_ref()
+            .is_some_and(|frames| frames.has_thread())
+    }
+
     /// Hangs up in the book, and does what is left to do. Says how the connection ended, which may be by its frames. After
     /// a last text the peer is given a moment to read it.
     fn hang_up<S: Source>(&mut self, end: ConnectionEnd, source: &mut S) -> ConnectionEnd {
@@ -215,11 +238,14 @@ where
             ConnectionEnd::StreamFault(_) | ConnectionEnd::OutOfMemory
         );
         self.hand.phase.stop(&self.rt);
-        if !has_last_text {
-            // A frame thread may wait for a peer that reads nothing.
+        // A frame thread may wait for a peer that reads nothing; a writer waits for nobody, and mustn't find it hung up.
+        if !has_last_text && self.has_frame_thread() {
             self.hand.wire.hang_up();
         }
         let sent = self.detach();
+        if !has_last_text {
+            self.hand.wire.hang_up();
+        }
         if act == Act::End {
             self.end_mount();
         }

@@ -14,13 +14,13 @@ mod server;
 mod shared;
 
 pub use accepts::Accepts;
-pub use connection::run_connection;
+pub use connection::{Outgoing, run_connection};
 pub use events::Events;
 pub use gate::{Gate, OpenGate};
 pub use lines::Lines;
 pub use options::Options;
 pub use refusal::Refusal;
 pub use relay_accounts::{ConnectionEnd, Counts, Outcome, Part};
-pub use relay_fanout::{HangUp, Line, Maker, RingMaker, Seat, Socket};
+pub use relay_fanout::{HangUp, Line, Maker, RingMaker, Seat, Socket, Writers};
 pub use server::{run_server, tell_end};
 pub use shared::{Shared, SharedBook, shared_book};

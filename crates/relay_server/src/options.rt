@@ -13,6 +13,8 @@ pub struct Options {
     /// A write to a peer fails, and ends its connection, where for so many milliseconds no byte of it could be written; at
     /// least 1.
     pub write_wait: u64,
+    /// So many threads send the frames of all players; 0 gives each player a thread of its own.
+    pub writers: usize,
     /// Whether lines tell of each mount and each player as they come and go.
     pub is_verbose: bool,
 }

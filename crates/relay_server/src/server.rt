@@ -1,6 +1,6 @@
 //! The listening thread, and the threads of connections.
 use crate::accepts::Accepts;
-use crate::connection::run_connection;
+use crate::connection::{Outgoing, run_connection};
 use crate::events::Events;
 use crate::gate::Gate;
 use crate::helpers::Helpers;
@@ -11,9 +11,9 @@ use crate::refusing::{Refusing, tell_unavailable};
 use crate::shared::{Shared, SharedBook};
 use interleaved::{Reading, Writing};
 use log::{Log, info, warn};
-use packet_ring::Pass;
+use packet_ring::{Pass, Subscriber};
 use relay_accounts::{ConnectionEnd, Outcome};
-use relay_fanout::{Line, RingMaker, Seat, Socket, low_half};
+use relay_fanout::{Line, Maker, RingMaker, Seat, Socket, Writers, low_half};
 use session_state::Words;
 use std::alloc::{AllocError, Global};
 use std::io::Eprint;
@@ -26,6 +26,9 @@ use std::time::{Clock, Duration};
 
 /// What the threads of a server share whose mounts are rings.
 pub(crate) type RingShared<V, G> = Shared<RingMaker, V, G>;
+
+/// The writers of a server whose players are sockets.
+pub(crate) type SocketWriters = Writers<Subscriber, Writing<Socket>, Socket>;
 
 /// How long the server waits after it couldn't accept, in milliseconds, so that a lack of descriptors doesn't keep it
 /// busy.
@@ -59,13 +62,15 @@ where
     let shared = Arc::new(alloc, shared)?;
     let lines = Arc::new(alloc, Lines::new(rt, alloc)?)?;
     let refusing = Arc::new(alloc, Refusing::new(&rt, alloc)?)?;
+    let writers = writers_of(alloc, &shared, options)?;
     let server = Server {
         shared,
+        writers,
         lines,
         refusing,
         is_verbose: options.is_verbose,
     };
-    let helpers = Helpers::start(rt, &server, options.gather)?;
+    let helpers = Helpers::start(rt, alloc, &server, options.gather)?;
     accept_all(rt, alloc, listener, options, &server);
     wait_for_all(&rt, &server.shared);
     helpers.end(&rt, &server);
@@ -76,10 +81,26 @@ where
 #[derive(Drop)]
 pub(crate) struct Server<R, V, G> {
     pub(crate) shared: Arc<RingShared<V, G>, Global>,
+    /// `None` where each player has a thread of its own.
+    pub(crate) writers: Option<Arc<SocketWriters, Global>>,
     pub(crate) lines: Arc<Lines<R>, Global>,
     pub(crate) refusing: Arc<Refusing, Global>,
     /// Whether lines tell of each mount and each player.
     is_verbose: bool,
+}
+
+/// The writers that are asked for, which aren't started yet.
+fn writers_of<V, G>(
+    alloc: Global,
+    shared: &RingShared<V, G>,
+    options: Options,
+) -> Result<Option<Arc<SocketWriters, Global>>, AllocError> {
+    if options.writers == 0 {
+        return Ok(None);
+    }
+    let bell = Arc::try_clone(&shared.bell)?;
+    let writers = Writers::new(alloc, options.writers, bell, options.write_wait)?;
+    Ok(Some(Arc::new(alloc, writers)?))
 }
 
 /// Accepts connections, for good or as many as are to be accepted.
@@ -191,15 +212,24 @@ where
     let reader = Reading::new(Socket::of(stream)?);
     let writer = Writing::new(Socket::of(stream)?);
     let wire = Socket::of(stream)?;
+    let writers = match &server.writers {
+        Some(writers) => Some(Arc::try_clone(writers)?),
+        None => None,
+    };
+    let longest = server.shared.maker.packet_bytes();
     let theirs = Arc::try_clone(&server.shared)?;
     let same = Arc::try_clone(&server.shared)?;
     let lines = Arc::try_clone(&server.lines)?;
     let is_verbose = server.is_verbose;
     server.shared.live.fetch_add(1, Ordering::SeqCst);
     let run = move || {
-        let line = Line::new(alloc, writer);
+        let outgoing = Outgoing {
+            line: Line::new(alloc, writer, longest),
+            wire,
+            writers,
+        };
         let events = Events::new(&lines, peer, is_verbose);
-        let outcome = run_connection(rt, alloc, theirs, conn, reader, line, wire, events);
+        let outcome = run_connection(rt, alloc, theirs, conn, reader, outgoing, events);
         tell_end(&lines, peer, &outcome);
         leave(&same);
     };

@@ -17,9 +17,9 @@ use Rattle.session_state.specs.Legal.{IsBack, IsHangUp, IsReplyOf}
 abbrev pub opening : History
 opening = entries.Connect 1 ∷ []
 
--- a request is handed in with this word, and without points
+-- a request is handed in with this word, without points, and at the moment 0: nothing expires
 abbrev pub with_word : ℕ → Given
-with_word word = record { word = word; points = [] }
+with_word word = record { word = word; points = []; now = 0 }
 
 -- what stands in a reply's place where memory was refused for it
 abbrev pub busy : Request → List ℕ

@@ -120,6 +120,7 @@ impl Talker {
         let given = Given {
             word,
             points: Items::empty(self.alloc),
+            now: 0,
         };
         let Ok(answer) = self.book.call(TALKER, request, &given, passes) else {
             return None;

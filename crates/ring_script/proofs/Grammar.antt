@@ -1,6 +1,6 @@
 -- What a line is found to say is what its form says.
 use Rattle.std.proofs.Common.{◌≡◌, ◌==◌, ℕ, ◌<◌, ◌≤◌, Bool, true, false, if◌then◌else◌, List, [], ◌∷◌, ◌++◌, Option, None, Some, Ok, Err, Result, length, drop, replicate, codes, inl, inr, refl, sym, ap, subst, ◌∙◌, arith}
-use Rattle.std.specs.Prelude.{nat_eq, nat_le}
+use Rattle.std.specs.Prelude.{nat_eq, nat_le, MatchOption}
 use Rattle.std.specs.List.{list_all, flat_map, slice_split, before_first, after_first, starts_with}
 use Rattle.std.specs.Option.{option_map}
 use Rattle.std.specs.Char.{is_ascii_digit}
@@ -19,9 +19,9 @@ use Rattle.ring_script.specs.declared.call_line.CallLine.{CallLine}
 use Rattle.ring_script.specs.declared.call_line.CallLine.TheVariants.{ByPublisher, BySeat}
 use Rattle.ring_script.specs.declared.line.Line.{Line}
 use Rattle.ring_script.specs.declared.line.Line.TheVariants.{Keep, Seats, Call, Go}
-use Rattle.ring_script.specs.Grammar.{IsNumber, IsHex, call_name, IsCall, IsActor, IsItem, AreItems, IsSchedule, IsLine}
+use Rattle.ring_script.specs.Grammar.{IsNumber, IsHex, IsSeatCall, IsCall, IsActor, IsItem, AreItems, IsSchedule, IsLine}
 use Rattle.base_syntax.specs.Cuts.{behind_first}
-use Rattle.ring_script.specs.LineForms.{number_of, behind, publish_of, publisher_call_of, seat_call_named, seat_line_by, seat_line_of, seat_of, actor_of, in_limits, times_of, repeated, item_of, joined, items_of, not_too_long, schedule_of, or_else, line_of, is_space, is_star}
+use Rattle.ring_script.specs.LineForms.{number_of, behind, publish_of, publisher_call_of, attach_of, seat_call_of, seat_line_by, seat_line_of, seat_of, actor_of, in_limits, times_of, repeated, item_of, joined, items_of, not_too_long, schedule_of, or_else, line_of, is_space, is_star}
 use Rattle.base_syntax.specs.Cuts.{HasNone}
 use Rattle.base_syntax.proofs.Cuts.{found_or_missing, cut_behind, uncut}
 use Rattle.ring_script.proofs.Items.{first_word}
@@ -92,6 +92,11 @@ actor_is_read [] (Seat seat) p = let some : 0 < 0 = p.1.numeral.0 in absurd (ome
 actor_is_read (d ∷ ds) (Seat seat) p =
     let other = past_digits 112 d ds (omega arith) (digits_from (d ∷ ds) p.1.numeral.1) in
     rw (other.1, p.2) (ap (option_map seat_of) (number_is_read (d ∷ ds) p.0 p.1))
+
+-- what is found for a text is the actor that it names
+pub actor_named : (name : List ℕ) (found : Option Actor) → found ≡ actor_of name → MatchOption found ((actor : Actor) → ¬ IsActor name actor) (IsActor name)
+actor_named name None e = λ actor named. (let read = e ∙ actor_is_read name actor named in cc)
+actor_named name (Some actor) e = actor_tells name actor (sym e)
 
 name_without : (b : ℕ) (name : List ℕ) (actor : Actor) → b < 48 → IsActor name actor → HasNone b name
 name_without b name P low p = subst (HasNone b) (sym p) (ne_eqb 112 b (λ e. omega (arith, e, low)), tt)
@@ -266,22 +271,29 @@ unfolding publisher_call_of
 close_is_read = refl
 
 -- calls of a seat
-seat_call_tells : (name : List ℕ) (call : SeatCall) → seat_call_named name ≡ Some call → name ≡ call_name call
-seat_call_tells name call e = elim (cases_Bool (bytes_eq name (codes "attach"))) [
-  | inl same ↦ let by : Attach ≡ call = let is = rw same at e in cc in (bytes_eq-Decides name (codes "attach")).0 same ∙ ap call_name by
-  | inr first ↦ elim (cases_Bool (bytes_eq name (codes "take"))) [
-    | inl same ↦ let by : Take ≡ call = let is = rw (first, same) at e in cc in (bytes_eq-Decides name (codes "take")).0 same ∙ ap call_name by
-    | inr second ↦ elim (cases_Bool (bytes_eq name (codes "detach"))) [
-      | inl same ↦ let by : Detach ≡ call = let is = rw (first, second, same) at e in cc in (bytes_eq-Decides name (codes "detach")).0 same ∙ ap call_name by
-      | inr other ↦ let is = rw (first, second, other) at e in absurd (cc)
+attach_tells : (text : List ℕ) (back : Option (List ℕ)) (call : SeatCall) → behind (codes "attach ") text ≡ back → attach_of back ≡ Some call → IsSeatCall text call
+attach_tells text None call is e = absurd (cc)
+attach_tells text (Some number) call is e =
+    let by = map_tells Attach (number_of number) call e in
+    subst (IsSeatCall text) by.2 (inr (number, behind_tells (codes "attach ") text number is, number_tells number by.0 by.1))
+
+seat_call_tells : (text : List ℕ) (call : SeatCall) → seat_call_of text ≡ Some call → IsSeatCall text call
+seat_call_tells text call e = elim (cases_Bool (bytes_eq text (codes "attach"))) [
+  | inl same ↦ let by : Attach 0 ≡ call = let is = rw same at e in cc in subst (IsSeatCall text) by (inl ((bytes_eq-Decides text (codes "attach")).0 same, refl))
+  | inr first ↦ elim (cases_Bool (bytes_eq text (codes "take"))) [
+    | inl same ↦ let by : Take ≡ call = let is = rw (first, same) at e in cc in subst (IsSeatCall text) by ((bytes_eq-Decides text (codes "take")).0 same)
+    | inr second ↦ elim (cases_Bool (bytes_eq text (codes "detach"))) [
+      | inl same ↦ let by : Detach ≡ call = let is = rw (first, second, same) at e in cc in subst (IsSeatCall text) by ((bytes_eq-Decides text (codes "detach")).0 same)
+      | inr other ↦ attach_tells text (behind (codes "attach ") text) call refl (rw (first, second, other) at e)
     ]
   ]
 ]
 
-seat_call_is_read : (call : SeatCall) → seat_call_named (call_name call) ≡ Some call
-seat_call_is_read Attach = refl
-seat_call_is_read Take = refl
-seat_call_is_read Detach = refl
+seat_call_is_read : (text : List ℕ) (call : SeatCall) → IsSeatCall text call → seat_call_of text ≡ Some call
+seat_call_is_read text (Attach back) (inl p) = rw (p.0, p.1) refl
+seat_call_is_read text (Attach back) (inr p) = rw (p.1, number_is_read p.0 back p.2) refl
+seat_call_is_read text Take p = rw p refl
+seat_call_is_read text Detach p = rw p refl
 
 by_tells : (number : Option ℕ) (call : Option SeatCall) (said : Line) → seat_line_by number call ≡ Some said
     → (n : ℕ) × (c : SeatCall) × (number ≡ Some n) × (call ≡ Some c) × (Call (BySeat n c) ≡ said)
@@ -292,10 +304,14 @@ by_tells (Some n) (Some c) said e = (n, c, refl, refl, (cc))
 seat_line_tells : (line : List ℕ) (said : Line) → seat_line_of (before_first is_space line) (behind_first 32 line) ≡ Some said → IsLine line said
 seat_line_tells line said e = elim (found_or_missing 32 line) [
   | inl space ↦
-      let by = by_tells (number_of (before_first is_space line)) (seat_call_named (after_first is_space line)) said (rw space.found at e) in
-      let name_is = seat_call_tells (after_first is_space line) by.1 by.3 in
-      subst (IsLine line) by.4
-      (before_first is_space line, space.whole ∙ ap (λ (l : List ℕ). before_first is_space line ++ 32 ∷ l) name_is, number_tells (before_first is_space line) by.0 by.2)
+      let by = by_tells (number_of (before_first is_space line)) (seat_call_of (after_first is_space line)) said (rw space.found at e) in
+      subst (IsLine line) by.4 (
+        before_first is_space line,
+        after_first is_space line,
+        space.whole,
+        number_tells (before_first is_space line) by.0 by.2,
+        seat_call_tells (after_first is_space line) by.1 by.3,
+      )
   | inr plain ↦ let is = rw plain.none at e in absurd (cc)
 ]
 
@@ -326,19 +342,18 @@ pub line_tells : (line : List ℕ) (said : Line) → line_of line ≡ Some said 
 unfolding line_of
 line_tells line said e = said_by_form line said (behind (codes "keep ") line) (behind (codes "seats ") line) (behind (codes "p ") line) (behind (codes "go ") line) refl refl refl refl e
 
-seat_line_is_read : (line text : List ℕ) (seat : ℕ) (call : SeatCall) → line ≡ text ++ 32 ∷ call_name call → IsNumber text seat → line_of line ≡ Some (Call (BySeat seat call))
+seat_line_is_read : (line number name : List ℕ) (seat : ℕ) (call : SeatCall) → line ≡ number ++ 32 ∷ name → IsNumber number seat → IsSeatCall name call → line_of line ≡ Some (Call (BySeat seat call))
 unfolding line_of
-seat_line_is_read line [] seat call whole is = let some : 0 < 0 = is.numeral.0 in absurd (omega (arith, some))
-seat_line_is_read line (d ∷ ds) seat call whole is =
-    let name = call_name call in
+seat_line_is_read line [] name seat call whole is named = let some : 0 < 0 = is.numeral.0 in absurd (omega (arith, some))
+seat_line_is_read line (d ∷ ds) name seat call whole is named =
     let keep = subst (λ (l : List ℕ). behind (codes "keep ") l ≡ None) (sym whole) (no_word (codes "eep ") (ds ++ 32 ∷ name) 107 d (past_digits 107 d ds (omega arith) (digits_from (d ∷ ds) is.numeral.1)).0) in
     let seats = subst (λ (l : List ℕ). behind (codes "seats ") l ≡ None) (sym whole) (no_word (codes "eats ") (ds ++ 32 ∷ name) 115 d (past_digits 115 d ds (omega arith) (digits_from (d ∷ ds) is.numeral.1)).0) in
     let publisher = subst (λ (l : List ℕ). behind (codes "p ") l ≡ None) (sym whole) (no_word (codes " ") (ds ++ 32 ∷ name) 112 d (past_digits 112 d ds (omega arith) (digits_from (d ∷ ds) is.numeral.1)).0) in
     let go = subst (λ (l : List ℕ). behind (codes "go ") l ≡ None) (sym whole) (no_word (codes "o ") (ds ++ 32 ∷ name) 103 d (past_digits 103 d ds (omega arith) (digits_from (d ∷ ds) is.numeral.1)).0) in
     let cut = cut_behind 32 (d ∷ ds) name (digits_without 32 (d ∷ ds) (omega arith) (digits_from (d ∷ ds) is.numeral.1)) in
     let front : before_first is_space line ≡ d ∷ ds = ap (before_first is_space) whole ∙ cut.0 in
-    let named : behind_first 32 line ≡ Some name = ap (behind_first 32) whole ∙ cut.1 in
-    rw (keep, seats, publisher, go, front, named, number_is_read (d ∷ ds) seat is, seat_call_is_read call) refl
+    let rest : behind_first 32 line ≡ Some name = ap (behind_first 32) whole ∙ cut.1 in
+    rw (keep, seats, publisher, go, front, rest, number_is_read (d ∷ ds) seat is, seat_call_is_read name call named) refl
 
 pub line_is_read : (line : List ℕ) (said : Line) → IsLine line said → line_of line ≡ Some said
 unfolding line_of
@@ -346,5 +361,5 @@ line_is_read line (Keep keep) p = rw (p.1, number_is_read p.0 keep p.2) refl
 line_is_read line (Seats seats) p = rw (p.1, number_is_read p.0 seats p.2) refl
 line_is_read line (Call (ByPublisher (Publish bytes))) p = rw (p.1, publish_is_read p.0 bytes p.2) refl
 line_is_read line (Call (ByPublisher Close)) p = rw (p, close_is_read) refl
-line_is_read line (Call (BySeat seat call)) p = seat_line_is_read line p.0 seat call p.1 p.2
+line_is_read line (Call (BySeat seat call)) p = seat_line_is_read line p.0 p.1 seat call p.2 p.3 p.4
 line_is_read line (Go steps) p = rw (p.1, schedule_is_read p.0 steps p.2) refl

@@ -5,6 +5,7 @@ pub mod Items
 pub mod Printed
 pub mod Sorting
 pub mod Reading
+pub mod OneWay
 pub mod OnePlan
 pub mod Grammar
 pub mod Forms

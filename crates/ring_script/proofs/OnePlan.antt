@@ -1,13 +1,14 @@
 -- A text is one plan, or has one bad line, and never both; a plan has one text of its trace.
-use Rattle.std.proofs.Common.{◌≡◌, ℕ, ◌<◌, true, List, [], ◌∷◌, ◌++◌, Some, map, filter, inl, inr, length, refl, sym, ap, subst, ◌∙◌, arith, append_assoc, append-nil, length-append}
+use Rattle.std.proofs.Common.{◌≡◌, ℕ, ◌<◌, true, List, [], ◌∷◌, ◌++◌, Option, None, Some, map, filter, inl, inr, length, refl, sym, ap, subst, ◌∙◌, arith, append_assoc, append-nil, length-append}
 use Rattle.std.proofs.lemmas.Bool.Decides.{leb_tells}
 use Rattle.ring_steps.specs.declared.calls.Actor.{Actor}
+use Rattle.ring_steps.specs.declared.config.Config.{Config}
 use Rattle.ring_steps.specs.declared.trace.Trace.{Trace}
 use Rattle.ring_steps.specs.declared.trace.TraceStep.{TraceStep}
 use Rattle.ring_steps.specs.declared.trace.TraceEvent.{TraceEvent}
 use Rattle.ring_steps.specs.Acting.{acted, event_of}
-use Rattle.ring_steps.specs.Runs.{Turn, start}
-use Rattle.ring_steps.specs.Traces.{step_of}
+use Rattle.ring_steps.specs.Runs.{Calls, Turn, start}
+use Rattle.ring_steps.specs.Traces.{IsTrace, step_of}
 use Rattle.ring_steps.proofs.Choices.{runs_alike}
 use Rattle.base_syntax.proofs.LineEnds.{same_line, no_whole_line}
 use Rattle.base_syntax.proofs.Lists.{same_cons}
@@ -23,6 +24,7 @@ use Rattle.ring_script.specs.Scripts.{script_of}
 use Rattle.ring_script.specs.Steps.{IsTraceOf}
 use Rattle.ring_script.specs.TraceText.{trace_text, step_lines, event_lines}
 use Rattle.ring_script.proofs.Forms.{forms_heard}
+use Rattle.ring_script.proofs.OneWay.{same_turns_out}
 
 -- a line and its LF
 ends_in_lf : (line rest : List ℕ) → line ++ 10 ∷ rest ≡ (line ++ 10 ∷ []) ++ rest
@@ -131,11 +133,17 @@ one_bad_line text m n a b =
       | inr less ↦ absurd (no_earlier b.before b.after a.before a.after (sym lines) less.1 b.wrong a.begins)
     ]
 
-pub one_text : (plan : Plan) (t u : Trace) → IsTraceOf plan t → IsTraceOf plan u → trace_text t ≡ trace_text u
-one_text plan t u p q =
-    let a = p.is_trace in
-    let b = q.is_trace in
-    let turns = (runs_alike (script_of plan) (start plan.config.keep plan.config.seats) a.turns b.turns a.end b.end a.ran b.ran (a.by ∙ sym b.by)).turns_same in
+-- all traces of a schedule have the same text
+same_text : (config : Config) (calls : Calls) (first then : List Actor) (t u : Trace) → IsTrace config calls first t → IsTrace config calls then u → first ≡ then → trace_text t ≡ trace_text u
+same_text config calls first then t u a b same =
+    let turns = (runs_alike calls (start config.keep config.seats) a.turns b.turns a.end b.end a.ran b.ran (a.by ∙ same ∙ sym b.by)).turns_same in
     let steps : t.steps.items ≡ u.steps.items = a.steps ∙ ap (λ (ts : List Turn). map step_of ts) turns ∙ sym b.steps in
     let events : t.events.items ≡ u.events.items = a.events ∙ ap (λ (ts : List Turn). map event_of (acted 0 ts)) turns ∙ sym b.events in
     ap (λ (s : List TraceStep). step_lines 0 s ++ event_lines s t.events.items) steps ∙ ap (λ (e : List TraceEvent). step_lines 0 u.steps.items ++ event_lines u.steps.items e) events
+
+pub one_text : (stopped : Option Actor) (plan : Plan) (t u : Trace) → IsTraceOf stopped plan t → IsTraceOf stopped plan u → trace_text t ≡ trace_text u
+one_text None plan t u p q = same_text plan.config (script_of plan) plan.schedule plan.schedule t u p.is_trace q.is_trace refl
+one_text (Some actor) plan t u p q =
+    let a = p.is_trace in
+    let b = q.is_trace in
+    same_text plan.config (script_of plan) _ _ t u a.told b.told (same_turns_out plan.config (script_of plan) plan.schedule actor t u a b)

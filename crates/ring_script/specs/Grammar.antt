@@ -25,16 +25,17 @@ pub record IsHex (text bytes : List ℕ) : Type 0 where
   pub least : 1 ≤ length bytes
   pub most : length bytes ≤ 65535
 
-abbrev pub call_name : SeatCall → List ℕ
-call_name Attach = codes "attach"
-call_name Take = codes "take"
-call_name Detach = codes "detach"
+-- `attach N`, which asks for N packets back, `attach`, which asks for none, `take` or `detach`
+abbrev pub IsSeatCall : List ℕ → SeatCall → Type 0
+IsSeatCall text (Attach back) = ((text ≡ codes "attach") × (back ≡ 0)) ⊎ ((number : List ℕ) × (text ≡ codes "attach " ++ number) × IsNumber number back)
+IsSeatCall text Take = text ≡ codes "take"
+IsSeatCall text Detach = text ≡ codes "detach"
 
 -- `p HEX`, `p close`, or a seat's number, one space and its call
 abbrev pub IsCall : List ℕ → CallLine → Type 0
 IsCall line (ByPublisher (Publish bytes)) = (text : List ℕ) × (line ≡ codes "p " ++ text) × IsHex text bytes
 IsCall line (ByPublisher Close) = line ≡ codes "p close"
-IsCall line (BySeat seat call) = (text : List ℕ) × (line ≡ text ++ 32 ∷ call_name call) × IsNumber text seat
+IsCall line (BySeat seat call) = (number text : List ℕ) × (line ≡ number ++ 32 ∷ text) × IsNumber number seat × IsSeatCall text call
 
 -- `p`, or a seat's number. No ring has a seat 65,535, and a number past it stands for that one.
 abbrev pub IsActor : List ℕ → Actor → Type 0

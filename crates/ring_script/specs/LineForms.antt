@@ -40,21 +40,26 @@ publish_of (Err e) = None
 unfoldable pub publisher_call_of : List ℕ → Option CallLine
 publisher_call_of text = if bytes_eq text (codes "close") then Some (ByPublisher Close) else publish_of (decode_of text)
 
-abbrev pub seat_call_named : List ℕ → Option SeatCall
-seat_call_named name =
-    if bytes_eq name (codes "attach") then Some Attach
-    else if bytes_eq name (codes "take") then Some Take
-    else if bytes_eq name (codes "detach") then Some Detach
-    else None
+-- what stands after `attach `: how many packets back are asked for
+abbrev pub attach_of : Option (List ℕ) → Option SeatCall
+attach_of None = None
+attach_of (Some text) = option_map Attach (number_of text)
+
+abbrev pub seat_call_of : List ℕ → Option SeatCall
+seat_call_of text =
+    if bytes_eq text (codes "attach") then Some (Attach 0)
+    else if bytes_eq text (codes "take") then Some Take
+    else if bytes_eq text (codes "detach") then Some Detach
+    else attach_of (behind (codes "attach ") text)
 
 abbrev pub seat_line_by : Option ℕ → Option SeatCall → Option Line
 seat_line_by (Some seat) (Some call) = Some (Call (BySeat seat call))
 seat_line_by (Some seat) None = None
 seat_line_by None call = None
 
-abbrev pub seat_line_of : (number : List ℕ) → (name : Option (List ℕ)) → Option Line
+abbrev pub seat_line_of : (number : List ℕ) → (call : Option (List ℕ)) → Option Line
 seat_line_of number None = None
-seat_line_of number (Some name) = seat_line_by (number_of number) (seat_call_named name)
+seat_line_of number (Some text) = seat_line_by (number_of number) (seat_call_of text)
 
 -- The actor that a seat's number names. No ring has a seat 65,535, so a number past the numbers that an actor can have
 -- names a seat that isn't there, as it must.

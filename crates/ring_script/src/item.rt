@@ -1,5 +1,7 @@
 //! The items of a `go` line.
-ghost use Rattle.std.specs.Prelude.{◌≡◌, ◌≤◌, ◌++◌, replicate, Some, None, IfOk, IfSome, IfNone, OnOk};
+ghost use Rattle.std.specs.Prelude.{◌≡◌, ◌≤◌, ◌++◌, replicate, Some, None, IfOk, IfSome, IfNone, MatchOption, OnOk};
+ghost use Rattle.ring_steps.specs.declared.calls.Actor as actors;
+ghost use Rattle.ring_script.specs.Grammar.{IsActor};
 ghost use Rattle.ring_script.specs.LineForms.{item_of, schedule_of, actor_of, times_of};
 ghost use Rattle.std.specs.Option.{option_copied};
 
@@ -23,6 +25,14 @@ fn actor(name: &[u8]) -> Option<Actor>
     }
     // A seat past these numbers isn't there, and neither is the last of them.
     number(name).map(|seat| Actor::Seat(seat.min(65535) as u16))
+}
+
+/// The actor that a text names: `p`, or a seat's number of one to nine decimal digits. `None` for any other text. A number
+/// past 65,535 names that seat, which no ring has.
+pub fn read_actor(name: &[u8]) -> Option<Actor>
+    ensures { MatchOption result ((actor : actors.Actor) → ¬ IsActor name.now actor) (IsActor name.now) }
+{
+    actor(name)
 }
 
 /// How often an item's actor steps.

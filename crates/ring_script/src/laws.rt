@@ -1,6 +1,7 @@
 //! What holds of every input and of every trace.
 
-ghost use Rattle.std.specs.Prelude.{◌≡◌, ℕ, List, Some};
+ghost use Rattle.std.specs.Prelude.{◌≡◌, ℕ, List, Option, Some};
+ghost use Rattle.ring_steps.specs.declared.calls.Actor.{Actor};
 ghost use Rattle.ring_steps.specs.declared.trace.Trace.{Trace};
 ghost use Rattle.ring_script.specs.declared.line.Line.{Line};
 ghost use Rattle.ring_script.specs.declared.plan.Plan.{Plan};
@@ -23,7 +24,7 @@ pub fn one_reading()
     ensures apart { (text : List ℕ) (plan : Plan) (number : ℕ) → Reads text plan → IsBadLine text number → ⊥ }
 {}
 
-/// All traces of a plan have the same text.
+/// All traces of a plan have the same text, also those in which an actor is stopped behind it.
 pub fn one_trace()
-    ensures { (plan : Plan) (t u : Trace) → IsTraceOf plan t → IsTraceOf plan u → trace_text t ≡ trace_text u }
+    ensures { (stopped : Option Actor) (plan : Plan) (t u : Trace) → IsTraceOf stopped plan t → IsTraceOf stopped plan u → trace_text t ≡ trace_text u }
 {}

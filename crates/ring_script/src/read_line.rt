@@ -1,7 +1,7 @@
 //! What a line of an input says.
 ghost use Rattle.std.specs.Prelude.{◌≡◌, IfOk};
 ghost use Rattle.base_syntax.specs.Cuts.{behind_first};
-ghost use Rattle.ring_script.specs.LineForms.{line_of, publisher_call_of, seat_call_named, seat_line_of, is_space};
+ghost use Rattle.ring_script.specs.LineForms.{line_of, publisher_call_of, seat_call_of, seat_line_of, is_space};
 ghost use Rattle.std.specs.List.{before_first};
 
 use crate::call_line::CallLine;
@@ -37,28 +37,30 @@ fn publisher_call(alloc: Global, text: &[u8]) -> Result<Option<CallLine>, AllocE
     }
 }
 
-fn seat_call(name: &[u8]) -> Option<SeatCall>
-    ensures { result ≡ seat_call_named name.now }
+/// The call that stands after a seat's number.
+fn seat_call(text: &[u8]) -> Option<SeatCall>
+    ensures { result ≡ seat_call_of text.now }
 {
-    if name == b"attach".as_slice() {
-        Some(SeatCall::Attach)
-    } else if name == b"take".as_slice() {
+    if text == b"attach".as_slice() {
+        Some(SeatCall::Attach { back: 0 })
+    } else if text == b"take".as_slice() {
         Some(SeatCall::Take)
-    } else if name == b"detach".as_slice() {
+    } else if text == b"detach".as_slice() {
         Some(SeatCall::Detach)
     } else {
-        None
+        let back = behind(b"attach ", text)?;
+        number(back).map(|back| SeatCall::Attach { back })
     }
 }
 
-/// The call line of a seat: its number, one space and the call's name.
+/// The call line of a seat: its number, one space and its call.
 fn seat_line(line: &[u8]) -> Option<Line>
     ensures { result ≡ seat_line_of (before_first is_space line.now) (behind_first 32 line.now) }
 {
-    let (seat, name) = cut(line, b' ');
-    let name = name?;
+    let (seat, call) = cut(line, b' ');
+    let call = call?;
     let seat = number(seat)?;
-    let call = seat_call(name)?;
+    let call = seat_call(call)?;
     Some(Line::Call(CallLine::BySeat(seat, call)))
 }
 

@@ -9,7 +9,7 @@ use Rattle.cursor.specs.declared.packets.Packet.{Packet}
 use Rattle.cursor.specs.declared.calls.Answer.TheVariants.{Taken}
 use Rattle.cursor.specs.declared.takes.Delivery.TheVariants.{Empty, Ended}
 use Rattle.cursor.proofs.Counting.{read_place}
-use Rattle.cursor.specs.Log.{Log, LogEvent, with_cursor}
+use Rattle.cursor.specs.Log.{Log, LogEvent, back_from, with_cursor}
 use Rattle.ring_steps.specs.declared.calls.PublisherCall.{PublisherCall}
 use Rattle.ring_steps.specs.declared.calls.PublisherCall.TheVariants.{Publish, Close}
 use Rattle.ring_steps.specs.declared.calls.SeatCall.{SeatCall}
@@ -162,18 +162,19 @@ unpin_tells s i x h at phase whole =
 
 pub seat_tells : (phase : SeatPhase) (call : SeatCall) (s : State) (i : ℕ) (x : Seat) (o : Outcome) → x.phase ≡ phase → SeatActs phase call s i x o
     → Invariant s → slice_get s.seats i ≡ Some x → SeatTells s i call o.answer o.state
-seat_tells seating.Out Attach s i x o phase acts h at =
-    let y : Seat = record (loaded s x) { phase = seating.Between; account = record { start = s.head.length; taken = 0; lost = 0 } } in
+seat_tells seating.Out (Attach n) s i x o phase acts h at =
+    let from : ℕ → ℕ = back_from s.keep n in
+    let y : Seat = record (loaded s x) { phase = seating.Between; account = record { start = from s.head.length; taken = 0; lost = 0 } } in
     let within : s.head.length ≤ length s.log = let size = h.slots.numbers.size in omega arith in
     let size = size_seen s.log s.head.length within in
-    let start : cursor y ≡ s.head.length = omega arith in
+    let start : cursor y ≡ from s.head.length = omega arith in
     rw acts (
       y,
       read_place s.seats i x y at,
       (
         at_cursor s.seats i x at ∙ rw phase refl,
-        sym size,
-        set_cursor (map packet_of (take s.head.length s.log)) s.head.closed s.seats i y (Some s.head.length) (ap (λ (n : ℕ). Some n) start),
+        ap from (sym size),
+        set_cursor (map packet_of (take s.head.length s.log)) s.head.closed s.seats i y (Some (from s.head.length)) (ap (λ (m : ℕ). Some m) start),
       ),
     )
 seat_tells seating.Between Detach s i x o phase acts h at =

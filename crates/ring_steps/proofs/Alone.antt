@@ -46,7 +46,7 @@ pin_alone s i x y n at =
     }
 
 seat_alone : (phase : SeatPhase) (call : SeatCall) (s : State) (i : ℕ) (x : Seat) (o : Outcome) → SeatActs phase call s i x o → slice_get s.seats i ≡ Some x → SeatAlone s i o.state
-seat_alone seating.Out Attach s i x o acts at = rw acts (view_alone s i _)
+seat_alone seating.Out (Attach n) s i x o acts at = rw acts (view_alone s i _)
 seat_alone seating.Between Detach s i x o acts at = rw acts (view_alone s i _)
 seat_alone seating.Between Take s i x o acts at =
     rw acts (by_test (s.head.length == cursor x) (λ e. rw e (view_alone s i _))

@@ -106,8 +106,8 @@ second_pays s i x ts on =
 
 pub seat_pays : (phase : SeatPhase) (call : SeatCall) (s : State) (i : ℕ) (x : views.Seat) (o : Outcome) (ts : List Turn) → x.phase ≡ phase → SeatActs phase call s i x o
     → SeatPays s i x o call ts
-seat_pays seating.Out Attach s i x o ts phase acts =
-    let none = ahead_out i x.phase (reply_to i (turn_by (Seat i) (seat_call i Attach) (attach s i x) ∷ ts)) phase in
+seat_pays seating.Out (Attach n) s i x o ts phase acts =
+    let none = ahead_out i x.phase (reply_to i (turn_by (Seat i) (seat_call i (Attach n)) (attach s i x n) ∷ ts)) phase in
     rw acts (record { view = _; seats = refl; pays = rw none refl })
 seat_pays seating.Between Detach s i x o ts phase acts =
     let none = ahead_between i x.phase (reply_to i (turn_by (Seat i) (seat_call i Detach) (detach s i x) ∷ ts)) phase in

@@ -64,8 +64,8 @@ taken : (own : List SeatCall) (n : ℕ) → slice_get own n ≡ Some Take → is
 taken own n at attached = attached_at own n Take at ∙ attached
 
 pub seat_frame : (phase : SeatPhase) (call : SeatCall) (s : State) (i : ℕ) (x : Seat) (o : Outcome) → x.phase ≡ phase → SeatActs phase call s i x o → SeatFrame call s i x o
-seat_frame seating.Out Attach s i x o phase acts =
-    rw acts (record { view = _; seats = refl; keep = refl; log = refl; publisher = refl; loads = omega arith; sees = inr (refl, refl); agrees = λ own n at ag. attached_at own n Attach at })
+seat_frame seating.Out (Attach back) s i x o phase acts =
+    rw acts (record { view = _; seats = refl; keep = refl; log = refl; publisher = refl; loads = omega arith; sees = inr (refl, refl); agrees = λ own n at ag. attached_at own n (Attach back) at })
 seat_frame seating.Between Detach s i x o phase acts =
     rw acts (record { view = _; seats = refl; keep = refl; log = refl; publisher = refl; loads = omega arith; sees = inr (refl, refl); agrees = λ own n at ag. attached_at own n Detach at })
 seat_frame seating.Between Take s i x o phase acts =

@@ -44,7 +44,7 @@ publisher_acts publishing.Filling Close s may = absurd may
 publisher_acts publishing.Finished Close s may = absurd may
 
 seat_acts : (phase : SeatPhase) (call : SeatCall) (s : State) (i : ℕ) (x : views.Seat) → MayCall phase call → (o : Outcome) × SeatActs phase call s i x o
-seat_acts seating.Out Attach s i x may = (attach s i x, refl)
+seat_acts seating.Out (Attach n) s i x may = (attach s i x n, refl)
 seat_acts seating.Between Detach s i x may = (detach s i x, refl)
 seat_acts seating.Between Take s i x may = (first_load s i x, refl)
 seat_acts seating.Found Take s i x may = (pin s i x, refl)
@@ -76,8 +76,8 @@ can_step P calls so sound good has =
     }
 can_step (Seat i) calls so sound good has =
     let at = so.at in
-    let call = get_or has.own has.count Attach in
-    let next : slice_get has.own has.count ≡ Some call = slice_get-get_or has.own has.count Attach has.left in
+    let call = get_or has.own has.count (Attach 0) in
+    let next : slice_get has.own has.count ≡ Some call = slice_get-get_or has.own has.count (Attach 0) has.left in
     let ready = seat_ready calls at i has.own has.count call sound.agrees good has.script_has has.counted next in
     let x = seat_at at.ring i in
     let acts = seat_acts x.phase call at.ring i x ready.may in

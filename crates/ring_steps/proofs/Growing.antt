@@ -31,7 +31,7 @@ pins_grow s j n i y = record {
 }
 
 pub seat_acts_grow : (phase : SeatPhase) (call : SeatCall) (s : State) (i : ℕ) (x : Seat) (o : Outcome) → SeatActs phase call s i x o → Grows s o.state
-seat_acts_grow seating.Out Attach s i x o acts = rw acts (view_grows s i _)
+seat_acts_grow seating.Out (Attach n) s i x o acts = rw acts (view_grows s i _)
 seat_acts_grow seating.Between Detach s i x o acts = rw acts (view_grows s i _)
 seat_acts_grow seating.Between Take s i x o acts =
     rw acts (by_test (s.head.length == cursor x) (λ e. rw e (view_grows s i _))

@@ -13,7 +13,7 @@ use Rattle.cursor.specs.declared.calls.Call.{Call}
 use Rattle.cursor.specs.declared.calls.Call.TheVariants as calls
 use Rattle.cursor.proofs.Counting.{read_place}
 use Rattle.cursor.specs.Account.{cursor_of}
-use Rattle.cursor.specs.Log.{Event, LegalHistory, Log, Run, attached_at, detached_with, empty_log}
+use Rattle.cursor.specs.Log.{Event, LegalHistory, Log, Run, attached_at, back_from, detached_with, empty_log}
 use Rattle.cursor.specs.Plain.{HasAccount, IsFree, Plain, PlainEvent, PlainRun, empty_plain, log_of, plain_of}
 use Rattle.cursor.proofs.Accounts.{PlainRun-split, left_of_attachment}
 use Rattle.cursor.specs.Player.{PlayersReceive}
@@ -151,16 +151,18 @@ end_event : (p : Plain) (i : ℕ) (a : Account) (b : Bool) → HasAccount p i a 
 end_event p i a true has at closed = take_event p i a Ended has (at, closed)
 end_event p i a false has at closed = take_event p i a Empty has (at, closed)
 
-attach_advances : (s : State) (i : ℕ) (x : views.Seat) (ts : List Turn) → Invariant s → slice_get s.seats i ≡ Some x → x.phase ≡ seating.Out
-    → (let t = turn_by (Seat i) (seat_call i Attach) (attach s i x) in Advances (acting t ts) (plain_at s (t ∷ ts)) (seat_call i Attach) (plain_at (attach s i x).state ts))
-attach_advances s i x ts h at phase =
-    let o = attach s i x in
-    let t = turn_by (Seat i) (seat_call i Attach) o in
+attach_advances : (s : State) (i : ℕ) (x : views.Seat) (back : ℕ) (ts : List Turn) → Invariant s → slice_get s.seats i ≡ Some x → x.phase ≡ seating.Out
+    → (let t = turn_by (Seat i) (seat_call i (Attach back)) (attach s i x back) in
+    Advances (acting t ts) (plain_at s (t ∷ ts)) (seat_call i (Attach back)) (plain_at (attach s i x back).state ts))
+attach_advances s i x back ts h at phase =
+    let o = attach s i x back in
+    let t = turn_by (Seat i) (seat_call i (Attach back)) o in
     let p = plain_at s (t ∷ ts) in
-    let y : views.Seat = record (loaded s x) { phase = seating.Between; account = record { start = s.head.length; taken = 0; lost = 0 } } in
+    let from : ℕ → ℕ = back_from s.keep back in
+    let y : views.Seat = record (loaded s x) { phase = seating.Between; account = record { start = from s.head.length; taken = 0; lost = 0 } } in
     let free : IsFree p i = seat_was s i x (t ∷ ts) at ∙ rw phase refl in
-    let event = subst (λ (n : ℕ). PlainEvent p (calls.Attach i) (Attached n) (with_place p i (Some (record { start = n; taken = 0; lost = 0 })))) (size_of s h) (attach_event p i free) in
-    by_event (acting t ts) (Attached s.head.length) p (seat_call i Attach) (plain_at o.state ts) _ refl (seat_plain s o.state i y t ts refl refl refl refl refl) event
+    let event = subst (λ (n : ℕ). PlainEvent p (calls.Attach i back) (Attached (from n)) (with_place p i (Some (record { start = from n; taken = 0; lost = 0 })))) (size_of s h) (attach_event p i back free) in
+    by_event (acting t ts) (Attached (from s.head.length)) p (seat_call i (Attach back)) (plain_at o.state ts) _ refl (seat_plain s o.state i y t ts refl refl refl refl refl) event
 
 detach_advances : (s : State) (i : ℕ) (x : views.Seat) (ts : List Turn) → Invariant s → slice_get s.seats i ≡ Some x → x.phase ≡ seating.Between
     → (let t = turn_by (Seat i) (seat_call i Detach) (detach s i x) in Advances (acting t ts) (plain_at s (t ∷ ts)) (seat_call i Detach) (plain_at (detach s i x).state ts))
@@ -292,7 +294,7 @@ second_advances s i x ts h at phase =
 pub seat_advances : (phase : SeatPhase) (call : SeatCall) (s : State) (i : ℕ) (x : views.Seat) (o : Outcome) (ts : List Turn) → x.phase ≡ phase → SeatActs phase call s i x o
     → Invariant s → slice_get s.seats i ≡ Some x → Pends o.state ts
     → (let t = turn_by (Seat i) (seat_call i call) o in Advances (acting t ts) (plain_at s (t ∷ ts)) (seat_call i call) (plain_at o.state ts))
-seat_advances seating.Out Attach s i x o ts phase acts h at = rw acts (λ pends. attach_advances s i x ts h at phase)
+seat_advances seating.Out (Attach n) s i x o ts phase acts h at = rw acts (λ pends. attach_advances s i x n ts h at phase)
 seat_advances seating.Between Detach s i x o ts phase acts h at = rw acts (λ pends. detach_advances s i x ts h at phase)
 seat_advances seating.Between Take s i x o ts phase acts h at = rw acts (first_advances s i x ts h at phase)
 seat_advances seating.Found Take s i x o ts phase acts h at = rw acts (λ pends. goes_on_advances s i x (pin s i x) ts at (rw phase tt) (pin_goes s i x))
@@ -392,16 +394,16 @@ history_legal calls keep seats turns end low ran =
 
 -- in which each player receives the log
 pub history_players : (calls : Calls) (keep seats : ℕ) (turns : List Turn) (end : At) → 1 ≤ keep → Ran calls (start keep seats) turns end
-    → PlayersReceive (history_of turns) (map packet_of end.ring.log)
+    → PlayersReceive keep (history_of turns) (map packet_of end.ring.log)
 history_players calls keep seats turns end low ran =
     players_receive keep seats (history_of turns) (log_of (plain_at end.ring [])) (history_legal calls keep seats turns end low ran)
 
 -- in which each detachment tells its account
 pub history_accounts : (calls : Calls) (keep seats : ℕ) (turns : List Turn) (end : At) → 1 ≤ keep → Ran calls (start keep seats) turns end → TellsAccounts (history_of turns)
-history_accounts calls keep seats turns end low ran seat from left before during after is stays =
+history_accounts calls keep seats turns end low ran seat back from left before during after is stays =
     let now = plain_at end.ring [] in
-    let middle : List Event = attached_at seat from ∷ during ++ detached_with seat left ∷ [] in
+    let middle : List Event = attached_at seat back from ∷ during ++ detached_with seat left ∷ [] in
     let run = subst (λ (es : List Event). PlainRun (empty_plain keep seats 0) es now) is (history_plain calls keep seats turns end low ran) in
     let first = PlainRun-split (empty_plain keep seats 0) (before ++ middle) after now run in
     let second = PlainRun-split (empty_plain keep seats 0) before middle first.0 first.1 in
-    left_of_attachment seat from during left second.0 first.0 second.2 stays
+    left_of_attachment seat back from during left second.0 first.0 second.2 stays

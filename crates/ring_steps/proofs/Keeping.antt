@@ -23,7 +23,7 @@ use Rattle.ring_steps.proofs.Writing.{write_length_keeps, write_on_keeps, append
 -- each step of a seat keeps the invariant
 pub seat_acts_keep : (phase : SeatPhase) (call : SeatCall) (s : State) (i : ℕ) (x : Seat) (o : Outcome) → x.phase ≡ phase → SeatActs phase call s i x o
     → Invariant s → slice_get s.seats i ≡ Some x → Invariant o.state
-seat_acts_keep seating.Out Attach s i x o phase acts h at = rw acts (attach_keeps s i x h at phase)
+seat_acts_keep seating.Out (Attach n) s i x o phase acts h at = rw acts (attach_keeps s i x n h at phase)
 seat_acts_keep seating.Between Detach s i x o phase acts h at = rw acts (detach_keeps s i x h at phase)
 seat_acts_keep seating.Between Take s i x o phase acts h at = rw acts (first_load_keeps s i x h at phase)
 seat_acts_keep seating.Found Take s i x o phase acts h at = rw acts (pin_keeps s i x h at phase)

@@ -50,8 +50,8 @@ pub sees_now : (s : State) → Invariant s
     → (s.head.length ≤ length s.log) × (s.head.closed ≡ true → (s.head.length ≡ length s.log) × (s.publisher.closed ≡ true))
 sees_now s h = let size = h.slots.numbers.size in (omega arith, λ closed. (size, sym h.slots.numbers.closed ∙ closed))
 
-pub attach_keeps : (s : State) (i : ℕ) (x : Seat) → Invariant s → slice_get s.seats i ≡ Some x → x.phase ≡ seating.Out → Invariant (attach s i x).state
-attach_keeps s i x h at phase =
+pub attach_keeps : (s : State) (i : ℕ) (x : Seat) (back : ℕ) → Invariant s → slice_get s.seats i ≡ Some x → x.phase ≡ seating.Out → Invariant (attach s i x back).state
+attach_keeps s i x back h at phase =
     view_keeps s i x _ h at (λ j. rw phase refl) (record { held = λ e. absurd e; seen = sees_now s h; cursors = omega arith; knows = tt })
 
 pub detach_keeps : (s : State) (i : ℕ) (x : Seat) → Invariant s → slice_get s.seats i ≡ Some x → x.phase ≡ seating.Between → Invariant (detach s i x).state

@@ -71,7 +71,7 @@ pub record Nears (s : State) (i : ℕ) (x : views.Seat) (o : Outcome) : Type 0 w
   pub nearer : phase_left view.phase (slot s (place s (cursor x))).len view.length (length view.read) + 1 ≤ seat_left s x
 
 seat_nearer : (phase : SeatPhase) (call : SeatCall) (s : State) (i : ℕ) (x : views.Seat) (o : Outcome) → x.phase ≡ phase → SeatActs phase call s i x o → is_some o.answer ≡ false → Nears s i x o
-seat_nearer seating.Out Attach s i x o phase acts = rw acts (λ none. absurd (cc))
+seat_nearer seating.Out (Attach n) s i x o phase acts = rw acts (λ none. absurd (cc))
 seat_nearer seating.Between Detach s i x o phase acts = rw acts (λ none. absurd (cc))
 seat_nearer seating.Between Take s i x o phase acts =
     rw acts (by_test (s.head.length == cursor x) (λ e. rw e (λ none. absurd (cc)))

@@ -14,7 +14,7 @@ use Rattle.ring_steps.specs.Ring.{State}
 use Rattle.ring_steps.specs.Step.{Outcome, PublisherActs, PublisherStep, SeatActs, SeatStep}
 
 seat_acts_one : (phase : SeatPhase) (call : SeatCall) (s : State) (i : ℕ) (x : Seat) (o p : Outcome) → SeatActs phase call s i x o → SeatActs phase call s i x p → o ≡ p
-seat_acts_one seating.Out Attach s i x o p a b = a ∙ sym b
+seat_acts_one seating.Out (Attach n) s i x o p a b = a ∙ sym b
 seat_acts_one seating.Between Detach s i x o p a b = a ∙ sym b
 seat_acts_one seating.Between Take s i x o p a b = a ∙ sym b
 seat_acts_one seating.Found Take s i x o p a b = a ∙ sym b

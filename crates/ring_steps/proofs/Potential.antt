@@ -71,7 +71,7 @@ publisher_on phase call s o eq acts = absurd acts
 
 -- a step of a seat within its call, and one that doesn't end it
 seat_most : (phase : SeatPhase) (call : SeatCall) (s : State) (i : ℕ) (x : views.Seat) (o : Outcome) → SeatActs phase call s i x o → made_by_seat phase + one_if (is_atomic o.saw) ≤ most_atomic (seat_call i call)
-seat_most seating.Out Attach s i x o acts = rw acts (omega arith)
+seat_most seating.Out (Attach n) s i x o acts = rw acts (omega arith)
 seat_most seating.Between Detach s i x o acts = rw acts (omega arith)
 seat_most seating.Between Take s i x o acts =
     rw acts (by_test (s.head.length == cursor x) (λ e. rw e (omega arith)) (λ e. rw e (by_test (nat_lt (cursor x) (floor s s.head.length)) (λ l. rw l (omega arith)) (λ l. rw l (omega arith)))))
@@ -88,7 +88,7 @@ pub record SeatWent (s : State) (i : ℕ) (phase : SeatPhase) (o : Outcome) : Ty
   pub made : made_by_seat view.phase ≡ made_by_seat phase + one_if (is_atomic o.saw)
 
 seat_on : (phase : SeatPhase) (call : SeatCall) (s : State) (i : ℕ) (x : views.Seat) (o : Outcome) → x.phase ≡ phase → SeatActs phase call s i x o → o.answer ≡ None → SeatWent s i phase o
-seat_on seating.Out Attach s i x o phase acts = rw acts (λ none. absurd (cc))
+seat_on seating.Out (Attach n) s i x o phase acts = rw acts (λ none. absurd (cc))
 seat_on seating.Between Detach s i x o phase acts = rw acts (λ none. absurd (cc))
 seat_on seating.Between Take s i x o phase acts =
     rw acts (by_test (s.head.length == cursor x) (λ e. rw e (λ none. absurd (cc)))

@@ -45,13 +45,13 @@ publisher_ready calls at call agrees good next =
 
 may_call : (phase : SeatPhase) (call : SeatCall) (own : List SeatCall) (n : ℕ) → slice_get own n ≡ Some call → SeatAgrees phase own n
     → ¬ IsMisplaced (is_attached_after (take n own)) call → MayCall phase call
-may_call seating.Out Attach own n at agrees placed = tt
+may_call seating.Out (Attach m) own n at agrees placed = tt
 may_call seating.Out Take own n at agrees placed = placed (rw agrees tt)
 may_call seating.Out Detach own n at agrees placed = placed (rw agrees tt)
-may_call seating.Between Attach own n at agrees placed = placed (rw agrees tt)
+may_call seating.Between (Attach m) own n at agrees placed = placed (rw agrees tt)
 may_call seating.Between Take own n at agrees placed = tt
 may_call seating.Between Detach own n at agrees placed = tt
-may_call phase Attach own n at agrees placed = let next = agrees.next in absurd (cc)
+may_call phase (Attach m) own n at agrees placed = let next = agrees.next in absurd (cc)
 may_call phase Take own n at agrees placed = tt
 may_call phase Detach own n at agrees placed = let next = agrees.next in absurd (cc)
 
@@ -112,12 +112,12 @@ seat_goes calls old i own n call s stepped m has counted next step count = recor
 -- what a look at a seat's calls, at how many of them are answered and at the next one tells
 pub seat_next : (calls : Calls) (at : At) (seats : List (List SeatCall)) (place i : ℕ) (own now : List SeatCall) (n : ℕ) → Agrees calls at
     → seats ≡ calls.seats → place ≡ i → place < length seats → own ≡ get_or seats place own → now ≡ own → n ≡ get_or at.seats place n → n < length now
-    → (slice_get calls.seats i ≡ Some own) × (slice_get at.seats i ≡ Some n) × (slice_get own n ≡ Some (get_or now n Attach))
+    → (slice_get calls.seats i ≡ Some own) × (slice_get at.seats i ≡ Some n) × (slice_get own n ≡ Some (get_or now n (Attach 0)))
 seat_next calls at seats place i own now n agrees list same below read named count more =
     let counts = agrees.counts in
     let width = ap (λ (xs : List (List SeatCall)). length xs) list in
     let within : place < length at.seats = omega arith in (
       sym (ap (λ (xs : List (List SeatCall)). slice_get xs i) list) ∙ sym (ap (slice_get seats) same) ∙ slice_get_read seats (length seats) place own refl below read,
       sym (ap (slice_get at.seats) same) ∙ slice_get_read at.seats (length at.seats) place n refl within count,
-      sym (ap (λ (xs : List SeatCall). slice_get xs n) named) ∙ slice_get-get_or now n Attach more,
+      sym (ap (λ (xs : List SeatCall). slice_get xs n) named) ∙ slice_get-get_or now n (Attach 0) more,
     )

@@ -23,7 +23,7 @@ use Rattle.ring_steps.proofs.Running.{ran_keeps}
 
 -- no step of a seat refuses
 seat_never : (phase : SeatPhase) (call : SeatCall) (s : State) (i : ℕ) (x : views.Seat) (o : Outcome) → SeatActs phase call s i x o → o.answer ≡ Some Refused → ⊥
-seat_never seating.Out Attach s i x o acts is = let e = ap (λ (q : Outcome). q.answer) acts in cc
+seat_never seating.Out (Attach n) s i x o acts is = let e = ap (λ (q : Outcome). q.answer) acts in cc
 seat_never seating.Between Detach s i x o acts is = let e = ap (λ (q : Outcome). q.answer) acts in cc
 seat_never seating.Between Take s i x o acts is =
     let e = ap (λ (q : Outcome). q.answer) acts in

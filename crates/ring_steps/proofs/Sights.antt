@@ -14,6 +14,7 @@ use Rattle.ring_steps.specs.declared.calls.Observed.TheVariants as saw
 use Rattle.ring_steps.specs.declared.calls.PublisherCall.{PublisherCall}
 use Rattle.ring_steps.specs.declared.calls.PublisherCall.TheVariants.{Publish, Close}
 use Rattle.ring_steps.specs.declared.calls.SeatCall.{SeatCall}
+use Rattle.cursor.specs.Log.{back_from}
 use Rattle.ring_steps.specs.declared.calls.SeatCall.TheVariants.{Attach, Take, Detach}
 use Rattle.ring_steps.specs.declared.views.Publisher.{Publisher}
 use Rattle.ring_steps.specs.declared.views.PublisherPhase.{PublisherPhase}
@@ -75,7 +76,7 @@ pub record SeatWent (s : State) (i : ℕ) (o : Outcome) (seen : List Observed) :
 
 seat_saw : (phase : SeatPhase) (call : SeatCall) (s : State) (i : ℕ) (x : views.Seat) (o : Outcome) (seen : List Observed) → x.phase ≡ phase → SeatActs phase call s i x o → SeatSaw phase seen
     → SeatWent s i o seen
-seat_saw seating.Out Attach s i x o seen phase acts was = rw acts (record { view = _; seats = refl; so_far = refl })
+seat_saw seating.Out (Attach n) s i x o seen phase acts was = rw acts (record { view = _; seats = refl; so_far = refl })
 seat_saw seating.Between Detach s i x o seen phase acts was = rw acts (record { view = _; seats = refl; so_far = refl })
 seat_saw seating.Between Take s i x o seen phase acts was =
     rw acts (by_test (s.head.length == cursor x) (λ e. rw e (record { view = _; seats = refl; so_far = rw phase refl }))
@@ -200,8 +201,8 @@ publisher_at phase call s o later seen a is acts was = absurd acts
 -- what acts at a step of a seat
 seat_at_step : (phase : SeatPhase) (call : SeatCall) (s : State) (i : ℕ) (x : views.Seat) (o : Outcome) (later : List Turn) (seen : List Observed) (a : Answer) → SeatActs phase call s i x o → SeatSaw phase seen
     → acting_answer o.answer (Seat i) o.saw later ≡ Some a → ActsAt a seen o.saw
-seat_at_step seating.Out Attach s i x o later seen a acts was =
-    rw acts (λ e. let same : Attached s.head.length ≡ a = cc in subst (λ (c : Answer). ActsAt c seen (saw.Load s.head)) same (was, refl))
+seat_at_step seating.Out (Attach n) s i x o later seen a acts was =
+    rw acts (λ e. let same : Attached (back_from s.keep n s.head.length) ≡ a = cc in subst (λ (c : Answer). ActsAt c seen (saw.Load s.head)) same (was, refl))
 seat_at_step seating.Between Detach s i x o later seen a acts was =
     rw acts (λ e. let same : Detached (record { taken = x.account.taken; lost = x.account.lost; left = s.head.length - cursor x }) ≡ a = cc in subst (λ (c : Answer). ActsAt c seen (saw.Load s.head)) same (was, refl))
 seat_at_step seating.Between Take s i x o later seen a acts was =

@@ -20,7 +20,7 @@ publisher_call (Publish p) = calls.Publish (record { tag = 0; bytes = p })
 publisher_call Close = calls.Close
 
 abbrev pub seat_call : (seat : ℕ) → SeatCall → Call
-seat_call i Attach = calls.Attach i
+seat_call i (Attach n) = calls.Attach i n
 seat_call i Take = calls.Take i
 seat_call i Detach = calls.Detach i
 

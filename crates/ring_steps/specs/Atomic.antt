@@ -18,7 +18,7 @@ is_atomic other = true
 abbrev pub most_atomic : Call → ℕ
 most_atomic (Publish p) = 3
 most_atomic Close = 1
-most_atomic (Attach s) = 1
+most_atomic (Attach s n) = 1
 most_atomic (Take s) = 4
 most_atomic (Detach s) = 1
 

@@ -47,13 +47,13 @@ pub record HasRoom (s : State) : Type 0 where
 -- a seat in this phase may go on by this call: each seat attaches and detaches in turn, and a take that
 -- began goes on
 abbrev pub MayCall : SeatPhase → SeatCall → Type 0
-MayCall seating.Out Attach = Unit {0}
+MayCall seating.Out (Attach n) = Unit {0}
 MayCall seating.Out Take = ⊥
 MayCall seating.Out Detach = ⊥
-MayCall seating.Between Attach = ⊥
+MayCall seating.Between (Attach n) = ⊥
 MayCall seating.Between Take = Unit {0}
 MayCall seating.Between Detach = Unit {0}
-MayCall phase Attach = ⊥
+MayCall phase (Attach n) = ⊥
 MayCall phase Take = Unit {0}
 MayCall phase Detach = ⊥
 

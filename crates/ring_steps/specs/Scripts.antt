@@ -32,7 +32,7 @@ is_closed_after calls = list_any is_close calls
 
 -- whether a seat is attached after this call, where it was attached before it or wasn't
 abbrev pub attached_by : (attached : Bool) → SeatCall → Bool
-attached_by attached Attach = true
+attached_by attached (Attach n) = true
 attached_by attached Take = attached
 attached_by attached Detach = false
 
@@ -42,10 +42,10 @@ is_attached_after calls = fold attached_by false calls
 
 -- a seat that is attached, or isn't, can't make this call
 abbrev pub IsMisplaced : (attached : Bool) → SeatCall → Type 0
-IsMisplaced true Attach = Unit {0}
+IsMisplaced true (Attach n) = Unit {0}
 IsMisplaced true Take = ⊥
 IsMisplaced true Detach = ⊥
-IsMisplaced false Attach = ⊥
+IsMisplaced false (Attach n) = ⊥
 IsMisplaced false Take = Unit {0}
 IsMisplaced false Detach = Unit {0}
 

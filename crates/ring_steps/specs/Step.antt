@@ -3,6 +3,7 @@ use Rattle.std.specs.Prelude.{◌≡◌, ℕ, ◌+◌, ◌-◌, ◌==◌, ◌&&�
 use Rattle.cursor.specs.declared.takes.Delivery.TheVariants.{Got, Lost, Empty, Ended}
 use Rattle.cursor.specs.declared.calls.Answer.{Answer}
 use Rattle.cursor.specs.declared.calls.Answer.TheVariants.{Appended, Refused, Closed, Attached, Taken, Detached}
+use Rattle.cursor.specs.Log.{back_from}
 use Rattle.ring_steps.specs.declared.words.Word.{Word}
 use Rattle.ring_steps.specs.declared.words.Slot.{Slot}
 use Rattle.ring_steps.specs.declared.calls.PublisherCall.{PublisherCall}
@@ -33,12 +34,12 @@ outcome s t = record { state = s; saw = t.saw; answer = t.answer }
 abbrev pub loaded : State → Seat → Seat
 loaded s x = record x { seen = s.head.length; saw_closed = s.head.closed; loads = x.loads + 1 }
 
--- an attachment begins at the head's length
-abbrev pub attach : State → (seat : ℕ) → Seat → Outcome
-attach s i x = record {
-  state = with_seat s i (record (loaded s x) { phase = seating.Between; account = record { start = s.head.length; taken = 0; lost = 0 } });
+-- an attachment begins so many packets back from the head's length
+abbrev pub attach : State → (seat : ℕ) → Seat → (back : ℕ) → Outcome
+attach s i x n = record {
+  state = with_seat s i (record (loaded s x) { phase = seating.Between; account = record { start = back_from s.keep n s.head.length; taken = 0; lost = 0 } });
   saw = saw.Load s.head;
-  answer = Some (Attached s.head.length);
+  answer = Some (Attached (back_from s.keep n s.head.length));
 }
 
 -- a detachment tells the account, and how many packets were left
@@ -139,7 +140,7 @@ read_on s i x = if nat_lt (length x.read) x.length then read_byte s i x else unp
 
 -- a seat's step, by its phase and its call
 abbrev pub SeatActs : SeatPhase → SeatCall → State → (seat : ℕ) → Seat → Outcome → Type 0
-SeatActs seating.Out Attach s i x o = o ≡ attach s i x
+SeatActs seating.Out (Attach n) s i x o = o ≡ attach s i x n
 SeatActs seating.Between Detach s i x o = o ≡ detach s i x
 SeatActs seating.Between Take s i x o = o ≡ first_load s i x
 SeatActs seating.Found Take s i x o = o ≡ pin s i x

@@ -67,8 +67,8 @@ IsLegal keep seats events = (log : Log) × LegalHistory keep seats events log
 
 -- each detachment tells what its seat took and lost since it was attached
 abbrev pub TellsAccounts : List Event → Type 0
-TellsAccounts events = (seat from : ℕ) (left : Left) (before during after : List Event)
-    → events ≡ before ++ (attached_at seat from ∷ during ++ detached_with seat left ∷ []) ++ after
+TellsAccounts events = (seat back from : ℕ) (left : Left) (before during after : List Event)
+    → events ≡ before ++ (attached_at seat back from ∷ during ++ detached_with seat left ∷ []) ++ after
     → StaysAttached seat during
     → (left.taken ≡ length (received (takes_of seat during))) × (left.lost ≡ lost (takes_of seat during))
 

@@ -35,7 +35,8 @@ pub enum PublisherCall {
 /// A call of a seat.
 #[derive(Clone, Copy, Debug, PartialEq, Eq)]
 pub enum SeatCall {
-    Attach,
+    /// The seat begins to read, up to so many packets back from the log's end.
+    Attach { back: u64 },
     Take,
     Detach,
 }

@@ -110,7 +110,7 @@ fn is_misplaced(attached: bool, call: SeatCall) -> bool
     ensures { IsTrue result ↔ IsMisplaced attached call }
 {
     match call {
-        SeatCall::Attach => attached,
+        SeatCall::Attach { .. } => attached,
         SeatCall::Take | SeatCall::Detach => !attached,
     }
 }
@@ -120,7 +120,7 @@ fn attaches(attached: bool, call: SeatCall) -> bool
     ensures { result ≡ attached_by attached call }
 {
     match call {
-        SeatCall::Attach => true,
+        SeatCall::Attach { .. } => true,
         SeatCall::Take => attached,
         SeatCall::Detach => false,
     }

@@ -32,7 +32,7 @@ pub fn one_seat_more_is_sound()
 
 /// Each kind of load keeps the invariant: of an attachment, a detachment, and a take's two.
 pub fn loads_keep_the_invariant()
-    ensures attach { (s : State) (i : ℕ) (x : Seat) → SeatIs seating.Out s i x → Invariant (attach s i x).state }
+    ensures attach { (s : State) (i : ℕ) (x : Seat) (back : ℕ) → SeatIs seating.Out s i x → Invariant (attach s i x back).state }
     ensures detach { (s : State) (i : ℕ) (x : Seat) → SeatIs seating.Between s i x → Invariant (detach s i x).state }
     ensures first { (s : State) (i : ℕ) (x : Seat) → SeatIs seating.Between s i x → Invariant (first_load s i x).state }
     ensures second { (s : State) (i : ℕ) (x : Seat) → SeatIs seating.Missed s i x → Invariant (second_load s i x).state }

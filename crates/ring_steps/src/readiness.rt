@@ -11,7 +11,7 @@ fn may_call(phase: SeatPhase, call: SeatCall) -> bool
     ensures { IsTrue result ↔ MayCall phase call }
 {
     match (phase, call) {
-        (SeatPhase::Out, SeatCall::Attach) => true,
+        (SeatPhase::Out, SeatCall::Attach { .. }) => true,
         (SeatPhase::Between, SeatCall::Detach) => true,
         (SeatPhase::Out, _) => false,
         (_, SeatCall::Take) => true,

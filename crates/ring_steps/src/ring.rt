@@ -32,23 +32,20 @@ impl Model for Ring {
 }
 
 impl Ring {
-    /// An attachment's load.
-    pub(crate) fn attach(&mut self, seat: usize) -> Stepped
+    /// An attachment's load. The seat begins up to `back` packets back from the end.
+    pub(crate) fn attach(&mut self, seat: usize, back: u64) -> Stepped
         requires bounds { SeatBounds self.old seat }
-        ensures { outcome self.new result ≡ attach self.old seat (seat_at self.old seat) }
+        ensures { outcome self.new result ≡ attach self.old seat (seat_at self.old seat) back }
     {
         let head = self.head;
+        let account = Account::begun(self.keep, back, head.length);
         let view = &mut self.seats[seat];
         view.load(head);
         view.phase = SeatPhase::Between;
-        view.account = Account {
-            start: head.length,
-            taken: 0,
-            lost: 0,
-        };
+        view.account = account;
         Stepped {
             saw: Observed::Load(head),
-            answer: Some(Answer::Attached(head.length)),
+            answer: Some(Answer::Attached(account.start)),
         }
     }
 

@@ -32,7 +32,7 @@ pub fn acting_order_is_plain()
 /// while it is detached.
 pub fn players_receive_the_log()
     ensures { (script : Calls) (keep seats : ℕ) (turns : List Turn) (end : At) → 1 ≤ keep → Ran script (start keep seats) turns end
-        → PlayersReceive (history_of turns) (map packet_of end.ring.log) }
+        → PlayersReceive keep (history_of turns) (map packet_of end.ring.log) }
 {}
 
 /// Once the script and the actors are given, a run has no choice.

@@ -52,7 +52,7 @@ pub fn run(
         → TellsAccounts (history_of told.turns)) }
     ensures players { IfOk result (λ trace.
         (told : IsTrace config.now (calls_of script.now) schedule.now trace)
-        → PlayersReceive (history_of told.turns) (map packet_of told.end.ring.log)) }
+        → PlayersReceive config.now.keep (history_of told.turns) (map packet_of told.end.ring.log)) }
     ensures events_once { IfOk result (λ trace.
         (told : IsTrace config.now (calls_of script.now) schedule.now trace)
         → ActsOnce (calls_of script.now) told.turns told.end) }

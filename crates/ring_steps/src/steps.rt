@@ -33,7 +33,7 @@ impl Ring {
     {
         let phase = self.seats[seat].phase;
         match (phase, call) {
-            (SeatPhase::Out, SeatCall::Attach) => Ok(self.attach(seat)),
+            (SeatPhase::Out, SeatCall::Attach { back }) => Ok(self.attach(seat, back)),
             (SeatPhase::Between, SeatCall::Detach) => Ok(self.detach(seat)),
             (SeatPhase::Between, SeatCall::Take) => Ok(self.first_load(seat)),
             (SeatPhase::Found, SeatCall::Take) => Ok(self.pin(seat)),

@@ -3,9 +3,13 @@
 #![tactic(auto)]
 
 #[cfg(test)]
+mod back_tests;
+#[cfg(test)]
 mod closing_tests;
 #[cfg(test)]
 mod log_tests;
+#[cfg(test)]
+mod memory_tests;
 #[cfg(test)]
 mod player_tests;
 #[cfg(test)]

@@ -17,7 +17,7 @@ fn packet(alloc: Global, bytes: &[u8]) -> Result<Packet, AllocError>
 }
 
 /// A tap of the one seat of a log, attached before each of these bytes was published as a packet, so many times.
-fn tap_behind(
+pub(crate) fn tap_behind(
     rt: &impl Abort,
     alloc: Global,
     keep: u64,
@@ -42,7 +42,7 @@ fn publish(rt: &impl Abort, log: &mut PlainLog, bytes: &[u8]) {
 }
 
 /// Pumps at most so many packets.
-fn pumped<T: Tap>(
+pub(crate) fn pumped<T: Tap>(
     rt: &impl Abort,
     alloc: Global,
     tap: &mut T,

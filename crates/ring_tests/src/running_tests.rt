@@ -222,7 +222,7 @@ fn subscriber_dropped_early(rt: HostRuntime) {
 }
 
 /// A ring that keeps four packets, with two passes.
-fn ring_of_two(alloc: Global) -> Option<(Publisher, Pass, Pass)>
+pub(crate) fn ring_of_two(alloc: Global) -> Option<(Publisher, Pass, Pass)>
     ensures { IfSome result (λ r. (r.1.ring ≡ r.0.ring) × (r.2.ring ≡ r.0.ring)) }
 {
     let (publisher, mut passes) = new(alloc, 4, 2, ROOM).ok()?;

@@ -98,7 +98,7 @@ fn stalled_line<R: Wait + Clock + Abort + Drop>(
         let_on,
         writes,
     };
-    Line::new(alloc, Writing::new(sink))
+    Line::new(alloc, Writing::new(sink), 16)
 }
 
 /// Connection 1, which records. Once it is let on it sends its packets, and then closes; where `stay` is given, once that is

@@ -2,10 +2,10 @@
 use crate::connection_tests::{
     ANNOUNCE, ANNOUNCED, IN_SESSION, NO_RING, OTHER, PAUSE, RECORD, SET_UP, SETUP,
 };
-use crate::devices::{Open, has_come, joined};
+use crate::devices::{has_come, joined};
 use crate::packets::FRAME;
 use crate::rings::Rings;
-use crate::serving::{Serving, SharedRings, book_of, line_to, serve_camera, shared_over};
+use crate::serving::{Serving, SharedRings, book_of, line_to, sent_on, serve_camera, shared_over};
 use crate::words::OneWord;
 use interleaved::ListSource;
 use relay_server::{ConnectionEnd, Events, run_connection};
@@ -38,7 +38,7 @@ where
     let told = Arc::new(alloc, Mutex::new(Vec::new(alloc))).expect(&rt, "memory");
     let line = line_to(rt, alloc, &told, 1000);
     let other = ListSource::new(said, 7, None);
-    let outcome = run_connection(rt, alloc, shared, 2, other, line, Open, Events::none());
+    let outcome = run_connection(rt, alloc, shared, 2, other, sent_on(line), Events::none());
     assert!(rt; outcome.end == ConnectionEnd::Done);
     assert!(rt; told.lock(&rt).as_slice() == text);
 }

@@ -1,7 +1,7 @@
 //! A connection over devices in memory.
-use crate::devices::{Open, joined};
+use crate::devices::joined;
 use crate::rings::Rings;
-use crate::serving::{book_of, line_to, shared_over};
+use crate::serving::{book_of, line_to, sent_on, shared_over};
 use crate::words::OneWord;
 use interleaved::ListSource;
 use relay_server::{ConnectionEnd, Counts, Events, run_connection};
@@ -53,7 +53,7 @@ where
         None
     };
     let source = ListSource::new(peer.said, 7, fail_at);
-    let outcome = run_connection(rt, alloc, shared, 1, source, line, Open, Events::none());
+    let outcome = run_connection(rt, alloc, shared, 1, source, sent_on(line), Events::none());
     let written = Vec::from_slice(alloc, bytes.lock(&rt).as_slice()).expect(&rt, "memory");
     let book = book.lock(&rt);
     Served {

@@ -1,4 +1,5 @@
 //! Devices in memory, for tests.
+use interleaved::TryWrite;
 use relay_server::HangUp;
 use std::alloc::Global;
 use std::io::{Read, Write};
@@ -60,6 +61,8 @@ impl<R: Wait> Write for Written<R> {
     }
 }
 
+impl<R: Wait> TryWrite for Written<R> {}
+
 /// Keeps what is written for whoever shares it, and counts the writes. After so many bytes it takes nothing until it is let
 /// on, for which it waits at most 10,000 turns of a millisecond.
 #[derive(Drop)]
@@ -85,6 +88,8 @@ impl<R: Wait + Clock> Write for Held<R> {
         Ok(())
     }
 }
+
+impl<R: Wait + Clock> TryWrite for Held<R> {}
 
 /// Waits until a word is set, for at most 10,000 turns of a millisecond.
 pub(crate) fn wait_for<R: Clock>(rt: &R, word: &AtomicBool) {

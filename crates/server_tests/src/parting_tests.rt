@@ -32,7 +32,7 @@ fn a_reply_of_any_length_is_written_out_at_once(rt: HostRuntime) {
         let_on: flag(&rt, alloc),
         writes: Arc::try_clone(&writes).expect(&rt, "a count of its users"),
     };
-    let line = Line::new(alloc, Writing::new(sink));
+    let line = Line::new(alloc, Writing::new(sink), 0);
     let mut all = 0usize;
     for len in LENGTHS {
         let text = Vec::from_elem(alloc, b'a', len).expect(&rt, "memory");

@@ -158,4 +158,12 @@ impl Maker for Rings {
     fn keep(&self) -> u64 {
         self.maker.keep()
     }
+
+    fn packet_bytes(&self) -> usize {
+        self.maker.packet_bytes()
+    }
+
+    fn back(&self) -> u64 {
+        self.maker.back()
+    }
 }

@@ -4,7 +4,7 @@ use crate::rings::{Owned, Rings};
 use interleaved::{Reading, Sink, Writing};
 use packet_ring::Pass;
 use relay_server::{
-    ConnectionEnd, Counts, Events, Line, OpenGate, Outcome, Seat, Shared, SharedBook,
+    ConnectionEnd, Counts, Events, Line, OpenGate, Outcome, Outgoing, Seat, Shared, SharedBook,
     run_connection,
 };
 use session_lock::Book;
@@ -58,7 +58,7 @@ pub(crate) fn line_to<R: Wait + Abort + Drop>(
     room: usize,
 ) -> Line<Writing<Written<R>>> {
     let bytes = Arc::try_clone(bytes).expect(&rt, "a count of its users");
-    Line::new(alloc, Writing::new(Written { rt, bytes, room }))
+    Line::new(alloc, Writing::new(Written { rt, bytes, room }), 16)
 }
 
 /// What a test and a connection share: what is written to its peer, and the word that lets the peer on.
@@ -95,6 +95,15 @@ impl Serving {
     }
 }
 
+/// Replies and frames go out on this line, frames by a thread of the connection's own.
+pub(crate) fn sent_on<T, W: Sink>(line: Line<W>) -> Outgoing<T, W, Open> {
+    Outgoing {
+        line,
+        wire: Open,
+        writers: None,
+    }
+}
+
 /// Serves a connection in a thread of its own.
 pub(crate) fn serve_in_thread<R, V, W>(
     rt: R,
@@ -117,8 +126,7 @@ where
             theirs,
             conn,
             Reading::new(source),
-            line,
-            Open,
+            sent_on(line),
             Events::none(),
         )
     })

@@ -8,7 +8,7 @@ use crate::serving::{
     Serving, SharedRings, Watch, book_of, serve_camera, serve_in_thread, shared_over,
 };
 use crate::words::OneWord;
-use interleaved::Writing;
+use interleaved::{TryWrite, Writing};
 use relay_server::{ConnectionEnd, Line};
 use std::alloc::{AllocError, Global};
 use std::io::Write;
@@ -44,6 +44,8 @@ impl<R: Wait + Clock> Write for Slow<R> {
     }
 }
 
+impl<R: Wait + Clock> TryWrite for Slow<R> {}
+
 /// A player's requests, in the session of this number, below ten.
 fn requests(alloc: Global, session: u64) -> Result<Vec<u8>, AllocError> {
     let play = format!(in alloc;
@@ -64,7 +66,7 @@ where
     let said = requests(alloc, conn).expect(&rt, "memory");
     let source = Staged::new(rt, said, Vec::new(alloc), let_on);
     let bytes = Arc::try_clone(&watch.written).expect(&rt, "a count of its users");
-    let line = Line::new(alloc, Writing::new(Slow { rt, bytes, wait }));
+    let line = Line::new(alloc, Writing::new(Slow { rt, bytes, wait }), 16);
     let thread = serve_in_thread(rt, alloc, shared, conn, source, line);
     assert!(rt; has_come(&rt, &watch.written, SET_UP, b"\r\n\r\n"));
     Serving { watch, thread }

@@ -11,7 +11,7 @@ use Rattle.session_state.specs.declared.act.Act.{Act}
 use Rattle.session_state.specs.declared.act.Act.TheVariants as acts
 use Rattle.session_state.specs.declared.given.Given.{Given}
 use Rattle.session_state.specs.declared.entry.Entry.{Entry}
-use Rattle.session_state.specs.declared.entry.Entry.TheVariants.{Connect, Request, HangUp, Back}
+use Rattle.session_state.specs.declared.entry.Entry.TheVariants.{Connect, Request, HangUp, Back, Expire}
 use Rattle.session_state.specs.declared.method.Method.{Method}
 use Rattle.session_state.specs.declared.method.Method.TheVariants as methods
 use Rattle.session_state.specs.declared.session.Session.{Session}
@@ -129,6 +129,7 @@ module _ (mount seat : ℕ) where
   out_counted seats [] legal out = absurd (cc)
   out_counted seats (Connect who ∷ before) legal out = out_counted seats before legal.0 out
   out_counted seats (HangUp who act ∷ before) legal out = out_counted seats before legal.0 out
+  out_counted seats (Expire who heard now act ∷ before) legal out = out_counted seats before legal.0 out
   out_counted seats (Request who request given reply act ∷ before) legal out =
       let more = counts_more (Request who request given reply act) before in
       moved before (Request who request given reply act) (is_play_of mount seat act) (how_many (accepts is_announce) (Request who request given reply act ∷ before))

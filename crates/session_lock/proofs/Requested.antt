@@ -20,18 +20,19 @@ use Rattle.session_state.specs.Legal.{IsLegal, IsReplyOf}
 use Rattle.session_state.specs.Lookups.{open_count}
 use Rattle.session_state.specs.Methods.{is_announce, is_teardown, method_of}
 use Rattle.session_state.specs.Stands.{Stands, Tables}
-use Rattle.session_state.specs.Streams.{IsLive, ends_of, is_out, takes_or_gives_back}
+use Rattle.session_state.specs.Streams.{IsLive, ends_mount_of, is_out, takes_or_gives_back}
 use Rattle.session_state.proofs.Announced.{owned_none}
 use Rattle.session_state.proofs.Plays.{plays_free}
+use Rattle.session_state.proofs.Strangers.{session_open}
 use Rattle.session_lock.specs.declared.spares.MountPasses.{MountPasses}
-use Rattle.session_lock.specs.Books.{IsKept, IsOffer}
+use Rattle.session_lock.specs.Books.{HasRoom, IsKept, IsOffer}
 use Rattle.session_lock.specs.Entries.{Adds, Written, method_accepted}
 use Rattle.session_lock.specs.Held.{Held}
 use Rattle.session_lock.specs.Requests.{CanBegin, passes_after, pass_after}
 use Rattle.session_lock.specs.Spares.{AreSpare, IsSpareOf, handed_out, left_by, of_owner, out_count, pass_at, unended, without}
 use Rattle.session_lock.proofs.Played.{out_counted, plays_on}
 use Rattle.session_lock.proofs.Spared.{begun_so, ended_so, moved_so, unnumbered}
-use Rattle.session_lock.proofs.Standing.{base_after, flip, next_is, none_ended, same_filter, some_after}
+use Rattle.session_lock.proofs.Standing.{all_roomy, base_after, flip, next_is, none_ended, same_filter, some_after}
 
 not_true : (b : Bool) → (b ≡ true → ⊥) → b ≡ false
 not_true true never = absurd (never refl)
@@ -93,7 +94,7 @@ module _ (conn : ℕ) (request : messages.Request) (given : Given) (reply : Repl
     announces_first named number live =
         owned_none seats history conn conn request given reply act number is (accepts_from_by conn is_announce (Some methods.Announce) named ∙ both_true (conn == conn) ∙ eq-eqb conn conn refl) live
 
-    ends_none : (method : Option Method) → method_accepted request reply ≡ method → option_map_or is_teardown method false ≡ false → (owner : ℕ) → ends_of owner entry ≡ false
+    ends_none : (method : Option Method) → method_accepted request reply ≡ method → option_map_or is_teardown method false ≡ false → (owner : ℕ) → ends_mount_of owner entry ≡ false
     ends_none method named other owner = accepts_from_by owner is_teardown method named ∙ by method other
       where
         by : (method : Option Method) → option_map_or is_teardown method false ≡ false → option_map_or (λ one. conn == owner && is_teardown one) method false ≡ false
@@ -126,12 +127,12 @@ module _ (conn : ℕ) (request : messages.Request) (given : Given) (reply : Repl
         owner_new = none_owned held.mounts spare.each (announces_first named);
       }
 
-      still : (mounts : List (MountPasses P)) → accepts is_announce entry ≡ false → ((owner : ℕ) → ends_of owner entry ≡ false) → AreSpare seats history mounts
+      still : (mounts : List (MountPasses P)) → accepts is_announce entry ≡ false → ((owner : ℕ) → ends_mount_of owner entry ≡ false) → AreSpare seats history mounts
           → ((mount seat : ℕ) → takes_or_gives_back mount seat entry ≡ false) → AreSpare seats (entry ∷ history) mounts
       still mounts plain on spare moves = subst (AreSpare seats (entry ∷ history)) (none_ended seats entry mounts on) (ended_so seats history entry mounts plain moves spare)
 
       -- after a request that announces no mount and ends none
-      pub played_so : (mounts : List (MountPasses P)) (doing : Act) → act ≡ doing → accepts is_announce entry ≡ false → ((owner : ℕ) → ends_of owner entry ≡ false) → AreSpare seats history mounts
+      pub played_so : (mounts : List (MountPasses P)) (doing : Act) → act ≡ doing → accepts is_announce entry ≡ false → ((owner : ℕ) → ends_mount_of owner entry ≡ false) → AreSpare seats history mounts
           → AreSpare seats (entry ∷ history) (left_by doing mounts)
       played_so mounts (acts.Play mount seat) does plain on spare = moved_so seats history entry mount seat None mounts plain on (λ of other. out_by mount seat of other does) spare
       played_so mounts acts.None does plain on spare = still mounts plain on spare (λ of other. ap (is_play_of of other) does)
@@ -142,7 +143,7 @@ module _ (conn : ℕ) (request : messages.Request) (given : Given) (reply : Repl
 
       ended_with : (mounts : List (MountPasses P)) → method_accepted request reply ≡ Some methods.Teardown → without conn mounts ≡ unended entry mounts
       ended_with mounts named =
-          same_filter (λ (one : MountPasses P). not (one.owner == conn)) (λ one. not (ends_of one.owner entry)) mounts
+          same_filter (λ (one : MountPasses P). not (one.owner == conn)) (λ one. not (ends_mount_of one.owner entry)) mounts
           (λ one. ap not (flip one.owner conn ∙ sym (accepts_from_by one.owner is_teardown (Some methods.Teardown) named ∙ both_true (conn == one.owner))))
 
       other_so : (mounts : List (MountPasses P)) (method : Option Method) → method_accepted request reply ≡ method → option_map_or is_announce method false ≡ false
@@ -232,7 +233,7 @@ module _ {P : Type 0} (seats : ℕ) (tables after : Tables) (written later : Wri
       → IsReplyOf tables.mounts.seats written.history conn request given reply act × Stands (Request conn request given reply act ∷ written.history) after
       → Adds next (Request conn request given reply act) written later
       → left.mounts ≡ passes_after conn (how_many (accepts is_announce) written.history + 1) (method_accepted request reply) act offer held.mounts
-      → later.kept ≤ later.cut → open_count written.history + out_count left.mounts ≤ later.room → IsKept seats after later left
+      → later.kept ≤ later.cut → open_count written.history + open_count written.history + out_count left.mounts ≤ later.room → IsKept seats after later left
   requested due next conn request given reply act offer of offered replied adds settled few enough =
       let is = adds.history in
       let follows = subst (λ n. IsReplyOf n written.history conn request given reply act) kept.seats_are replied.0 in
@@ -245,7 +246,9 @@ module _ {P : Type 0} (seats : ℕ) (tables after : Tables) (written later : Wri
         bounded = omega (arith, few);
         spare = subst (λ h. AreSpare seats h left.mounts) (sym is) (subst (AreSpare seats (Request conn request given reply act ∷ written.history)) (sym settled)
             (requested_so conn request given reply act seats written.history follows held.mounts offer (method_accepted request reply) refl kept.legal offered kept.spare));
-        room = let open_after = ap open_count is in omega (arith, open_after, enough);
+        room = subst (λ h. HasRoom h (out_count left.mounts) later.room) (sym is)
+            (all_roomy seats written.history (Request conn request given reply act) (out_count left.mounts) later.room kept.legal
+            (λ other has. session_open seats (Request conn request given reply act ∷ written.history) other (kept.legal, follows) has) enough);
       }
 
 -- the entry that is written down, of what was copied

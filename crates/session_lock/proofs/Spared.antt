@@ -12,7 +12,7 @@ use Rattle.mounts.proofs.Places.{all_both, read_other}
 use Rattle.session_state.specs.declared.entry.Entry.{Entry}
 use Rattle.session_state.specs.Methods.{is_announce}
 use Rattle.session_state.specs.History.{History, accepts, accepts_from, how_many}
-use Rattle.session_state.specs.Streams.{IsLive, ends_of, is_out, takes_or_gives_back}
+use Rattle.session_state.specs.Streams.{IsLive, ends_mount_of, is_out, takes_or_gives_back}
 use Rattle.session_state.proofs.Living.{HasLived, has_lived, lives_on, out_still}
 use Rattle.session_state.proofs.Owners.{IsNewest}
 use Rattle.session_lock.specs.declared.spares.MountPasses.{MountPasses}
@@ -34,7 +34,7 @@ find_filter p q (y ∷ xs) x at is = by (p y) refl (q y) refl at (find_filter p 
 pub newest_or_lived : (history : History) (entry : Entry) (number owner : ℕ) → IsLive (entry ∷ history) number owner → IsNewest history entry number owner ⊎ HasLived history entry number owner
 newest_or_lived history entry number owner live = by live.later live.nth.cut live.unended
   where
-    by : (later : History) → entry ∷ history ≡ later ++ live.moment.entry ∷ live.moment.before → AllByRecursion (λ e. ends_of owner e ≡ false) later → IsNewest history entry number owner ⊎ HasLived history entry number owner
+    by : (later : History) → entry ∷ history ≡ later ++ live.moment.entry ∷ live.moment.before → AllByRecursion (λ e. ends_mount_of owner e ≡ false) later → IsNewest history entry number owner ⊎ HasLived history entry number owner
     by [] cut none =
         let same : live.moment.entry ≡ entry = cc in
         let rest : live.moment.before ≡ history = cc in
@@ -44,7 +44,7 @@ newest_or_lived history entry number owner live = by live.later live.nth.cut liv
         let rest : history ≡ later ++ live.moment.entry ∷ live.moment.before = cc in
         inr (record {
           live = record { later = later; moment = live.moment; nth = record { cut = rest; is = live.nth.is; counted = live.nth.counted }; owned = live.owned; unended = none.1 };
-          on = subst (λ e. ends_of owner e ≡ false) same none.0;
+          on = subst (λ e. ends_mount_of owner e ≡ false) same none.0;
         })
 
 -- a mount that lives is one of those that were announced
@@ -67,7 +67,7 @@ live_counted history number owner live =
         by false so = so
 
 module _ {P : Type 0} (seats : ℕ) (history : History) (entry : Entry) where
-  spare_still : (one : MountPasses P) → ((mount seat : ℕ) → takes_or_gives_back mount seat entry ≡ false) → IsSpareOf seats history one → ends_of one.owner entry ≡ false → IsSpareOf seats (entry ∷ history) one
+  spare_still : (one : MountPasses P) → ((mount seat : ℕ) → takes_or_gives_back mount seat entry ≡ false) → IsSpareOf seats history one → ends_mount_of one.owner entry ≡ false → IsSpareOf seats (entry ∷ history) one
   spare_still one still is on = record {
     live = lives_on history entry one.number one.owner is.live on;
     seats_are = is.seats_are;
@@ -80,14 +80,14 @@ module _ {P : Type 0} (seats : ℕ) (history : History) (entry : Entry) where
   ended_so mounts plain still are = record {
     each = kept mounts are.each;
     all = λ number owner live. there number owner (has_lived history entry number owner live plain);
-    once = different_filter (λ (one : MountPasses P). one.number) (λ one. not (ends_of one.owner entry)) mounts are.once;
+    once = different_filter (λ (one : MountPasses P). one.number) (λ one. not (ends_mount_of one.owner entry)) mounts are.once;
   }
     where
       kept : (ms : List (MountPasses P)) → AllByRecursion (IsSpareOf seats history) ms → AllByRecursion (IsSpareOf seats (entry ∷ history)) (unended entry ms)
       kept [] each = tt
-      kept (one ∷ ms) each = by (ends_of one.owner entry) refl (kept ms each.1)
+      kept (one ∷ ms) each = by (ends_mount_of one.owner entry) refl (kept ms each.1)
         where
-          by : (is : Bool) → ends_of one.owner entry ≡ is → AllByRecursion (IsSpareOf seats (entry ∷ history)) (unended entry ms)
+          by : (is : Bool) → ends_mount_of one.owner entry ≡ is → AllByRecursion (IsSpareOf seats (entry ∷ history)) (unended entry ms)
               → AllByRecursion (IsSpareOf seats (entry ∷ history)) (cond (not is) (one ∷ unended entry ms) (unended entry ms))
           by true is rest = rest
           by false on rest = (spare_still one still each.0 on, rest)
@@ -95,7 +95,7 @@ module _ {P : Type 0} (seats : ℕ) (history : History) (entry : Entry) where
       there : (number owner : ℕ) → HasLived history entry number owner → (one : MountPasses P) × (of_number number (unended entry mounts) ≡ Some one) × (one.owner ≡ owner)
       there number owner lived =
           let found = are.all number owner lived.live in
-          (found.0, find_filter (λ (one : MountPasses P). one.number == number) (λ one. not (ends_of one.owner entry)) mounts found.0 found.1 (ap (λ o. not (ends_of o entry)) found.2 ∙ ap not lived.on), found.2)
+          (found.0, find_filter (λ (one : MountPasses P). one.number == number) (λ one. not (ends_mount_of one.owner entry)) mounts found.0 found.1 (ap (λ o. not (ends_mount_of o entry)) found.2 ∙ ap not lived.on), found.2)
 
   -- after an entry that announces a mount
   module _ (conn : ℕ) (passes : List P) (mounts : List (MountPasses P)) where
@@ -121,7 +121,7 @@ module _ {P : Type 0} (seats : ℕ) (history : History) (entry : Entry) where
     all_here (p ∷ ps) zero place there = let same : place ≡ Some p = cc in ap is_none same
     all_here (p ∷ ps) (suc seat) place there = all_here ps seat place there
 
-    pub begun_so : accepts is_announce entry ≡ true → ((owner : ℕ) → accepts_from owner is_announce entry ≡ (conn == owner)) → ((owner : ℕ) → ends_of owner entry ≡ false)
+    pub begun_so : accepts is_announce entry ≡ true → ((owner : ℕ) → accepts_from owner is_announce entry ≡ (conn == owner)) → ((owner : ℕ) → ends_mount_of owner entry ≡ false)
         → ((mount seat : ℕ) → takes_or_gives_back mount seat entry ≡ false) → ((seat : ℕ) → is_out next seat history ≡ false) → length passes ≡ seats → AreSpare seats history mounts
         → AreSpare seats (entry ∷ history) (mounts ++ fresh ∷ [])
     begun_so announces by_conn on still free count are = record {
@@ -179,7 +179,7 @@ module _ {P : Type 0} (seats : ℕ) (history : History) (entry : Entry) where
     written_at (x ∷ xs) zero place there = cc
     written_at (x ∷ xs) (suc i) place there = written_at xs i place there
 
-    pub moved_so : (mounts : List (MountPasses P)) → accepts is_announce entry ≡ false → ((owner : ℕ) → ends_of owner entry ≡ false)
+    pub moved_so : (mounts : List (MountPasses P)) → accepts is_announce entry ≡ false → ((owner : ℕ) → ends_mount_of owner entry ≡ false)
         → ((mount other : ℕ) → is_out mount other (entry ∷ history) ≡ cond (number == mount && seat == other) (is_none pass) (is_out mount other history))
         → AreSpare seats history mounts → AreSpare seats (entry ∷ history) (with_pass number seat pass mounts)
     moved_so mounts plain on out are = record {

@@ -1,11 +1,12 @@
 -- What a book remembers, and how it is kept.
 use Rattle.std.specs.Prelude.{◌≡◌, ◌≢◌, ◌+◌, ◌≤◌, nat_le, if◌then◌else◌, ℕ, Bool, true, false, List, length, drop, Option, None, Some}
+use Rattle.std.specs.List.{Contains}
 use Rattle.session_state.specs.declared.entry.Entry.{Entry}
-use Rattle.session_state.specs.declared.entry.Entry.TheVariants.{Connect, Request, HangUp, Back}
+use Rattle.session_state.specs.declared.entry.Entry.TheVariants.{Connect, Request, HangUp, Back, Expire}
 use Rattle.session_state.specs.declared.method.Method.TheVariants as methods
 use Rattle.session_state.specs.History.{History, since_last}
 use Rattle.session_state.specs.Legal.{IsLegal}
-use Rattle.session_state.specs.Lookups.{open_count}
+use Rattle.session_state.specs.Lookups.{has_session, open_count}
 use Rattle.session_state.specs.Methods.{method_of}
 use Rattle.session_state.specs.Stands.{Stands, Tables}
 use Rattle.session_lock.specs.declared.spares.MountPasses.{MountPasses}
@@ -32,8 +33,9 @@ may_cut (Connect conn) = true
 may_cut (Request conn request given reply act) = true
 may_cut (HangUp conn act) = false
 may_cut (Back mount seat) = false
+may_cut (Expire conn heard now act) = false
 
--- how many have hung up or given a seat back since the last coming or request
+-- how many have hung up, expired or given a seat back since the last coming or request
 abbrev pub left_since : History → ℕ
 left_since history = length (since_last may_cut history)
 
@@ -48,9 +50,16 @@ pub record IsLedTo (seats : ℕ) (history : History) (tables : Tables) : Type 0 
   pub stands : Stands history tables
   pub seats_are : tables.mounts.seats ≡ seats
 
+-- There is room for the hang-up of each connection that is open, for the expiry of each session, of which there are no more
+-- than are listed here by their connections, and for the return of each seat that is out.
+pub record HasRoom (history : History) (out room : ℕ) : Type 0 where
+  pub sessions : List ℕ
+  pub all : (conn : ℕ) → has_session conn history ≡ true → Contains sessions conn
+  pub enough : open_count history + length sessions + out ≤ room
+
 -- The history is legal, the tables stand for it, the base is what the entries that are no longer kept have led to, and of
 -- the others are no more kept than may be, but for those that have left since; the passes are the spare ones, and there is
--- room for the hang-up of each connection that is open and for the return of each seat that is out.
+-- room for all that needs no memory.
 pub record IsKept {P : Type 0} (seats : ℕ) (tables : Tables) (written : Written) (held : Held P) : Type 0 where
   pub legal : IsLegal seats written.history
   pub stands : Stands written.history tables
@@ -59,4 +68,4 @@ pub record IsKept {P : Type 0} (seats : ℕ) (tables : Tables) (written : Writte
   pub some : 1 ≤ written.cut
   pub bounded : written.kept ≤ written.cut + left_since written.history
   pub spare : AreSpare seats written.history held.mounts
-  pub room : open_count written.history + out_count held.mounts ≤ written.room
+  pub room : HasRoom written.history (out_count held.mounts) written.room

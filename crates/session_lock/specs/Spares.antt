@@ -7,7 +7,7 @@ use Rattle.session_state.specs.declared.act.Act.{Act}
 use Rattle.session_state.specs.declared.act.Act.TheVariants as acts
 use Rattle.session_state.specs.declared.entry.Entry.{Entry}
 use Rattle.session_state.specs.History.{History}
-use Rattle.session_state.specs.Streams.{IsLive, ends_of, is_out}
+use Rattle.session_state.specs.Streams.{IsLive, ends_mount_of, is_out}
 use Rattle.session_lock.specs.declared.spares.MountPasses.{MountPasses}
 
 module _ {P : Type 0} where
@@ -31,7 +31,7 @@ module _ {P : Type 0} where
 
   -- the passes without those of the mounts that an entry ends
   abbrev pub unended : Entry → List (MountPasses P) → List (MountPasses P)
-  unended entry mounts = filter (λ one. not (ends_of one.owner entry)) mounts
+  unended entry mounts = filter (λ one. not (ends_mount_of one.owner entry)) mounts
 
   -- the passes without that of the seat that an act takes
   abbrev pub left_by : Act → List (MountPasses P) → List (MountPasses P)

@@ -1,12 +1,13 @@
 //! The book.
 ghost use Rattle.std.specs.Prelude.{◌≡◌, ◌≤◌, ◌+◌, ◌∷◌, [], ℕ, true, false, None, Some, IfOk, IfErr, IfSome, IfNone, IsSome, MatchBool, OnErr, drop, length, reverse, take, Option};
 ghost use Rattle.std.specs.Option.{option_copied, option_map};
+ghost use Rattle.session_state.specs.declared.act.Act as acting;
 ghost use Rattle.session_state.specs.declared.act.Act.TheVariants as acts;
 ghost use Rattle.session_state.specs.declared.entry.Entry.TheVariants as entries;
 ghost use Rattle.session_state.specs.declared.fault.ConnectFault.TheVariants as faults;
 ghost use Rattle.session_state.specs.declared.session.Session.{Session};
 ghost use Rattle.session_state.specs.History.{accepts, how_many};
-ghost use Rattle.session_state.specs.Legal.{Comes, IsBack, IsHangUp, IsLegal, IsReplyOf};
+ghost use Rattle.session_state.specs.Legal.{Comes, IsBack, IsExpiry, IsHangUp, IsLegal, IsReplyOf};
 ghost use Rattle.session_state.specs.Methods.{is_announce};
 ghost use Rattle.session_state.specs.Lookups.{IsSessionOf, came, is_open};
 ghost use Rattle.session_lock.specs.Asks.{IsFaultOf};
@@ -83,7 +84,7 @@ impl<P: Drop> Book<P> {
     }
 
     /// How many entries are kept: the newest of the history. They are no more than the book was made for, and those that have
-    /// hung up or given a seat back since the last coming or request.
+    /// hung up, expired or given a seat back since the last coming or request.
     pub fn kept(&self) -> usize
         ensures count { result ≡ self.now.kept }
         ensures few { result ≤ length self.now.history }
@@ -169,6 +170,30 @@ impl<P: Drop> Book<P> {
         act
     }
 
+    /// Ends the session of a connection that was last heard 60 seconds or more before `now`: by a request, at the greatest
+    /// moment that was given with one, or otherwise, at `heard`. Moments are milliseconds. With a session for recording its mount
+    /// ends, whose spare passes are dropped. Tells what the connection has to do, as after a TEARDOWN. `None`, and nothing
+    /// changes, where the connection isn't open, has no session or was heard later. Takes no memory.
+    pub fn expire(&mut self, conn: u64, heard: u64, now: u64) -> Option<Act>
+        ensures is { IfSome result (λ act. IsExpiry self.old.seats self.old.history conn heard now act) }
+        ensures ends { IfSome result (λ act. self.new ≡ record self.old { history = entries.Expire conn heard now act ∷ self.old.history; kept = self.old.kept + 1; spares = unended (entries.Expire conn heard now act) self.old.spares }) }
+        ensures none { result ≡ None → (act : acting.Act) → IsExpiry self.old.seats self.old.history conn heard now act → ⊥ }
+        ensures unchanged { IfNone result (self.new ≡ self.old) }
+    {
+        let act = self.world.expire(conn, heard, now)?;
+        self.spares.end_with(conn, act);
+        self.entries.add(
+            None,
+            Entry::Expire {
+                conn,
+                heard,
+                now,
+                act,
+            },
+        );
+        Some(act)
+    }
+
     /// Gives back the pass of a seat; that it is this seat's is the caller's duty. `None` where that seat of a mount that
     /// lives was out, and is free now; else the pass is handed back, and nothing has changed. Takes no memory.
     pub fn give_back(&mut self, mount: u64, seat: usize, pass: P) -> Option<P>
@@ -188,7 +213,7 @@ impl<P: Drop> Book<P> {
     /// Answers a request of an open connection. An ANNOUNCE comes with an offer of passes, one for each seat, and is given
     /// them back unless it is accepted; a PLAY that takes a seat is handed its pass. The only error is out of memory, and
     /// then nothing has changed: all copies, a new base where the kept entries are cut off, and all room are made before
-    /// anything changes. Makes the room for the return of the seat.
+    /// anything changes. Makes the room for the return of the seat, and for the expiry of the session that begins.
     pub fn call(
         &mut self,
         conn: u64,
@@ -198,8 +223,8 @@ impl<P: Drop> Book<P> {
     ) -> Result<Answer<P>, NoMemory<P>>
         requires open { is_open conn self.old.history ≡ true }
         requires offer { IsOffer self.old.seats request.now.method (option_map (λ passes. passes.items) offer) }
-        ensures reply { IfOk result (λ answer. IsReplyOf self.old.seats self.old.history conn request.now given.now answer.reply answer.act) }
-        ensures history { IfOk result (λ answer. self.new.history ≡ entries.Request conn request.now given.now answer.reply answer.act ∷ self.old.history) }
+        ensures reply { IfOk result (λ answer. IsReplyOf self.old.seats self.old.history conn request.now given.entry.now answer.reply answer.act) }
+        ensures history { IfOk result (λ answer. self.new.history ≡ entries.Request conn request.now given.entry.now answer.reply answer.act ∷ self.old.history) }
         ensures kept { IfOk result (λ answer. self.new.kept ≡ kept_after self.old) }
         ensures spares { IfOk result (λ answer. self.new.spares ≡ passes_after conn (how_many (accepts is_announce) self.old.history + 1) (method_accepted request.now answer.reply) answer.act (option_map (λ passes. passes.items) offer) self.old.spares) }
         ensures pass { IfOk result (λ answer. answer.pass ≡ handed_out answer.act self.old.spares) }
@@ -250,8 +275,8 @@ impl<P: Drop> Book<P> {
     ) -> Result<Answer<P>, AskFault<P>>
         ensures open { IfOk result (λ answer. is_open conn self.old.history ≡ true) }
         ensures offered { IfOk result (λ answer. IsOffer self.old.seats request.now.method (option_map (λ passes. passes.items) offer)) }
-        ensures reply { IfOk result (λ answer. IsReplyOf self.old.seats self.old.history conn request.now given.now answer.reply answer.act) }
-        ensures history { IfOk result (λ answer. self.new.history ≡ entries.Request conn request.now given.now answer.reply answer.act ∷ self.old.history) }
+        ensures reply { IfOk result (λ answer. IsReplyOf self.old.seats self.old.history conn request.now given.entry.now answer.reply answer.act) }
+        ensures history { IfOk result (λ answer. self.new.history ≡ entries.Request conn request.now given.entry.now answer.reply answer.act ∷ self.old.history) }
         ensures kept { IfOk result (λ answer. self.new.kept ≡ kept_after self.old) }
         ensures spares { IfOk result (λ answer. self.new.spares ≡ passes_after conn (how_many (accepts is_announce) self.old.history + 1) (method_accepted request.now answer.reply) answer.act (option_map (λ passes. passes.items) offer) self.old.spares) }
         ensures pass { IfOk result (λ answer. answer.pass ≡ handed_out answer.act self.old.spares) }

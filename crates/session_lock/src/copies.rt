@@ -39,7 +39,7 @@ pub(crate) fn copies_of(
     given: &Given,
 ) -> Result<Copies, AllocError>
     ensures request { IfOk result (λ copies. copies.request ≡ request.now) }
-    ensures given { IfOk result (λ copies. copies.given ≡ given.now) }
+    ensures given { IfOk result (λ copies. copies.given ≡ given.entry.now) }
 {
     Ok(Copies {
         request: request.copy(alloc)?,
@@ -47,15 +47,15 @@ pub(crate) fn copies_of(
     })
 }
 
-/// Makes the room that a request may need: for its entry, for the return of the seat that it takes, and for the passes of
-/// the mount that it announces, beside what was promised to those who are open.
+/// Makes the room that a request may need: for its entry, for the return of the seat that it takes or the expiry of the
+/// session that it begins, and for the passes of the mount that it announces, beside what was promised to those who are open.
 pub(crate) fn make_room<P: Drop>(
     opened: usize,
     entries: &mut Entries,
     spares: &mut Spares<P>,
 ) -> Result<(), AllocError>
     requires { opened + out_count spares.old.mounts ≤ entries.old.room }
-    ensures entries { OnOk result (opened + out_count spares.new.mounts + 2 ≤ entries.new.room) }
+    ensures entries { OnOk result (opened + opened + out_count spares.new.mounts + 2 ≤ entries.new.room) }
     ensures spares { OnOk result (0 < spares.new.room) }
     ensures same { entries.new ≡ record entries.old { room = entries.new.room } }
     ensures mounts { spares.new.mounts ≡ spares.old.mounts }

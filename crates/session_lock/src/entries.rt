@@ -82,16 +82,16 @@ impl Entries {
         Ok(Some(world.copy(alloc)?))
     }
 
-    /// Makes room for two entries more than it was promised for: for the hang-ups of those that are open, and for the
+    /// Makes room for two entries more than may be promised: for the hang-up and the expiry of each that is open, and for the
     /// returns of the seats that are out.
     pub(crate) fn reserve(&mut self, opened: usize, out: usize) -> Result<(), AllocError>
         requires { opened + out ≤ self.old.room }
-        ensures ok { OnOk result (opened + out + 2 ≤ self.new.room) }
+        ensures ok { OnOk result (opened + opened + out + 2 ≤ self.new.room) }
         ensures kept { self.new ≡ record self.old { room = self.new.room } }
         ensures more { self.old.room ≤ self.new.room }
         ensures bounded { self.new.room < 2 ^ 63 }
     {
-        self.entries.reserve(opened + out + 2)
+        self.entries.reserve(opened + opened + out + 2)
     }
 
     /// Writes an entry down, in room that was made for it; where a new base is given, all entries before it are cut off

@@ -1,8 +1,9 @@
 //! The spare passes of the mounts that live.
-ghost use Rattle.std.specs.Prelude.{◌≡◌, ◌<◌, ◌≤◌, ◌+◌, ◌^◌, ◌∷◌, ◌++◌, [], None, Some, OnOk, position, ◌==◌};
+ghost use Rattle.std.specs.Prelude.{◌≡◌, ◌<◌, ◌≤◌, ◌+◌, ◌^◌, ◌∷◌, ◌++◌, [], None, Some, OnOk, position, ◌==◌, if◌then◌else◌};
 ghost use Rattle.std.specs.Prelude.{vec_len, vec_capacity};
 ghost use Rattle.std.specs.Option.{option_map};
 ghost use Rattle.session_state.specs.declared.method.Method.TheVariants as methods;
+ghost use Rattle.session_state.specs.Streams.{is_end};
 ghost use Rattle.session_lock.specs.Held.{IsOutOf};
 ghost use Rattle.session_lock.specs.Requests.{CanBegin, back_after, pass_after, passes_after};
 ghost use Rattle.session_lock.specs.Spares.{handed_out, left_by, of_number, of_owner, out_count, out_of, pass_at, with_pass, without};
@@ -87,6 +88,16 @@ impl<P: Drop> Spares<P> {
         if let Some(place) = place_owned_by(self.mounts.as_slice(), owner) {
             self.out -= self.mounts[place].passes.count_out();
             self.mounts.remove(place);
+        }
+    }
+
+    /// Drops the passes of the mount that ends with its owner's session, by the act: `End` ends it. Takes no memory.
+    pub(crate) fn end_with(&mut self, owner: u64, act: Act)
+        ensures dropped { self.new.mounts ≡ (if is_end act then without owner self.old.mounts else self.old.mounts) }
+        ensures out { out_count self.new.mounts ≤ out_count self.old.mounts }
+    {
+        if act == Act::End {
+            self.end_of(owner);
         }
     }
 

@@ -20,7 +20,7 @@ use Rattle.session_state.specs.declared.act.Act.{Act}
 use Rattle.session_state.specs.declared.act.Act.TheVariants as acts
 use Rattle.session_state.specs.declared.given.Given.{Given}
 use Rattle.session_state.specs.declared.entry.Entry.{Entry}
-use Rattle.session_state.specs.declared.entry.Entry.TheVariants.{Connect, Request, HangUp, Back}
+use Rattle.session_state.specs.declared.entry.Entry.TheVariants.{Connect, Request, HangUp, Back, Expire}
 use Rattle.session_state.specs.declared.method.Method.TheVariants as methods
 use Rattle.session_state.specs.declared.session.Session.{Session}
 use Rattle.session_state.specs.Methods.{is_announce}
@@ -82,6 +82,7 @@ out_made : (mount seat seats : ℕ) (history : History) → IsLegal seats histor
 out_made mount seat seats [] legal out = absurd (cc)
 out_made mount seat seats (Connect who ∷ before) legal out = out_made mount seat seats before legal.0 out
 out_made mount seat seats (HangUp who act ∷ before) legal out = out_made mount seat seats before legal.0 out
+out_made mount seat seats (Expire who heard now act ∷ before) legal out = out_made mount seat seats before legal.0 out
 out_made mount seat seats (Request who request given reply act ∷ before) legal out =
     let more = counts_more (accepts is_announce) (Request who request given reply act) before in
     let low = by (is_play_of mount seat act) refl out (out_made mount seat seats before legal.0) in

@@ -9,11 +9,12 @@ use Rattle.mounts.proofs.Sound.{sound_seat}
 use Rattle.session_state.specs.declared.entry.Entry.TheVariants.{Back}
 use Rattle.session_state.specs.History.{History}
 use Rattle.session_state.specs.Legal.{IsBack, IsLegal}
-use Rattle.session_state.specs.Stands.{Stands, Tables}
+use Rattle.session_state.specs.Stands.{Recalls, Stands, Tables}
 use Rattle.session_state.specs.Streams.{IsLive, IsLiveMount, is_out}
 use Rattle.session_state.proofs.Parts.{session_still}
 use Rattle.session_state.proofs.Moving.{seat_moves}
 use Rattle.session_state.proofs.Plays.{out_below}
+use Rattle.session_state.proofs.Strangers.{still_heard}
 
 -- A seat of a mount that lives, of which the history tells whether it is out.
 pub record IsSeatOf (seats : ℕ) (history : History) (mount owner seat : ℕ) (is : Bool) : Type 0 where
@@ -22,7 +23,7 @@ pub record IsSeatOf (seats : ℕ) (history : History) (mount owner seat : ℕ) (
   pub below : seat < seats
 
 -- a seat of a mount in the table is out there where it is out in the history
-pub seat_in_history : (history : History) (tables : Tables) (mount seat : ℕ) (out : Bool) → Stands history tables → (is : IsSeat tables.mounts mount seat out)
+pub seat_in_history : (history : History) (tables : Tables) (mount seat : ℕ) (out : Bool) → Recalls history tables → (is : IsSeat tables.mounts mount seat out)
     → IsSeatOf tables.mounts.seats history mount is.mount.owner seat out
 seat_in_history history tables mount seat out stands is =
     let found = found_all (IsLiveMount tables.mounts.seats history) (λ one. one.number == mount) tables.mounts.mounts is.mount stands.mounts.each is.live in
@@ -34,25 +35,28 @@ seat_in_history history tables mount seat out stands is =
     }
 
 -- a seat that is out of a mount in the table is out in the history
-pub is_back : (history : History) (tables : Tables) (mount seat : ℕ) → Stands history tables → IsSeat tables.mounts mount seat true → IsBack history mount seat
+pub is_back : (history : History) (tables : Tables) (mount seat : ℕ) → Recalls history tables → IsSeat tables.mounts mount seat true → IsBack history mount seat
 is_back history tables mount seat stands is =
     let found = seat_in_history history tables mount seat true stands is in
     record { owner = is.mount.owner; live = found.live; out = found.out }
 
 pub backed : (history : History) (old new : Tables) (mount seat : ℕ) → Stands history old → new ≡ record old { mounts = with_seat_of mount seat false old.mounts } → Stands (Back mount seat ∷ history) new
-backed history old new mount seat stands is = subst (Stands (Back mount seat ∷ history)) (sym is) (record {
-  sound = sound_seat mount seat false old.mounts stands.sound;
-  mounts = seat_moves old.mounts.seats history (Back mount seat) mount seat false (record { plain = refl; on = λ owner. refl; moves = λ of given. refl; leaves = refl }) old.mounts.mounts stands.mounts;
-  next = stands.next;
-  are_open = stands.are_open;
-  sessions = λ conn session kept. session_still old.mounts.seats conn history (Back mount seat ∷ history) session refl (stands.sessions conn session kept);
-  came_is = stands.came_is;
-  gone = stands.gone;
-  begun_is = stands.begun_is;
+backed history old new mount seat all is = let stands = all.recalls in subst (Stands (Back mount seat ∷ history)) (sym is) (record {
+  recalls = record {
+    sound = sound_seat mount seat false old.mounts stands.sound;
+    mounts = seat_moves old.mounts.seats history (Back mount seat) mount seat false (record { plain = refl; on = λ owner. refl; moves = λ of given. refl; leaves = refl }) old.mounts.mounts stands.mounts;
+    next = stands.next;
+    are_open = stands.are_open;
+    sessions = λ conn session kept. session_still old.mounts.seats conn history (Back mount seat ∷ history) session refl (stands.sessions conn session kept);
+    came_is = stands.came_is;
+    gone = stands.gone;
+    begun_is = stands.begun_is;
+  };
+  heard = λ conn moment kept. all.heard conn moment kept ∙ sym (still_heard conn (Back mount seat) history refl);
 })
 
 -- a seat of a mount in the history is one of the table's
-pub seat_in_table : (history : History) (tables : Tables) (mount owner seat : ℕ) (out : Bool) → Stands history tables → IsSeatOf tables.mounts.seats history mount owner seat out → IsSeat tables.mounts mount seat out
+pub seat_in_table : (history : History) (tables : Tables) (mount owner seat : ℕ) (out : Bool) → Recalls history tables → IsSeatOf tables.mounts.seats history mount owner seat out → IsSeat tables.mounts mount seat out
 seat_in_table history tables mount owner seat out stands is =
     let found = stands.mounts.all mount owner is.live in
     let lives = found_all (IsLiveMount tables.mounts.seats history) (λ one. one.number == mount) tables.mounts.mounts found.0 stands.mounts.each found.1 in
@@ -65,6 +69,6 @@ seat_in_table history tables mount owner seat out stands is =
     }
 
 -- a seat that is out in the history is out of its mount in the table
-pub is_seat : (history : History) (tables : Tables) (mount seat : ℕ) → IsLegal tables.mounts.seats history → Stands history tables → IsBack history mount seat → IsSeat tables.mounts mount seat true
+pub is_seat : (history : History) (tables : Tables) (mount seat : ℕ) → IsLegal tables.mounts.seats history → Recalls history tables → IsBack history mount seat → IsSeat tables.mounts mount seat true
 is_seat history tables mount seat legal stands back =
     seat_in_table history tables mount back.owner seat true stands (record { live = back.live; out = back.out; below = out_below mount seat tables.mounts.seats history legal back.out })

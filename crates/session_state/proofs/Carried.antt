@@ -26,6 +26,7 @@ use Rattle.session_state.specs.declared.method.Method.{Method}
 use Rattle.session_state.specs.declared.method.Method.TheVariants as methods
 use Rattle.session_state.specs.declared.session.Session.{Session}
 use Rattle.session_state.specs.declared.session.State.{State}
+use Rattle.session_state.specs.declared.world.connection.Connection.{Connection}
 use Rattle.session_state.specs.declared.session.State.TheVariants.{Ready, Playing, Recording}
 use Rattle.session_state.specs.Applied.{IsApplied}
 use Rattle.session_state.specs.Methods.{is_announce, is_setup, is_teardown, method_of, moves}
@@ -35,11 +36,12 @@ use Rattle.session_state.specs.Judged.{CanTake, IsAcceptedWith, IsJudged, IsSett
 use Rattle.session_state.specs.Legal.{IsAnswered, IsLegal, IsReplyOf}
 use Rattle.session_state.specs.Lookups.{IsSessionOf, beginning, has_session, last_seat, session_part, sessions_begun, state_by, state_of}
 use Rattle.session_state.specs.Replies.{IsAccepted, IsPlayAct, IsPlayed, pause_act, record_act, refusal, status_of, teardown_act}
-use Rattle.session_state.specs.Stands.{ChangesSession, Stands, Tables, TakesSeat, in_state, kept_of, session_kept, with_channels, without_owned}
+use Rattle.session_state.specs.Stands.{ChangesSession, IsHeard, Recalls, Stands, Tables, TakesSeat, connection_of, in_state, kept_of, session_kept, with_channels, without_owned}
 use Rattle.session_state.specs.Streams.{IsLive, IsLiveMount, IsTrackOf, is_out}
 use Rattle.session_state.proofs.AcceptedEntries.{IsAcceptedEntry, accepted_entry, announces_so, begins_so, of_conn, of_method, of_own, ends_none}
-use Rattle.session_state.proofs.After.{LeavesSo, accepted_stands, leaves_mounts, refused_stands, unchanged}
+use Rattle.session_state.proofs.After.{Leaves, LeavesSo, accepted_stands, heard_then, leaves_mounts, refused_stands, unchanged}
 use Rattle.session_state.proofs.Announced.{refused_otherwise}
+use Rattle.session_state.proofs.Answering.{kept_with_session}
 use Rattle.session_state.proofs.Announcing.{mount_made}
 use Rattle.session_state.proofs.Backs.{seat_in_history, seat_in_table}
 use Rattle.session_state.proofs.Going.{mounts_after, same_next, same_seats, sound_after}
@@ -81,7 +83,7 @@ last_playing (moment ∷ moments) seat is = by (accepted moment.entry) (last_sea
     by (Some (conn, methods.Teardown)) last at = absurd (cc)
     by (Some (conn, methods.GetParameter)) last at = absurd (cc)
 
-module _ (history : History) (old new : Tables) (conn : ℕ) (request : messages.Request) (given : Given) (reply : Reply) (legal : IsLegal old.mounts.seats history) (stands : Stands history old)
+module _ (history : History) (old new : Tables) (conn : ℕ) (request : messages.Request) (given : Given) (reply : Reply) (legal : IsLegal old.mounts.seats history) (stands : Recalls history old)
     (was : kept_of conn old.connections ≡ Some (session_kept old conn)) where
   abbrev asked : Asked
   asked = asked_of old history conn request
@@ -94,7 +96,7 @@ module _ (history : History) (old new : Tables) (conn : ℕ) (request : messages
 
   -- what is shown of each answer
   abbrev Goes : Act → Type 0
-  Goes act = IsReplyOf old.mounts.seats history conn request given reply act × Stands (Request conn request given reply act ∷ history) new
+  Goes act = IsReplyOf old.mounts.seats history conn request given reply act × Leaves (Request conn request given reply act) history old new
 
   replies : (act : Act) → IsAnswered asked given reply act → IsReplyOf old.mounts.seats history conn request given reply act
   replies act answered = record {
@@ -108,7 +110,7 @@ module _ (history : History) (old new : Tables) (conn : ℕ) (request : messages
   refuses : (check : Check) → FailsFirst asked (checks_of (method_of request.method)) check → reply ≡ refusal asked check → (act : Act) → act ≡ acts.None → new ≡ old → Goes act
   refuses check fails is act none same =
       let so = replies act (inl (check, fails, is, none)) in
-      (so, subst (Stands (entry act ∷ history)) (sym same) (refused_stands history old conn request given reply act stands so not_ok))
+      (so, subst (Leaves (entry act) history old) (sym same) (refused_stands history old conn request given reply act stands so not_ok))
     where
       not_ok : code_of reply.status ≢ 200
       not_ok ok = let one = eq-eqb (code_of (status_of check)) 200 (sym (ap (λ (r : Reply). code_of r.status) is) ∙ ok) in let other = refused_otherwise check in absurd (cc)
@@ -321,10 +323,17 @@ module _ (history : History) (old new : Tables) (conn : ℕ) (request : messages
           subst Goes (sym so.0) (changes_state methods.Play named passes acts.None play session has (Playing seat) (λ mount given_seat. refl) refl refl refl refl
           (ap (λ found. option_map (λ taken. Playing taken) found) last) (same_state so.1))
         where
-          at : (other : ℕ) → (same : Bool) → (conn == other) ≡ same → kept_of other old.connections ≡ (if same then option_map (option_map (in_state (Playing seat))) (kept_of other old.connections) else kept_of other old.connections)
-          at other true same =
-              let kept = ap (λ c. kept_of c old.connections) (sym (eqb-true conn other same)) ∙ was ∙ ap Some has in
-              kept ∙ ap (λ state. Some (Some (in_state state session))) playing ∙ sym (ap (option_map (option_map (in_state (Playing seat)))) kept)
+          still : Connection → Connection
+          still kept = record kept { session = option_map (in_state (Playing seat)) kept.session }
+
+          found : (kept : Option Connection) → option_map (λ (k : Connection). k.session) kept ≡ Some (Some session) → kept ≡ option_map still kept
+          found None is = absurd (cc)
+          found (Some kept) is =
+              let so : kept.session ≡ Some session = cc in
+              ap (λ (s : Option Session). Some (record kept { session = s })) (so ∙ ap (λ state. Some (in_state state session)) playing ∙ sym (ap (option_map (in_state (Playing seat))) so))
+
+          at : (other : ℕ) → (same : Bool) → (conn == other) ≡ same → connection_of other old.connections ≡ (if same then option_map still (connection_of other old.connections) else connection_of other old.connections)
+          at other true same = found (connection_of other old.connections) (ap (λ c. kept_of c old.connections) (sym (eqb-true conn other same)) ∙ was ∙ ap Some has)
           at other false apart = refl
 
           same_state : new ≡ old → ChangesSession conn (option_map (in_state (Playing seat))) old new
@@ -383,10 +392,16 @@ module _ (history : History) (old new : Tables) (conn : ℕ) (request : messages
       let so = subst (λ c. IsApplied conn c old act new) makes applied in
       tears_down_all named passes act (is act so.0) so.0 so.1
 
-  -- a judged request is answered so, and the tables stand for what has happened then
-  pub carried : (change : Change) → CanTake old conn change → IsJudged (asked_of old history conn request) given reply change → (act : Act) → IsApplied conn change old act new
-      → IsReplyOf old.mounts.seats history conn request given reply act × Stands (Request conn request given reply act ∷ history) new
-  carried change can (inl ((check, fails, is, none), nothing)) act applied =
+  judged_goes : (change : Change) → CanTake old conn change → IsJudged (asked_of old history conn request) given reply change → (act : Act) → IsApplied conn change old act new → Goes act
+  judged_goes change can (inl ((check, fails, is, none), nothing)) act applied =
       let so = subst (λ c. IsApplied conn c old act new) nothing applied in
       refuses check fails is act so.0 so.1
-  carried change can (inr (method, named, passes, is)) act applied = accepted_goes method named passes change can is act applied
+  judged_goes change can (inr (method, named, passes, is)) act applied = accepted_goes method named passes change can is act applied
+
+-- a judged request is answered so, and the tables stand for what has happened then
+pub carried : (history : History) (old new later : Tables) (conn : ℕ) (request : messages.Request) (given : Given) (reply : Reply) → IsLegal old.mounts.seats history → Stands history old
+    → IsSome (kept_of conn old.connections) → (change : Change) → CanTake old conn change → IsJudged (asked_of old history conn request) given reply change → (act : Act) → IsApplied conn change old act new
+    → IsHeard conn given.now new later → IsReplyOf old.mounts.seats history conn request given reply act × Stands (Request conn request given reply act ∷ history) later
+carried history old new later conn request given reply legal stands there change can judged act applied heard =
+    let goes = judged_goes history old new conn request given reply legal stands.recalls (kept_with_session old conn there) change can judged act applied in
+    (goes.0, heard_then history old new later conn request given reply act stands goes.1 heard)

@@ -63,12 +63,12 @@ flattened (Some one) session at = ap Some at
 -- so a history that stands for the tables tells what is known for the request
 pub told_by : (history : History) (tables : Tables) (conn : ℕ) (request : messages.Request) (asking : Asking) → Stands history tables → IsOf tables conn request asking → IsToldBy history asking
 told_by history tables conn request asking stands is = record {
-  mounts = subst (λ (t : Table). AreLive t.seats history t.mounts) (sym is.mounts) stands.mounts;
-  next = ap (λ (t : Table). t.next) is.mounts ∙ stands.next;
-  begun = is.begun ∙ stands.begun_is;
+  mounts = subst (λ (t : Table). AreLive t.seats history t.mounts) (sym is.mounts) stands.recalls.mounts;
+  next = ap (λ (t : Table). t.next) is.mounts ∙ stands.recalls.next;
+  begun = is.begun ∙ stands.recalls.begun_is;
   names = λ session mount has at.
       let kept = flattened (kept_of conn tables.connections) session (sym is.session ∙ has) in
-      session_name tables.mounts.seats conn history session tables.mounts.mounts mount stands.mounts (stands.sessions conn (Some session) kept)
+      session_name tables.mounts.seats conn history session tables.mounts.mounts mount stands.recalls.mounts (stands.recalls.sessions conn (Some session) kept)
       (subst (λ (t : Table). numbered session.mount t.mounts ≡ Some mount) is.mounts at);
 }
 

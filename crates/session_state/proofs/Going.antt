@@ -1,6 +1,7 @@
 -- What a connection's hanging up leaves.
 use Rattle.std.proofs.Common.{◌≡◌, ◌≢◌, ℕ, ◌+◌, ◌==◌, Bool, true, false, cond, List, [], ◌∷◌, length, map, is_some, Option, None, Some, refl, ap, sym, ◌∙◌, subst, arith}
 use Rattle.std.specs.List.{AllByRecursion, position_or_len}
+use Rattle.std.specs.Option.{option_map}
 use Rattle.std.proofs.lemmas.Bool.{eqb-true, eq-eqb}
 use Rattle.std.proofs.lemmas.List.Folds.{find_at}
 use Rattle.mounts.specs.declared.mount.Mount.{Mount}
@@ -13,12 +14,13 @@ use Rattle.session_state.specs.declared.act.Act.{Act}
 use Rattle.session_state.specs.declared.entry.Entry.{Entry}
 use Rattle.session_state.specs.declared.entry.Entry.TheVariants.{HangUp}
 use Rattle.session_state.specs.declared.session.Session.{Session}
+use Rattle.session_state.specs.declared.world.connection.Connection.{Connection}
 use Rattle.session_state.specs.History.{History}
 use Rattle.session_state.specs.Legal.{IsHangUp, act_at_end}
 use Rattle.session_state.specs.Lookups.{IsSessionOf, is_open}
-use Rattle.session_state.specs.Stands.{Stands, Tables, kept_of, without_owned}
-use Rattle.session_state.specs.Streams.{AreLive, ends_of}
-use Rattle.session_state.proofs.Kept.{IsKeptFor, kept_same}
+use Rattle.session_state.specs.Stands.{Recalls, Stands, Tables, connection_of, kept_of, without_owned}
+use Rattle.session_state.specs.Streams.{AreLive, ends_mount_of}
+use Rattle.session_state.proofs.Kept.{IsKeptFor, heard_on, kept_same}
 use Rattle.session_state.proofs.Living.{LeavesMounts, mount_ends, mounts_still}
 use Rattle.session_state.proofs.Parts.{part_still, session_still}
 use Rattle.session_state.proofs.Strangers.{after}
@@ -71,11 +73,11 @@ ends_one conn own (mount ∷ mounts) once owns = by (mount.owner == conn) refl o
         differ is = let same_owner = eq-eqb mount.owner conn is in absurd (cc)
 
 -- after an entry that ends the mount of a connection, and no other
-pub mounts_after : (seats : ℕ) (history : History) (conn : ℕ) (entry : Entry) (table : Table) (owned : Option Mount) → LeavesMounts entry → ((owner : ℕ) → ends_of owner entry ≡ (conn == owner))
+pub mounts_after : (seats : ℕ) (history : History) (conn : ℕ) (entry : Entry) (table : Table) (owned : Option Mount) → LeavesMounts entry → ((owner : ℕ) → ends_mount_of owner entry ≡ (conn == owner))
     → IsSound table → owned_by conn table.mounts ≡ owned → AreLive seats history table.mounts → AreLive seats (entry ∷ history) (without_owned owned table).mounts
 mounts_after seats history conn entry table None leaves ends sound owns are =
     mounts_still seats history entry table.mounts leaves
-    (every (λ mount. (conn == mount.owner) ≡ false) (λ mount. ends_of mount.owner entry ≡ false) table.mounts (λ mount apart. ends mount.owner ∙ apart)
+    (every (λ mount. (conn == mount.owner) ≡ false) (λ mount. ends_mount_of mount.owner entry ≡ false) table.mounts (λ mount apart. ends mount.owner ∙ apart)
     (ends_none conn table.mounts (none_has (λ mount. mount.owner) conn table.mounts owns))) are
 mounts_after seats history conn entry table (Some own) leaves ends sound owns are =
     mount_ends seats history entry own table.mounts leaves
@@ -83,7 +85,7 @@ mounts_after seats history conn entry table (Some own) leaves ends sound owns ar
       owner = ends own.owner ∙ (let mine = found_passes (λ mount. mount.owner == conn) table.mounts own owns in eq-eqb conn own.owner (sym (eqb-true own.owner conn mine)));
       there = find_one (λ mount. mount.number) (λ mount. mount.number == own.number) table.mounts (position_or_len (λ mount. mount.owner == conn) table.mounts) own sound.numbers
           (sym (find_at (λ mount. mount.owner == conn) table.mounts) ∙ owns) (eq-eqb own.number own.number refl) (λ other apart. unequal other.number own.number apart);
-      others = every (λ mount. (mount.number == own.number) ≡ false → (conn == mount.owner) ≡ false) (λ mount. (mount.number == own.number) ≡ false → ends_of mount.owner entry ≡ false) table.mounts
+      others = every (λ mount. (mount.number == own.number) ≡ false → (conn == mount.owner) ≡ false) (λ mount. (mount.number == own.number) ≡ false → ends_mount_of mount.owner entry ≡ false) table.mounts
           (λ mount apart other. ends mount.owner ∙ apart other) (ends_one conn own table.mounts sound.owners owns);
     }) are
 
@@ -99,7 +101,7 @@ pub same_next : (table : Table) (owned : Option Mount) → (without_owned owned 
 same_next table None = refl
 same_next table (Some own) = refl
 
-pub gone : (history : History) (old new : Tables) (conn : ℕ) (act : Act) → Stands history old → HasGone conn old new → Stands (HangUp conn act ∷ history) new
+gone : (history : History) (old new : Tables) (conn : ℕ) (act : Act) → Recalls history old → HasGone conn old new → Recalls (HangUp conn act ∷ history) new
 gone history old new conn act stands h = record {
   sound = subst IsSound (sym h.mounts) (sound_after old.mounts owned stands.sound);
   mounts = subst (λ table. AreLive table.seats (HangUp conn act ∷ history) table.mounts) (sym h.mounts)
@@ -140,7 +142,7 @@ gone history old new conn act stands h = record {
             (stands.sessions other session (sym (kept_same conn other None old.connections new.connections h.kept false apart) ∙ there))
 
 -- the act that a connection is told
-pub told : (history : History) (old : Tables) (conn : ℕ) (session : Option Session) (act : Act) → Stands history old → kept_of conn old.connections ≡ Some session
+told : (history : History) (old : Tables) (conn : ℕ) (session : Option Session) (act : Act) → Recalls history old → kept_of conn old.connections ≡ Some session
     → act ≡ act_at_end (owned_by conn old.mounts.mounts) session → IsHangUp old.mounts.seats history conn act
 told history old conn session act stands kept does = record {
   is_there = sym (stands.are_open conn) ∙ ap is_some kept;
@@ -152,12 +154,15 @@ told history old conn session act stands kept does = record {
 }
 
 -- what `hangup` answers and leaves
-pub goes_so : (history : History) (old : Tables) (mounts : Table) (connections : List (ℕ × Option Session)) (conn : ℕ) (session : Option Session) (owned : Option Mount) (act : Act)
+pub goes_so : (history : History) (old : Tables) (mounts : Table) (connections : List (ℕ × Connection)) (conn : ℕ) (connection : Connection) (owned : Option Mount) (act : Act)
     → Stands history old → owned ≡ owned_by conn old.mounts.mounts → mounts ≡ without_owned owned old.mounts → IsKeptFor conn None old.connections connections
-    → length connections + 1 ≡ length old.connections → kept_of conn old.connections ≡ Some session → act ≡ act_at_end owned session
+    → length connections + 1 ≡ length old.connections → connection_of conn old.connections ≡ Some connection → act ≡ act_at_end owned connection.session
     → IsHangUp old.mounts.seats history conn act × Stands (HangUp conn act ∷ history) (record { mounts = mounts; connections = connections; came = old.came; begun = old.begun })
-goes_so history old mounts connections conn session owned act stands owns is each less kept does = (
-  told history old conn session act stands kept (does ∙ ap (λ o. act_at_end o session) owns),
-  gone history old (record { mounts = mounts; connections = connections; came = old.came; begun = old.begun }) conn act stands
-      (record { mounts = is ∙ ap (λ o. without_owned o old.mounts) owns; came_is = refl; begun = refl; kept = each; less = less }),
+goes_so history old mounts connections conn connection owned act stands owns is each less kept does = (
+  told history old conn connection.session act stands.recalls (ap (option_map (λ (k : Connection). k.session)) kept) (does ∙ ap (λ o. act_at_end o connection.session) owns),
+  record {
+    recalls = gone history old (record { mounts = mounts; connections = connections; came = old.came; begun = old.begun }) conn act stands.recalls
+        (record { mounts = is ∙ ap (λ o. without_owned o old.mounts) owns; came_is = refl; begun = refl; kept = each; less = less });
+    heard = heard_on conn (HangUp conn act) None old.connections connections history each (λ other. refl) (λ moment is. absurd (cc)) stands.heard;
+  },
 )

@@ -4,6 +4,7 @@ pub mod Parts
 pub mod Strangers
 pub mod Coming
 pub mod Going
+pub mod Expiring
 pub mod Played
 pub mod Plays
 pub mod Backs

@@ -12,13 +12,13 @@ use Rattle.mounts.proofs.Places.{read_other}
 use Rattle.session_state.specs.declared.entry.Entry.{Entry}
 use Rattle.session_state.specs.Methods.{is_announce}
 use Rattle.session_state.specs.History.{History, accepts, act_of, is_play_of, last_of}
-use Rattle.session_state.specs.Streams.{AreLive, IsLive, IsLiveMount, ends_of, is_out, takes_or_gives_back}
+use Rattle.session_state.specs.Streams.{AreLive, IsLive, IsLiveMount, ends_mount_of, is_out, takes_or_gives_back}
 use Rattle.session_state.proofs.Living.{has_lived, lives_on}
 
 -- An entry that takes or gives back this seat and no other, and neither makes a mount nor ends one.
 pub record MovesSeat (entry : Entry) (number seat : ℕ) (out : Bool) : Type 0 where
   pub plain : accepts is_announce entry ≡ false
-  pub on : (owner : ℕ) → ends_of owner entry ≡ false
+  pub on : (owner : ℕ) → ends_mount_of owner entry ≡ false
   pub moves : (of given : ℕ) → takes_or_gives_back of given entry ≡ (number == of && seat == given)
   pub leaves : is_play_of number seat (act_of entry) ≡ out
 

@@ -19,11 +19,11 @@ use Rattle.mounts.proofs.Sound.{names_apart}
 use Rattle.session_state.specs.declared.act.Act.{Act}
 use Rattle.session_state.specs.declared.given.Given.{Given}
 use Rattle.session_state.specs.declared.entry.Entry.{Entry}
-use Rattle.session_state.specs.declared.entry.Entry.TheVariants.{Connect, Request, HangUp, Back}
+use Rattle.session_state.specs.declared.entry.Entry.TheVariants.{Connect, Request, HangUp, Back, Expire}
 use Rattle.session_state.specs.Methods.{is_announce}
 use Rattle.session_state.specs.History.{History, IsNth, accepts, accepts_from, how_many}
 use Rattle.session_state.specs.Legal.{Follows, IsLegal, IsReplyOf}
-use Rattle.session_state.specs.Streams.{Announces, IsLive, IsLiveMount, ends_of}
+use Rattle.session_state.specs.Streams.{Announces, IsLive, IsLiveMount, ends_mount_of}
 use Rattle.session_state.proofs.Announced.{is_announce_of, passed}
 use Rattle.session_state.proofs.Coming.{none_lives}
 use Rattle.session_state.proofs.Nth.{one_nth}
@@ -88,7 +88,7 @@ record IsNewName (before : History) (entry : Entry) (number owner : ℕ) (name :
 new_or_earlier : (before : History) (entry : Entry) (number owner : ℕ) (name : List ℕ) → HasName (entry ∷ before) number owner name → IsNewName before entry number owner name ⊎ HasName before number owner name
 new_or_earlier before entry number owner name has = by has.live.later has.live.nth.cut has.live.unended
   where
-    by : (later : History) → entry ∷ before ≡ later ++ has.live.moment.entry ∷ has.live.moment.before → AllByRecursion (λ e. ends_of owner e ≡ false) later
+    by : (later : History) → entry ∷ before ≡ later ++ has.live.moment.entry ∷ has.live.moment.before → AllByRecursion (λ e. ends_mount_of owner e ≡ false) later
         → IsNewName before entry number owner name ⊎ HasName before number owner name
     by [] cut none =
         let same : has.live.moment.entry ≡ entry = cc in
@@ -113,6 +113,7 @@ clash seats before (Request asks request given reply act) owner who number other
 clash seats before (Connect asks) owner who number other name follows new has = let owned = new.owned in absurd (cc)
 clash seats before (HangUp asks act) owner who number other name follows new has = let owned = new.owned in absurd (cc)
 clash seats before (Back mount seat) owner who number other name follows new has = let owned = new.owned in absurd (cc)
+clash seats before (Expire asks heard now act) owner who number other name follows new has = let owned = new.owned in absurd (cc)
 
 pub one_of_a_name : (seats : ℕ) (history : History) (owner who number other : ℕ) (name : List ℕ) → IsLegal seats history → HasName history number owner name → HasName history other who name → number ≡ other
 one_of_a_name seats [] owner who number other name legal one two = absurd (none_lives number owner one.live)

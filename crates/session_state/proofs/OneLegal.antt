@@ -1,5 +1,5 @@
 -- A legal history determines what a request is answered.
-use Rattle.std.proofs.Common.{◌≡◌, ℕ, inl, inr, refl, sym, ◌∙◌, subst}
+use Rattle.std.proofs.Common.{◌≡◌, ℕ, inl, inr, Some, refl, ap, sym, ◌∙◌, subst}
 use Rattle.rtsp_message.specs.declared.request.Request as messages
 use Rattle.rtsp_message.specs.declared.reply.Reply.{Reply}
 use Rattle.session_state.specs.declared.act.Act.{Act}
@@ -12,8 +12,8 @@ use Rattle.session_state.specs.declared.session.State.{State}
 use Rattle.session_state.specs.declared.session.State.TheVariants.{Ready, Playing, Recording}
 use Rattle.session_state.specs.Checks.{Asked, LooksUp}
 use Rattle.session_state.specs.History.{History}
-use Rattle.session_state.specs.Legal.{IsAnswered, IsLegal, IsReplyOf, IsSameAct}
-use Rattle.session_state.specs.Replies.{IsAccepted, IsPlayAct, IsPlayed}
+use Rattle.session_state.specs.Legal.{IsAnswered, IsExpiry, IsLegal, IsReplyOf, IsSameAct}
+use Rattle.session_state.specs.Replies.{IsAccepted, IsPlayAct, IsPlayed, teardown_act}
 use Rattle.session_state.proofs.AnyList.{answered_too, listing}
 use Rattle.session_state.proofs.OneReply.{no_both, one_reply}
 use Rattle.session_state.proofs.OneSession.{one_session_of}
@@ -75,3 +75,8 @@ module _ (seats : ℕ) (history : History) (conn : ℕ) (request : messages.Requ
 
   pub one_legal_act : IsSameAct act behind
   one_legal_act = one_act (listing seats history conn request a.session a.mounts) a.looks_up legal given one other act behind a.answered second
+
+pub one_expiry : (seats : ℕ) (history : History) (conn heard now other later : ℕ) (act behind : Act) → IsLegal seats history → IsExpiry seats history conn heard now act
+    → IsExpiry seats history conn other later behind → act ≡ behind
+one_expiry seats history conn heard now other later act behind legal a b =
+    a.does ∙ ap teardown_act (one_session_of seats conn history legal (Some a.session) (Some b.session) a.has b.has) ∙ sym b.does

@@ -5,7 +5,7 @@ use Rattle.std.proofs.lemmas.Bool.{eq-eqb, eqb-true}
 use Rattle.mounts.specs.Different.{AreDifferent}
 use Rattle.mounts.proofs.Differing.{unequal}
 use Rattle.session_state.specs.declared.act.Act.{Act}
-use Rattle.session_state.specs.declared.entry.Entry.TheVariants.{Connect, Request, HangUp, Back}
+use Rattle.session_state.specs.declared.entry.Entry.TheVariants.{Connect, Request, HangUp, Back, Expire}
 use Rattle.session_state.specs.History.{History, how_many, is_hang_up}
 use Rattle.session_state.specs.Legal.{Comes, IsHangUp, IsLegal}
 use Rattle.session_state.specs.Lookups.{AreOpen, came, is_open, open_count}
@@ -13,10 +13,10 @@ use Rattle.session_state.proofs.Among.{among, among_some, each_filtered, some_am
 use Rattle.session_state.proofs.Strangers.{after, open_came}
 
 -- the others of some connections
-abbrev left : ℕ → List ℕ → List ℕ
+abbrev pub left : ℕ → List ℕ → List ℕ
 left who conns = filter (λ one. not (one == who)) conns
 
-among_left : (who conn : ℕ) (conns : List ℕ) → among conn (left who conns) ≡ cond (who == conn) false (among conn conns)
+pub among_left : (who conn : ℕ) (conns : List ℕ) → among conn (left who conns) ≡ cond (who == conn) false (among conn conns)
 among_left who conn [] = by (who == conn)
   where
     by : (same : Bool) → false ≡ cond same false false
@@ -41,6 +41,24 @@ among_left who conn (one ∷ others) = by (one == who) refl (among_left who conn
         → among conn (cond (not gone) (one ∷ left who others) (left who others)) ≡ cond (who == conn) false (cond (one == conn) true (among conn others))
     by true gone later = later ∙ of (who == conn) (ap (λ n. n == conn) (eqb-true one who gone))
     by false kept later = on kept later (one == conn) refl
+
+-- who is among some is one of them less
+pub fewer_left : (who : ℕ) (conns : List ℕ) → among who conns ≡ true → length (left who conns) + 1 ≤ length conns
+fewer_left who [] is = absurd (cc)
+fewer_left who (one ∷ others) is = by (one == who) is (fewer_left who others) (no_more others)
+  where
+    no_more : (all : List ℕ) → length (left who all) ≤ length all
+    no_more [] = omega arith
+    no_more (x ∷ xs) = of (x == who) (no_more xs)
+      where
+        of : (gone : Bool) → length (left who xs) ≤ length xs → length (cond (not gone) (x ∷ left who xs) (left who xs)) ≤ suc (length xs)
+        of true few = omega (arith, few)
+        of false few = omega (arith, few)
+
+    by : (gone : Bool) → cond gone true (among who others) ≡ true → (among who others ≡ true → length (left who others) + 1 ≤ length others) → length (left who others) ≤ length others
+        → length (cond (not gone) (one ∷ left who others) (left who others)) + 1 ≤ suc (length others)
+    by true is later few = omega (arith, few)
+    by false is later few = let less = later is in omega (arith, less)
 
 all_left : (who : ℕ) (conns : List ℕ) → AllByRecursion (λ one. one ≢ who) conns → left who conns ≡ conns
 all_left who [] none = refl
@@ -108,6 +126,7 @@ all_open seats (Connect who ∷ before) legal = let (conns, are) = all_open seat
 all_open seats (Request who request given reply act ∷ before) legal = let (conns, are) = all_open seats before legal.0 in (conns, record { each = are.each; once = are.once; gone = are.gone })
 all_open seats (HangUp who act ∷ before) legal = let (conns, are) = all_open seats before legal.0 in (left who conns, goes seats before who act conns legal.1 are)
 all_open seats (Back mount seat ∷ before) legal = let (conns, are) = all_open seats before legal.0 in (conns, record { each = are.each; once = are.once; gone = are.gone })
+all_open seats (Expire who heard now act ∷ before) legal = let (conns, are) = all_open seats before legal.0 in (conns, record { each = are.each; once = are.once; gone = are.gone })
 
 pub counted : (seats : ℕ) (history : History) → IsLegal seats history → (conns : List ℕ) × AreOpen history conns × (length conns ≡ open_count history)
 counted seats history legal =
@@ -127,3 +146,4 @@ few_open seats (Connect who ∷ before) legal = let few = legal.1.few in omega (
 few_open seats (Request who request given reply act ∷ before) legal = few_open seats before legal.0
 few_open seats (HangUp who act ∷ before) legal = let few = few_open seats before legal.0 in omega (arith, few)
 few_open seats (Back mount seat ∷ before) legal = few_open seats before legal.0
+few_open seats (Expire who heard now act ∷ before) legal = few_open seats before legal.0

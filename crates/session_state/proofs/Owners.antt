@@ -2,11 +2,11 @@
 use Rattle.std.proofs.Common.{◌≡◌, ℕ, ◌+◌, true, false, [], ◌∷◌, ◌++◌, ◌⊎◌, inl, inr, ap, sym, subst, ◌∙◌}
 use Rattle.std.specs.List.{AllByRecursion}
 use Rattle.session_state.specs.declared.entry.Entry.{Entry}
-use Rattle.session_state.specs.declared.entry.Entry.TheVariants.{Connect, Request, HangUp, Back}
+use Rattle.session_state.specs.declared.entry.Entry.TheVariants.{Connect, Request, HangUp, Back, Expire}
 use Rattle.session_state.specs.Methods.{is_announce}
 use Rattle.session_state.specs.History.{History, accepts, accepts_from, how_many}
 use Rattle.session_state.specs.Legal.{Follows, IsLegal}
-use Rattle.session_state.specs.Streams.{IsLive, ends_of}
+use Rattle.session_state.specs.Streams.{IsLive, ends_mount_of}
 use Rattle.session_state.proofs.Announced.{owned_none}
 use Rattle.session_state.proofs.Coming.{none_lives}
 
@@ -18,7 +18,7 @@ pub record IsNewest (before : History) (entry : Entry) (number owner : ℕ) : Ty
 pub newest_or_earlier : (before : History) (entry : Entry) (number owner : ℕ) → IsLive (entry ∷ before) number owner → IsNewest before entry number owner ⊎ IsLive before number owner
 newest_or_earlier before entry number owner live = by live.later live.nth.cut live.unended
   where
-    by : (later : History) → entry ∷ before ≡ later ++ live.moment.entry ∷ live.moment.before → AllByRecursion (λ e. ends_of owner e ≡ false) later → IsNewest before entry number owner ⊎ IsLive before number owner
+    by : (later : History) → entry ∷ before ≡ later ++ live.moment.entry ∷ live.moment.before → AllByRecursion (λ e. ends_mount_of owner e ≡ false) later → IsNewest before entry number owner ⊎ IsLive before number owner
     by [] cut none =
         let same : live.moment.entry ≡ entry = cc in
         let rest : live.moment.before ≡ before = cc in
@@ -33,6 +33,7 @@ first seats before (Request who request given reply act) owner number follows an
 first seats before (Connect who) owner number follows announces live = absurd (cc)
 first seats before (HangUp who act) owner number follows announces live = absurd (cc)
 first seats before (Back mount seat) owner number follows announces live = absurd (cc)
+first seats before (Expire who heard now act) owner number follows announces live = absurd (cc)
 
 pub owns_one : (seats : ℕ) (history : History) (owner number other : ℕ) → IsLegal seats history → IsLive history number owner → IsLive history other owner → number ≡ other
 owns_one seats [] owner number other legal one two = absurd (none_lives number owner one)

@@ -8,7 +8,7 @@ use Rattle.session_state.specs.declared.act.Act.{Act}
 use Rattle.session_state.specs.declared.act.Act.TheVariants as acts
 use Rattle.session_state.specs.declared.given.Given.{Given}
 use Rattle.session_state.specs.declared.entry.Entry.{Entry}
-use Rattle.session_state.specs.declared.entry.Entry.TheVariants.{Connect, Request, HangUp, Back}
+use Rattle.session_state.specs.declared.entry.Entry.TheVariants.{Connect, Request, HangUp, Back, Expire}
 use Rattle.session_state.specs.declared.method.Method.{Method}
 use Rattle.session_state.specs.declared.method.Method.TheVariants as methods
 use Rattle.session_state.specs.declared.session.Session.{Session}
@@ -113,6 +113,7 @@ module _ (mount seat : ℕ) where
   out_below seats [] legal out = absurd (cc)
   out_below seats (Connect who ∷ before) legal out = out_below seats before legal.0 out
   out_below seats (HangUp who act ∷ before) legal out = out_below seats before legal.0 out
+  out_below seats (Expire who heard now act ∷ before) legal out = out_below seats before legal.0 out
   out_below seats (Request who request given reply act ∷ before) legal out =
       moved seats before (Request who request given reply act) (is_play_of mount seat act) (λ is plays. (plays_free seats before who request given reply act legal.1 plays).few) (out_below seats before legal.0) out
   out_below seats (Back of given ∷ before) legal out = moved seats before (Back of given) (of == mount && given == seat) (λ is plays. absurd (cc)) (out_below seats before legal.0) out

@@ -20,7 +20,7 @@ use Rattle.session_state.specs.Checks.{Asked}
 use Rattle.session_state.specs.Legal.{IsAnswered, IsReplyOf}
 use Rattle.session_state.specs.Lookups.{IsSessionOf, has_session, sessions_begun}
 use Rattle.session_state.specs.Replies.{IsAccepted}
-use Rattle.session_state.specs.Streams.{AreLive, ends_of, is_out, takes_or_gives_back}
+use Rattle.session_state.specs.Streams.{AreLive, ends_mount_of, is_out, takes_or_gives_back}
 use Rattle.session_state.proofs.Living.{each_of, mounts_still, out_still}
 use Rattle.session_state.proofs.Parts.{part_still, session_still}
 
@@ -62,7 +62,7 @@ module _ (seats : ℕ) (before : History) (conn : ℕ) (request : messages.Reque
 
   pub keeps_mounts : (mounts : List Mount) → AreLive seats before mounts → AreLive seats (Request conn request given reply act ∷ before) mounts
   keeps_mounts mounts are =
-      mounts_still seats before entry mounts (record { plain = accepts_none is_announce; seats = moves_none }) (each_of (λ mount. ends_of mount.owner entry ≡ false) mounts (λ mount. accepts_none_from mount.owner is_teardown)) are
+      mounts_still seats before entry mounts (record { plain = accepts_none is_announce; seats = moves_none }) (each_of (λ mount. ends_mount_of mount.owner entry ≡ false) mounts (λ mount. accepts_none_from mount.owner is_teardown)) are
 
   pub keeps_sessions : (who : ℕ) (session : Option Session) → IsSessionOf seats who before session → IsSessionOf seats who (Request conn request given reply act ∷ before) session
   keeps_sessions who session so = session_still seats who before (entry ∷ before) session (part_still who entry before (accepts_none_from who is_teardown) (accepts_none_from who moves)) so

@@ -68,7 +68,7 @@ module _ (tables : Tables) (history : History) (stands : Stands history tables) 
 
   pub first_told : session_kept tables conn ≡ None → GivesFirst specs (tables.begun + 1) given.word mount track request (mount.owner == conn) reply change → SetsUpBy (asked_of tables history conn request) given reply change
   first_told has (gives, is) =
-      let begun = ap (λ n. n + 1) stands.begun_is in
+      let begun = ap (λ n. n + 1) stands.recalls.begun_is in
       told None has (identifier_text (tables.begun + 1) given.word) gives (ap (λ n. identifier_text n given.word) begun)
       (is ∙ ap (λ n. changes.Begin (record { number = n; word = given.word; mount = mount.number; name = mount.name; recording = mount.owner == conn; channels = slice_set (replicate 16 None) track (Some (pair_of gives.chosen)); state = Ready })) begun
       ∙ ap (λ (m : Mount). changes.Begin (record { number = sessions_begun history + 1; word = given.word; mount = m.number; name = m.name; recording = m.owner == conn; channels = slice_set (replicate 16 None) track (Some (pair_of gives.chosen)); state = Ready })) same_mount)

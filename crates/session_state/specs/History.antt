@@ -1,10 +1,10 @@
 -- A history: all that has happened, one entry after another, read from the newest back. Look-ups in it are made of the few
 -- words here.
-use Rattle.std.specs.Prelude.{◌≡◌, ℕ, suc, ◌+◌, ◌==◌, ◌&&◌, Bool, true, false, if◌then◌else◌, List, [], ◌∷◌, ◌++◌, ◌⊎◌, Option, None, Some, find}
+use Rattle.std.specs.Prelude.{◌≡◌, ℕ, suc, ◌+◌, ◌==◌, ◌&&◌, max, Bool, true, false, if◌then◌else◌, List, [], ◌∷◌, ◌++◌, ◌⊎◌, Option, None, Some, find}
 use Rattle.std.specs.Option.{option_map, option_map_or}
 use Rattle.rtsp_message.specs.Reply.{code_of}
 use Rattle.session_state.specs.declared.entry.Entry.{Entry}
-use Rattle.session_state.specs.declared.entry.Entry.TheVariants.{Connect, Request, HangUp, Back}
+use Rattle.session_state.specs.declared.entry.Entry.TheVariants.{Connect, Request, HangUp, Back, Expire}
 use Rattle.session_state.specs.declared.act.Act.{Act}
 use Rattle.session_state.specs.declared.act.Act.TheVariants as acts
 use Rattle.session_state.specs.declared.method.Method.{Method}
@@ -50,6 +50,7 @@ accepted (Request conn request given reply act) = if code_of reply.status == 200
 accepted (Connect conn) = None
 accepted (HangUp conn act) = None
 accepted (Back mount seat) = None
+accepted (Expire conn heard now act) = None
 
 -- an accepted request of such a method, of any connection, and of this one
 abbrev pub accepts : (Method → Bool) → Entry → Bool
@@ -69,6 +70,15 @@ is_connect entry = false
 abbrev pub is_hang_up : Entry → Bool
 is_hang_up (HangUp who act) = true
 is_hang_up entry = false
+
+-- the moment that was handed in with a request of a connection, and the greatest of those; 0 where there is none
+abbrev pub heard_by : ℕ → Entry → ℕ
+heard_by conn (Request who request given reply act) = if who == conn then given.now else 0
+heard_by conn entry = 0
+
+abbrev pub last_heard : ℕ → History → ℕ
+last_heard conn [] = 0
+last_heard conn (entry ∷ before) = max (heard_by conn entry) (last_heard conn before)
 
 -- the act that a request was answered with
 abbrev pub act_of : Entry → Act

@@ -1,5 +1,5 @@
 -- Which histories are legal: each entry is so related to those before it.
-use Rattle.std.specs.Prelude.{◌≡◌, ℕ, ◌+◌, ◌^◌, ◌<◌, ◌≤◌, true, List, [], ◌∷◌, ◌⊎◌, Option, None, Some}
+use Rattle.std.specs.Prelude.{◌≡◌, ℕ, ◌+◌, ◌^◌, max, ◌<◌, ◌≤◌, true, List, [], ◌∷◌, ◌⊎◌, Option, None, Some}
 use Rattle.rtsp_message.specs.declared.request.Request as messages
 use Rattle.rtsp_message.specs.declared.reply.Reply.{Reply}
 use Rattle.mounts.specs.declared.mount.Mount.{Mount}
@@ -8,16 +8,16 @@ use Rattle.session_state.specs.declared.act.Act.{Act}
 use Rattle.session_state.specs.declared.act.Act.TheVariants as acts
 use Rattle.session_state.specs.declared.given.Given.{Given}
 use Rattle.session_state.specs.declared.entry.Entry.{Entry}
-use Rattle.session_state.specs.declared.entry.Entry.TheVariants.{Connect, Request, HangUp, Back}
+use Rattle.session_state.specs.declared.entry.Entry.TheVariants.{Connect, Request, HangUp, Back, Expire}
 use Rattle.session_state.specs.declared.checks.Check.{Check}
 use Rattle.session_state.specs.declared.method.Method.{Method}
 use Rattle.session_state.specs.declared.session.Session.{Session}
 use Rattle.session_state.specs.Methods.{method_of}
-use Rattle.session_state.specs.History.{History}
-use Rattle.session_state.specs.Lookups.{IsSessionOf, came, is_open, open_count}
+use Rattle.session_state.specs.History.{History, last_heard}
+use Rattle.session_state.specs.Lookups.{IsSession, IsSessionOf, came, is_open, open_count}
 use Rattle.session_state.specs.Streams.{AreLive, IsLive, is_out}
 use Rattle.session_state.specs.Checks.{Asked, FailsFirst, LooksUp, PassesAll, checks_of}
-use Rattle.session_state.specs.Replies.{IsAccepted, pause_act, refusal}
+use Rattle.session_state.specs.Replies.{IsAccepted, pause_act, refusal, teardown_act}
 
 -- The reply to a request: the first check that it doesn't pass decides; where it passes all, it is accepted.
 abbrev pub IsRefusedBy : Asked → Reply → Act → Type 0
@@ -70,12 +70,22 @@ pub record IsBack (history : History) (mount seat : ℕ) : Type 0 where
   pub live : IsLive history mount owner
   pub out : is_out mount seat history ≡ true
 
+-- A session expires: at a moment that is 60 seconds or more after its connection was last heard, by a request or otherwise
+-- (RFC 2326, 12.37). What its connection then has to do is what a TEARDOWN would tell it.
+pub record IsExpiry (seats : ℕ) (history : History) (conn heard now : ℕ) (act : Act) : Type 0 where
+  pub is_there : is_open conn history ≡ true
+  pub session : Session
+  pub has : IsSession seats conn history session
+  pub late : max (last_heard conn history) heard + 60000 ≤ now
+  pub does : act ≡ teardown_act (Some session)
+
 -- what may come next
 abbrev pub Follows : (seats : ℕ) → History → Entry → Type 0
 Follows seats history (Connect conn) = Comes history conn
 Follows seats history (Request conn request given reply act) = IsReplyOf seats history conn request given reply act
 Follows seats history (HangUp conn act) = IsHangUp seats history conn act
 Follows seats history (Back mount seat) = IsBack history mount seat
+Follows seats history (Expire conn heard now act) = IsExpiry seats history conn heard now act
 
 -- a legal history, of a server whose mounts have so many seats
 abbrev pub IsLegal : (seats : ℕ) → History → Type 0

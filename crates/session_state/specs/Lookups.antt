@@ -44,8 +44,8 @@ pub record AreOpen (history : History) (conns : List ℕ) : Type 0 where
   pub each : (conn : ℕ) → Contains conns conn ↔ (is_open conn history ≡ true)
   pub once : AreDifferent conns
 
--- what a connection's session goes by: the accepted SETUP, PLAY, RECORD and PAUSE since its last TEARDOWN or hang-up, newest
--- first
+-- what a connection's session goes by: the accepted SETUP, PLAY, RECORD and PAUSE since its last TEARDOWN, expiry or hang-up,
+-- newest first
 abbrev pub session_part : (conn : ℕ) → History → List Moment
 session_part conn history = filter (λ moment. accepts_from conn moves moment.entry) (since_last (ends_of conn) history)
 
@@ -113,8 +113,8 @@ abbrev pub AreChannels : (seats conn : ℕ) → List Moment → (track : ℕ) �
 AreChannels seats conn moments track pair =
     (last : Option Moment) × IsLast (λ moment. (mount : Mount) × SetUpAt seats conn mount track moment) moments last × ToldLast last pair
 
--- The session of a connection: it began with the first SETUP since the connection's last TEARDOWN or hang-up, on the mount
--- that this named; it is for recording where the connection owned that mount. It has up to sixteen tracks.
+-- The session of a connection: it began with the first SETUP since the connection's last TEARDOWN, expiry or hang-up, on the
+-- mount that this named; it is for recording where the connection owned that mount. It has up to sixteen tracks.
 pub record IsSession (seats : ℕ) (conn : ℕ) (history : History) (session : Session) : Type 0 where
   pub begin : Moment
   pub first : beginning conn (session_part conn history) ≡ Some begin

@@ -17,8 +17,9 @@ use Rattle.mounts.specs.Names.{GoesOn}
 use Rattle.mounts.specs.Tracks.{IsNamedBy}
 use Rattle.mounts.specs.Uri.{IsUri}
 use Rattle.session_state.specs.declared.entry.Entry.{Entry}
-use Rattle.session_state.specs.declared.entry.Entry.TheVariants.{Request, HangUp, Back}
+use Rattle.session_state.specs.declared.entry.Entry.TheVariants.{Request, HangUp, Back, Expire}
 use Rattle.session_state.specs.declared.act.Act.{Act}
+use Rattle.session_state.specs.declared.act.Act.TheVariants as acts
 use Rattle.session_state.specs.declared.given.Given.{Given}
 use Rattle.session_state.specs.Methods.{is_announce, is_teardown}
 use Rattle.session_state.specs.History.{History, Moment, IsNth, last_of, accepts, accepts_from, act_of, is_play_of}
@@ -39,10 +40,20 @@ pub record Announces (entry : Entry) (owner : ℕ) (name : List ℕ) (descriptio
   pub path : target.path ≡ name
   pub body : Reads asks.request.body description
 
--- A connection's mount and its session end when it hangs up, and at its accepted TEARDOWN.
+-- A connection's session ends when it hangs up, at its accepted TEARDOWN, and when it expires.
 abbrev pub ends_of : ℕ → Entry → Bool
-ends_of owner (HangUp who act) = who == owner
-ends_of owner entry = accepts_from owner is_teardown entry
+ends_of conn (HangUp who act) = who == conn
+ends_of conn (Expire who heard now act) = who == conn
+ends_of conn entry = accepts_from conn is_teardown entry
+
+-- Its mount ends then, too; where the session expires, by its act.
+abbrev pub is_end : Act → Bool
+is_end acts.End = true
+is_end act = false
+
+abbrev pub ends_mount_of : ℕ → Entry → Bool
+ends_mount_of owner (Expire who heard now act) = who == owner && is_end act
+ends_mount_of owner entry = ends_of owner entry
 
 -- The mount of a number lives: it is the accepted ANNOUNCE with so many up to it, of this connection, and nothing later has
 -- ended it.
@@ -51,7 +62,7 @@ pub record IsLive (history : History) (number owner : ℕ) : Type 0 where
   pub moment : Moment
   pub nth : IsNth (accepts is_announce) number history later moment
   pub owned : accepts_from owner is_announce moment.entry ≡ true
-  pub unended : AllByRecursion (λ entry. ends_of owner entry ≡ false) later
+  pub unended : AllByRecursion (λ entry. ends_mount_of owner entry ≡ false) later
 
 -- whether a seat of a mount is out: the last that took it or gave it back took it
 abbrev pub takes_or_gives_back : (mount seat : ℕ) → Entry → Bool

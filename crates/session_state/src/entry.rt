@@ -27,4 +27,12 @@ pub enum Entry {
         mount: u64,
         seat: usize,
     },
+    /// A connection's session had expired at the moment `now`; `heard` is a moment at which the connection was last heard
+    /// otherwise than by a request. Moments are milliseconds.
+    Expire {
+        conn: u64,
+        heard: u64,
+        now: u64,
+        act: Act,
+    },
 }

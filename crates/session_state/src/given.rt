@@ -12,6 +12,8 @@ pub struct Given {
     /// Where the packets of each track of the session's mount stand, by the track's number (RFC 2326, 12.33). A track
     /// that has no place here has no point.
     pub points: Items<Option<Point>>,
+    /// The moment at which the request came, in milliseconds: by it a session expires (RFC 2326, 12.37).
+    pub now: u64,
 }
 
 impl Given {
@@ -19,11 +21,12 @@ impl Given {
 
     /// A copy, or out of memory.
     pub fn copy(&self, alloc: Global) -> Result<Given, AllocError>
-        ensures { IfOk result (λ copied. copied ≡ self.now) }
+        ensures { IfOk result (λ copied. copied ≡ self.entry.now) }
     {
         Ok(Given {
             word: self.word,
             points: Items::new(Vec::from_slice(alloc, self.points.as_slice())?),
+            now: self.now,
         })
     }
 }

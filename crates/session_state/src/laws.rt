@@ -16,7 +16,7 @@ ghost use Rattle.session_state.specs.declared.session.Session.{Session};
 ghost use Rattle.session_state.specs.declared.session.State.TheVariants.{Ready};
 ghost use Rattle.session_state.specs.History.{History, accepts, accepts_from, how_many};
 ghost use Rattle.session_state.specs.Checks.{Asked, LooksUp};
-ghost use Rattle.session_state.specs.Legal.{IsAnswered, IsLegal, IsReplyOf, IsSameAct};
+ghost use Rattle.session_state.specs.Legal.{IsAnswered, IsExpiry, IsLegal, IsReplyOf, IsSameAct};
 ghost use Rattle.session_state.specs.Lookups.{AreOpen, IsSession, IsSessionOf, came, has_session, is_open, open_count, sessions_begun};
 ghost use Rattle.session_state.specs.Methods.{is_announce, method_of, moves};
 ghost use Rattle.session_state.specs.Streams.{AreLive, IsLiveMount, ends_of, is_out};
@@ -56,7 +56,7 @@ pub fn refusals_change_nothing()
 {}
 
 /// A connection's session, and with it its state, changes only by its own accepted SETUP, PLAY, RECORD, PAUSE and TEARDOWN,
-/// and by its hang-up (RFC 2326, A.2).
+/// by its hang-up, and when it expires (RFC 2326, A.2 and 12.37).
 pub fn sessions_change_by_their_own()
     ensures { (seats conn : ℕ) (before : History) (entry : Entry) (session : Option Session) → ends_of conn entry ≡ false → accepts_from conn moves entry ≡ false
         → IsSessionOf seats conn before session → IsSessionOf seats conn (entry ∷ before) session }
@@ -123,10 +123,11 @@ pub fn one_reply()
 {}
 
 /// A legal history determines what a request is answered: two answers to it that are legal have one reply, and one act but for
-/// the seat, of those that are free, that a PLAY takes.
+/// the seat, of those that are free, that a PLAY takes. It determines the act of an expiry, too.
 pub fn one_answer()
     ensures reply { (seats : ℕ) (history : History) (conn : ℕ) (request : messages.Request) (given : Given) (one other : Reply) (act behind : Act) → IsLegal seats history
         → IsReplyOf seats history conn request given one act → IsReplyOf seats history conn request given other behind → one ≡ other }
     ensures act { (seats : ℕ) (history : History) (conn : ℕ) (request : messages.Request) (given : Given) (one other : Reply) (act behind : Act) → IsLegal seats history
         → IsReplyOf seats history conn request given one act → IsReplyOf seats history conn request given other behind → IsSameAct act behind }
+    ensures expiry { (seats : ℕ) (history : History) (conn heard now other later : ℕ) (act behind : Act) → IsLegal seats history → IsExpiry seats history conn heard now act → IsExpiry seats history conn other later behind → act ≡ behind }
 {}

@@ -1,17 +1,20 @@
 //! What a server remembers to decide, and the calls that decide: `judging` finds the answer, of what `checks` and `replies`
 //! say, with its `change`, and `applying` carries that out.
-ghost use Rattle.std.specs.Prelude.{◌≡◌, ◌≤◌, ◌<◌, ◌+◌, ◌^◌, ◌∷◌, [], true, false, length, MatchBool, IfOk, OnErr, IfErr, List};
+ghost use Rattle.std.specs.Prelude.{◌≡◌, ◌≤◌, ◌<◌, ◌+◌, ◌^◌, ◌∷◌, [], true, false, length, MatchBool, IfOk, IfSome, IfNone, OnErr, IfErr, List, None};
 
 mod applying;
 mod change;
+mod connection;
+mod expiring;
 mod judging;
 
 use crate::act::Act;
 use crate::decision::Decision;
 use crate::fault::ConnectFault;
 use crate::given::Given;
-use crate::session::{Session, State, copy_session};
+use crate::session::{Session, State};
 pub(crate) use change::Change;
+pub(crate) use connection::Connection;
 use mounts::Mounts;
 use rtsp_message::{Reply, Request};
 use std::alloc::{AllocError, Global};
@@ -27,7 +30,7 @@ pub const MAX_CONNECTIONS: usize = 1024;
 #[derive(Drop)]
 pub struct World {
     pub(crate) mounts: Mounts,
-    pub(crate) connections: BTreeMap<u64, Option<Session>>,
+    pub(crate) connections: BTreeMap<u64, Connection>,
     pub(crate) came: u64,
     pub(crate) begun: u32,
 }
@@ -127,7 +130,11 @@ impl World {
             return Err(ConnectFault::Full);
         }
         let number = self.came + 1;
-        self.connections.insert(number, None)?;
+        let connection = Connection {
+            session: None,
+            heard: 0,
+        };
+        self.connections.insert(number, connection)?;
         self.came = number;
         Ok(number)
     }
@@ -147,13 +154,14 @@ impl World {
     ) -> Result<(Reply, Act), AllocError>
         requires open { IsSome (kept_of conn self.old.connections) }
         ensures ok { IfOk result (λ r. (history : History) → IsLegal self.old.mounts.seats history → Stands history self.old
-            → IsReplyOf self.old.mounts.seats history conn request.now given.now r.0 r.1 × Stands (entries.Request conn request.now given.now r.0 r.1 ∷ history) self.new) }
-        ensures reply { IfOk result (λ r. (history : History) → IsLegal self.old.mounts.seats history → Stands history self.old → IsReplyIn self.old history conn request.now given.now r.0) }
+            → IsReplyOf self.old.mounts.seats history conn request.now given.entry.now r.0 r.1 × Stands (entries.Request conn request.now given.entry.now r.0 r.1 ∷ history) self.new) }
+        ensures reply { IfOk result (λ r. (history : History) → IsLegal self.old.mounts.seats history → Stands history self.old → IsReplyIn self.old history conn request.now given.entry.now r.0) }
         ensures err { OnErr result (self.new ≡ self.old) }
         ensures seats { self.new.mounts.seats ≡ self.old.mounts.seats }
     {
         let (reply, change) = self.judge(alloc, conn, request, given)?;
         let act = self.apply(conn, change)?;
+        self.hear(conn, given.now);
         Ok((reply, act))
     }
 
@@ -167,9 +175,9 @@ impl World {
     ) -> Result<Decision, AllocError>
         requires open { IsSome (kept_of conn self.old.connections) }
         ensures ok { IfOk result (λ decision. (history : History) → IsLegal self.old.mounts.seats history → Stands history self.old
-            → IsReplyOf self.old.mounts.seats history conn request.now given.now decision.reply decision.act
-            × Stands (entries.Request conn request.now given.now decision.reply decision.act ∷ history) self.new) }
-        ensures reply { IfOk result (λ decision. (history : History) → IsLegal self.old.mounts.seats history → Stands history self.old → IsReplyIn self.old history conn request.now given.now decision.reply) }
+            → IsReplyOf self.old.mounts.seats history conn request.now given.entry.now decision.reply decision.act
+            × Stands (entries.Request conn request.now given.entry.now decision.reply decision.act ∷ history) self.new) }
+        ensures reply { IfOk result (λ decision. (history : History) → IsLegal self.old.mounts.seats history → Stands history self.old → IsReplyIn self.old history conn request.now given.entry.now decision.reply) }
         ensures copy { IfOk result (λ decision. decision.copy ≡ decision.reply) }
         ensures err { OnErr result (self.new ≡ self.old) }
         ensures seats { self.new.mounts.seats ≡ self.old.mounts.seats }
@@ -177,6 +185,7 @@ impl World {
         let (reply, change) = self.judge(alloc, conn, request, given)?;
         let copy = reply.copy(alloc)?;
         let act = self.apply(conn, change)?;
+        self.hear(conn, given.now);
         Ok(Decision { reply, copy, act })
     }
 
@@ -189,7 +198,7 @@ impl World {
         given: &Given,
     ) -> Result<Reply, AllocError>
         requires open { IsSome (kept_of conn self.now.connections) }
-        ensures { IfOk result (λ reply. (history : History) → IsLegal self.now.mounts.seats history → Stands history self.now → IsReplyIn self.now history conn request.now given.now reply) }
+        ensures { IfOk result (λ reply. (history : History) → IsLegal self.now.mounts.seats history → Stands history self.now → IsReplyIn self.now history conn request.now given.entry.now reply) }
     {
         let (reply, _) = self.judge(alloc, conn, request, given)?;
         Ok(reply)
@@ -199,7 +208,7 @@ impl World {
     pub fn session_of(&self, conn: u64) -> Option<&Session>
         ensures { option_copied result ≡ session_kept self.now conn }
     {
-        self.connections.get(&conn)?.as_ref()
+        self.connections.get(&conn)?.session.as_ref()
     }
 
     /// The number of the mount of a connection's session.
@@ -217,7 +226,7 @@ impl World {
         ensures unknown { (history : History) → Stands history self.old → is_open conn history ≡ false → (result ≡ acts.None) × (self.new ≡ self.old) }
         ensures seats { self.new.mounts.seats ≡ self.old.mounts.seats }
     {
-        let Some(session) = self.connections.remove(&conn) else {
+        let Some(connection) = self.connections.remove(&conn) else {
             return Act::None;
         };
         if let Some(mount) = self.mounts.owned_by(conn) {
@@ -225,7 +234,7 @@ impl World {
             self.mounts.end(number);
             return Act::End;
         }
-        seat_given_up(session.as_ref())
+        seat_given_up(connection.session.as_ref())
     }
 
     /// Gives back a seat of a mount. `false`, and nothing changes, where no such mount lives or the seat isn't out. Takes no
@@ -242,13 +251,13 @@ impl World {
 /// A copy of the open connections with their sessions.
 fn copy_connections(
     alloc: Global,
-    connections: &BTreeMap<u64, Option<Session>>,
-) -> Result<BTreeMap<u64, Option<Session>>, AllocError>
+    connections: &BTreeMap<u64, Connection>,
+) -> Result<BTreeMap<u64, Connection>, AllocError>
     ensures { IfOk result (λ copied. copied.entries ≡ connections.now.entries) }
 {
     let mut copied = BTreeMap::new(alloc);
-    for (conn, session) in connections {
-        copied.insert(*conn, copy_session(alloc, session)?)?;
+    for (conn, connection) in connections {
+        copied.insert(*conn, connection.copy(alloc)?)?;
     }
     Ok(copied)
 }

@@ -14,11 +14,12 @@ fn request_of(alloc: Global, text: &[u8]) -> Option<Request> {
     }
 }
 
-/// This word, and no point.
+/// This word, no point, and the moment 0.
 pub(crate) fn given_word(alloc: Global, word: u32) -> Given {
     Given {
         word,
         points: Items::empty(alloc),
+        now: 0,
     }
 }
 

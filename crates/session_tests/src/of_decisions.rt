@@ -36,9 +36,11 @@ fn what_was_handed_in_is_copied(rt: HostRuntime) -> Result<(), Fail> {
     let given = Given {
         word: 0x0000_abcd,
         points: Items::new(points),
+        now: 61_000,
     };
     let copied = given.copy(alloc)?;
     assert_eq!(rt; copied.word, 0x0000_abcd);
     assert!(rt; copied.points.as_slice() == given.points.as_slice());
+    assert_eq!(rt; copied.now, 61_000);
     Ok(())
 }

@@ -2,6 +2,7 @@
 use clap::Error;
 use relay_command::{Asked, Settings, Task, exit_code, read_words, task_named};
 use relay_talk::{NoWords, WordSource, word_source};
+use ring_steps::Actor;
 use std::alloc::Global;
 use std::process::{Abort, ExitCode};
 use std::test::Fail;
@@ -13,7 +14,9 @@ const DEFAULTS: Settings = Settings {
     packet_bytes: 16_384,
     accept: None,
     gather: 5,
+    back: 0,
     hang_up_ended: false,
+    writers: None,
     is_verbose: false,
 };
 
@@ -40,26 +43,30 @@ fn settings(alloc: Global, line: &str) -> Result<Option<Settings>, Fail> {
 const ACCEPTED: [(&str, Settings); 9] = [
     ("relay serve 127.0.0.1:8554", DEFAULTS),
     (
-        "relay serve a --keep 1 --seats 1 --packet-bytes 12 --accept 1 --gather 0",
+        "relay serve a --keep 1 --seats 1 --packet-bytes 12 --accept 1 --gather 0 --back 0 --writers 0",
         Settings {
             keep: 1,
             seats: 1,
             packet_bytes: 12,
             accept: Some(1),
             gather: 0,
+            back: 0,
             hang_up_ended: false,
+            writers: Some(0),
             is_verbose: false,
         },
     ),
     (
-        "relay serve --keep 4095 --seats 1024 --packet-bytes 65535 --accept 18446744073709551615 --gather 100 --hang-up-ended --verbose a",
+        "relay serve --keep 4095 --seats 1024 --packet-bytes 65535 --accept 18446744073709551615 --gather 100 --back 4095 --hang-up-ended --writers 64 --verbose a",
         Settings {
             keep: 4095,
             seats: 1024,
             packet_bytes: 65_535,
             accept: Some(18_446_744_073_709_551_615),
             gather: 100,
+            back: 4095,
             hang_up_ended: true,
+            writers: Some(64),
             is_verbose: true,
         },
     ),
@@ -116,7 +123,7 @@ fn a_server_does_what_its_line_says(rt: HostRuntime) -> Result<(), Fail> {
 }
 
 /// Lines of `serve` that are refused: no address, two of them, a number that is out of its range or none.
-const REFUSED: [&str; 17] = [
+const REFUSED: [&str; 19] = [
     "relay serve",
     "relay serve a b",
     "relay serve a --keep 0",
@@ -131,6 +138,8 @@ const REFUSED: [&str; 17] = [
     "relay serve a --gather 101",
     "relay serve a --gather -1",
     "relay serve a --hang-up-ended yes",
+    "relay serve a --back 4096",
+    "relay serve a --writers 65",
     "relay serve a --verbose yes",
     "relay serve a --keep 1 --keep 2",
     "relay serve a --unknown",
@@ -145,12 +154,15 @@ fn a_line_out_of_range_is_refused(rt: HostRuntime) -> Result<(), Fail> {
 }
 
 /// Lines that aren't understood, and the status that tells it: asking for help is 0.
-const OTHER_LINES: [(&str, i32); 8] = [
+const OTHER_LINES: [(&str, i32); 11] = [
     ("relay", 2),
     ("relay play", 2),
     ("relay talk x", 2),
     ("relay talk --word", 2),
     ("relay steps x", 2),
+    ("relay steps --stopped", 2),
+    ("relay steps --stopped=", 2),
+    ("relay steps --stopped 1x", 2),
     ("relay --help", 0),
     ("relay --version", 0),
     ("relay serve --help", 0),
@@ -168,6 +180,44 @@ fn status_of(alloc: Global, line: &str) -> Result<Option<i32>, Fail> {
 fn another_line_has_its_status(rt: HostRuntime) -> Result<(), Fail> {
     for (line, want) in &OTHER_LINES {
         expect(&rt, line, status_of(rt.alloc(), line)? == Some(*want));
+    }
+    Ok(())
+}
+
+/// Lines of `steps`, and the actor that stops; `None` where the line is refused. A number past those of all seats names the
+/// seat 65,535, which no ring has.
+const STEPS: [(&str, Option<Option<Actor>>); 14] = [
+    ("relay steps", Some(None)),
+    ("relay steps --stopped p", Some(Some(Actor::P))),
+    ("relay steps --stopped 0", Some(Some(Actor::Seat(0)))),
+    ("relay steps --stopped=1023", Some(Some(Actor::Seat(1023)))),
+    ("relay steps --stopped 007", Some(Some(Actor::Seat(7)))),
+    (
+        "relay steps --stopped 999999999",
+        Some(Some(Actor::Seat(65535))),
+    ),
+    ("relay steps --stopped", None),
+    ("relay steps --stopped=", None),
+    ("relay steps --stopped x", None),
+    ("relay steps --stopped P", None),
+    ("relay steps --stopped 1x", None),
+    ("relay steps --stopped +1", None),
+    ("relay steps --stopped 0000000001", None),
+    ("relay steps --stopped p --stopped 0", None),
+];
+
+/// The actor that stops by a line of `steps`. `None` where it is refused.
+fn stopped_of(alloc: Global, line: &str) -> Result<Option<Option<Actor>>, Fail> {
+    match asked(alloc, line)? {
+        Ok(Asked::Steps(stopped)) => Ok(Some(stopped)),
+        _ => Ok(None),
+    }
+}
+
+#[test]
+fn a_line_of_steps_names_who_stops(rt: HostRuntime) -> Result<(), Fail> {
+    for (line, want) in &STEPS {
+        expect(&rt, line, stopped_of(rt.alloc(), line)? == *want);
     }
     Ok(())
 }
@@ -230,7 +280,9 @@ Options:
       --packet-bytes <N>  The longest packet, in bytes, 12 to 65535 [default: 16384]
       --accept <N>        End when N connections were accepted and have ended
       --gather <MS>       For how long packets gather before players are woken, 0 to 100 milliseconds [default: 5]
+      --back <N>          How many of the kept packets a new player is given at once, 0 to 4095; above 0 without RTP-Info [default: 0]
       --hang-up-ended     Hang a player up once the last packet of its mount was written
+      --writers <N>       How many threads send frames, 0 to 64, where 0 gives each player its own [default: one a processor]
       --verbose           Tell of each mount and each player on standard error
   -h, --help              Print help
 
@@ -255,25 +307,35 @@ printf 'OPTIONS * RTSP/1.0\\r\\nCSeq: 1\\r\\n\\r\\n' | ./relay talk --word 0000a
 
 const STEPS_HELP: &str = "Runs a ring's schedule from standard input, and writes what each step did
 
-Usage: relay steps
+Usage: relay steps [OPTIONS]
 
 Options:
-  -h, --help  Print help
+      --stopped <A>  Stop p or this seat behind the schedule, and let the others finish their calls
+  -h, --help         Print help
 
 Example: a seat loses the first of three packets, since the ring keeps two
 
 printf 'keep 2\\nseats 1\\np 41\\np 42\\np 43\\n0 attach\\n0 take\\n0 take\\n0 detach\\ngo 0 p*15 0 0*5 0\\n' | ./relay steps
 ";
 
-/// Lines that ask for help or the version, and what they are told.
-const HELPS: [(&str, &str); 4] = [
+/// What a line is told whose actor isn't one.
+const NO_ACTOR: &str = "error: invalid value '1x' for '--stopped <A>': not p and no seat's number
+
+Usage: relay steps [OPTIONS]
+
+For more information, try '--help'.
+";
+
+/// Lines that ask for help or the version, or whose actor isn't one, and what they are told.
+const HELPS: [(&str, &str); 5] = [
     ("relay serve --help", SERVE_HELP),
     ("relay talk --help", TALK_HELP),
     ("relay steps --help", STEPS_HELP),
+    ("relay steps --stopped 1x", NO_ACTOR),
     ("relay --version", "relay 0.1.0\n"),
 ];
 
-/// Whether a line asks for this help.
+/// Whether a line is told this text.
 fn is_helped(alloc: Global, line: &str, help: &str) -> Result<bool, Fail> {
     match asked(alloc, line)? {
         Ok(_) => Ok(false),

@@ -76,6 +76,7 @@ fn handed_pass(talker: &mut Talker, alloc: Global, request: &Request) -> Result<
     let given = Given {
         word: 0xabcd,
         points: Items::empty(alloc),
+        now: 0,
     };
     match talker.book.ask(2, request, &given, None) {
         Ok(answer) => Ok(answer.pass.flatten()),

@@ -23,3 +23,5 @@ mod of_rtsp_message;
 mod of_sdp;
 #[cfg(test)]
 mod of_transport_header;
+#[cfg(test)]
+mod of_try_flush;

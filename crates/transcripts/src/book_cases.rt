@@ -22,9 +22,11 @@ enum BookWord {
     Seats,
     Word,
     Points,
+    Now,
     Offer,
     Connect,
     Hangup,
+    Expire,
     Back,
     Kept,
     Open,
@@ -32,13 +34,15 @@ enum BookWord {
     State,
 }
 
-const WORDS: [(&str, BookWord); 11] = [
+const WORDS: [(&str, BookWord); 13] = [
     ("seats", BookWord::Seats),
     ("word", BookWord::Word),
     ("points", BookWord::Points),
+    ("now", BookWord::Now),
     ("offer", BookWord::Offer),
     ("connect", BookWord::Connect),
     ("hangup", BookWord::Hangup),
+    ("expire", BookWord::Expire),
     ("back", BookWord::Back),
     ("kept", BookWord::Kept),
     ("open", BookWord::Open),
@@ -96,6 +100,7 @@ impl BookCase {
             given: Given {
                 word: 7,
                 points: Items::empty(alloc),
+                now: 0,
             },
             offer: None,
             offered: 0,
@@ -115,12 +120,17 @@ impl BookCase {
                 Ok(())
             }
             BookWord::Points => self.place(arguments),
+            BookWord::Now => {
+                self.given.now = u64::from(arguments.number()?);
+                Ok(())
+            }
             BookWord::Offer => {
                 self.offer = Some(arguments.number()?);
                 Ok(())
             }
             BookWord::Connect => self.connect(arguments.number_or(1)?, told),
             BookWord::Hangup => self.hangup(u64::from(arguments.number()?), told),
+            BookWord::Expire => self.expire(arguments, told),
             BookWord::Back => self.give_back(arguments, told),
             BookWord::Kept => Ok(told.number(Some(self.entries as u64))?),
             word => {
@@ -205,6 +215,25 @@ impl BookCase {
         let act = self.book.hangup(conn);
         told.fact(act_text(self.alloc, act)?.as_bytes())?;
         tell_agreement(self.world.hangup(conn) == act, told)?;
+        self.tell_kept(told)
+    }
+
+    /// Ends the session of a connection, if it has expired.
+    fn expire(&mut self, arguments: &mut Arguments<'_>, told: &mut Told) -> Result<(), Fault> {
+        let conn = u64::from(arguments.number()?);
+        let heard = u64::from(arguments.number()?);
+        let now = u64::from(arguments.number()?);
+        let act = self.book.expire(conn, heard, now);
+        match act {
+            Some(act) => {
+                self.add_entry();
+                let done = act_text(self.alloc, act)?;
+                let text = format!(in self.alloc; "expired {done}")?;
+                told.fact(text.as_bytes())?;
+            }
+            None => told.fact(b"no")?,
+        }
+        tell_agreement(self.world.expire(conn, heard, now) == act, told)?;
         self.tell_kept(told)
     }
 

@@ -65,6 +65,9 @@ where
         match read_method(request.method.as_slice()) {
             Some(Method::Announce) => self.ask_to_publish(request, word),
             Some(Method::Play) => {
+                if self.writers.is_some() && !self.hand.line.gathers() {
+                    return Err(NoAnswer);
+                }
                 let points = self.points()?;
                 self.ask_plainly(request, word, points)
             }
@@ -145,7 +148,7 @@ where
         if let Some(kept) = self.shared.offers.take(&self.rt)? {
             return Ok(kept);
         }
-        match Offer::make(self.alloc, &self.shared.maker) {
+        match Offer::make(self.alloc, &self.shared.maker, &self.shared.bell) {
             Ok(made) => Ok(made),
             Err(_) => {
                 self.shared.offers.leave(&self.rt);
@@ -162,7 +165,11 @@ where
         points: Items<Option<Point>>,
         offer: Option<Vec<Seat<M::Pass>>>,
     ) -> Result<Answer<Seat<M::Pass>>, Option<Vec<Seat<M::Pass>>>> {
-        let given = Given { word, points };
+        let given = Given {
+            word,
+            points,
+            now: 0,
+        };
         let mut book = self.shared.book.lock(&self.rt);
         let asked = book.ask(self.conn, request, &given, offer);
         let session = book.session_of(self.conn);
@@ -181,14 +188,14 @@ where
         }
     }
 
-    /// Where the tracks of the session's mount stand.
+    /// Where the tracks of the session's mount stand. Nothing is told where players begin with packets from before.
     fn points(&self) -> Result<Items<Option<Point>>, AllocError> {
         match &self.session {
-            Some(session) => self
+            Some(session) if self.shared.maker.back() == 0 => self
                 .shared
                 .board
                 .points(&self.rt, self.alloc, session.mount),
-            None => Ok(Items::empty(self.alloc)),
+            _ => Ok(Items::empty(self.alloc)),
         }
     }
 }

@@ -100,11 +100,17 @@ where
         let (Some(frames), Some(session)) = (&mut self.frames, &self.session) else {
             return Ok(());
         };
+        let channels = session.channels.copy();
+        let after_end = self.shared.after_end;
+        if let Some(writers) = &self.writers {
+            return match frames.give(&self.rt, &self.hand, writers, channels, after_end) {
+                Ok(()) => Ok(()),
+                Err(_) => Err(ConnectionEnd::NoThread),
+            };
+        }
         if !self.shared.gate.may_start() {
             return Err(ConnectionEnd::NoThread);
         }
-        let channels = session.channels.copy();
-        let after_end = self.shared.after_end;
         match frames.start(self.rt, self.alloc, &self.hand, channels, after_end) {
             Ok(()) => Ok(()),
             Err(_) => Err(ConnectionEnd::NoThread),
@@ -116,9 +122,12 @@ where
         let Some(frames) = &self.frames else {
             return;
         };
+        if !frames.has_thread() {
+            return;
+        }
         self.hand.phase.stop(&self.rt);
         frames.notice.wake();
-        if frames.has_thread() && !self.hand.phase.wait_for_end(&self.rt, most) {
+        if !self.hand.phase.wait_for_end(&self.rt, most) {
             self.hand.wire.hang_up();
         }
     }
@@ -128,9 +137,11 @@ where
         let Some(mut frames) = self.frames.take() else {
             return FrameEnd::Stopped;
         };
-        self.hand.phase.stop(&self.rt);
-        frames.notice.wake();
-        let end = frames.join(&self.rt);
+        if frames.has_thread() {
+            self.hand.phase.stop(&self.rt);
+            frames.notice.wake();
+        }
+        let end = frames.join(&self.rt, &self.hand, self.writers.as_deref());
         self.is_over = end == FrameEnd::Ended && self.shared.after_end.is_some();
         match self.hand.take(&self.rt) {
             TapPlace::Attached(tap) => self.give_back(tap, frames),
@@ -174,7 +185,10 @@ where
     fn write_reply(&self, reply: &Reply) -> Result<(), ConnectionEnd> {
         let mut text = Vec::new(self.alloc);
         match put_reply(&mut text, reply) {
-            Ok(()) => match self.hand.line.write(&self.rt, text.as_slice()) {
+            Ok(()) => match self
+                .hand
+                .write(&self.rt, &self.shared.bell, text.as_slice())
+            {
                 Ok(()) => Ok(()),
                 Err(_) => Err(ConnectionEnd::WriteFailed),
             },
@@ -187,7 +201,10 @@ where
         status: Status,
         cseq: Option<u32>,
     ) -> Result<(), ConnectionEnd> {
-        match self.hand.line.write_plain(&self.rt, status, cseq) {
+        match self
+            .hand
+            .write_plain(&self.rt, &self.shared.bell, status, cseq)
+        {
             Ok(()) => Ok(()),
             Err(_) => Err(ConnectionEnd::WriteFailed),
         }

@@ -20,7 +20,7 @@ fn call_of(rt: &impl Abort, alloc: Global, event: &TraceEvent, byte: u8) -> Call
             })
         }
         Answer::Refused | Answer::Closed => Call::Close,
-        Answer::Attached(_) => Call::Attach(seat),
+        Answer::Attached(_) => Call::Attach { seat, back: 0 },
         Answer::Taken(_) => Call::Take(seat),
         Answer::Detached(_) => Call::Detach(seat),
     }

@@ -39,7 +39,7 @@ fn seat_calls(rt: &impl Abort, alloc: Global, letters: &[u8]) -> SeatCalls {
     let mut calls = Vec::new(alloc);
     for letter in letters {
         let call = match letter {
-            b'a' => SeatCall::Attach,
+            b'a' => SeatCall::Attach { back: 0 },
             b't' => SeatCall::Take,
             _ => SeatCall::Detach,
         };

@@ -118,7 +118,7 @@ impl World {
     ) -> Result<(Reply, Change), AllocError>
         requires there { IsThere self.now conn accepted }
         ensures ok { IfOk result (λ r. (history : History) → Stands history self.now → Finds (asked_of self.now history conn request.now) accepted
-            → IsAcceptedWith (asked_of self.now history conn request.now) (method_in accepted) given.now r.0 r.1) }
+            → IsAcceptedWith (asked_of self.now history conn request.now) (method_in accepted) given.entry.now r.0 r.1) }
         ensures can { IfOk result (λ r. CanTake self.now conn r.1) }
     {
         let session = self.session_of(conn);

@@ -38,7 +38,7 @@ fn url_of(
 
 /// Where the packets of a track stand.
 fn point_of(given: &Given, track: usize) -> Option<Point>
-    ensures { result ≡ get_or given.now.points track None }
+    ensures { result ≡ get_or given.entry.now.points track None }
 {
     *given.points.as_slice().get(track)?
 }
@@ -54,8 +54,8 @@ fn info_of_track(
     track: usize,
 ) -> Result<Option<InfoEntry>, AllocError>
     ensures { IfOk result (λ info. MatchOption info
-        (info_at session.now (url_for request.now.uri target.now named) given.now.points track ≡ [])
-        (λ entry. info_at session.now (url_for request.now.uri target.now named) given.now.points track ≡ entry ∷ [])) }
+        (info_at session.now (url_for request.now.uri target.now named) given.entry.now.points track ≡ [])
+        (λ entry. info_at session.now (url_for request.now.uri target.now named) given.entry.now.points track ≡ entry ∷ [])) }
 {
     if session.channels.pair_of(track).is_none() {
         return Ok(None);
@@ -79,7 +79,7 @@ fn infos_of(
     named: Option<usize>,
     given: &Given,
 ) -> Result<Vec<InfoEntry>, AllocError>
-    ensures { IfOk result (λ entries. entries.items ≡ infos (info_at session.now (url_for request.now.uri target.now named) given.now.points) 0 16) }
+    ensures { IfOk result (λ entries. entries.items ≡ infos (info_at session.now (url_for request.now.uri target.now named) given.entry.now.points) 0 16) }
 {
     let mut entries = Vec::new(alloc);
     for track in 0..MOST_TRACKS {
@@ -114,7 +114,7 @@ pub(crate) fn playing_reply(
     ensures { IfOk result (λ reply. reply ≡ record {
       status = Ok;
       cseq = request.now.cseq;
-      fields = record no_fields { session = told_to request.now (Some session.now); rtp_info = info_field (infos (info_at session.now (url_for request.now.uri target.now named) given.now.points) 0 16) };
+      fields = record no_fields { session = told_to request.now (Some session.now); rtp_info = info_field (infos (info_at session.now (url_for request.now.uri target.now named) given.entry.now.points) 0 16) };
       body = [];
     }) }
 {

@@ -130,7 +130,7 @@ impl World {
     ) -> Result<(Reply, Change), AllocError>
         requires there { IsThere self.now conn (found.Setup number track specs.now) }
         ensures ok { IfOk result (λ r. (history : History) → Stands history self.now → Finds (asked_of self.now history conn request.now) (found.Setup number track specs.now)
-            → SetsUpBy (asked_of self.now history conn request.now) given.now r.0 r.1) }
+            → SetsUpBy (asked_of self.now history conn request.now) given.entry.now r.0 r.1) }
         ensures can { IfOk result (λ r. CanTake self.now conn r.1) }
     {
         let mount = self.mounts.numbered(number).unwrap();

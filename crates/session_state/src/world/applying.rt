@@ -19,11 +19,11 @@ use transport_header::ChannelPair;
 
 impl World {
     /// Gives an open connection a session in place of what it had.
-    fn put_session(&mut self, conn: u64, session: Option<Session>)
+    pub(crate) fn put_session(&mut self, conn: u64, session: Option<Session>)
         ensures { ChangesSession conn (λ _. session) self.old self.new }
     {
         if let Some(kept) = self.connections.get_mut(&conn) {
-            *kept = session;
+            kept.session = session;
         }
     }
 
@@ -32,7 +32,7 @@ impl World {
         ensures { ChangesSession conn (option_map (in_state state)) self.old self.new }
     {
         if let Some(kept) = self.connections.get_mut(&conn) {
-            set_state(kept, state);
+            set_state(&mut kept.session, state);
         }
     }
 
@@ -42,7 +42,7 @@ impl World {
         ensures { ChangesSession conn (option_map (with_channels track pair)) self.old self.new }
     {
         if let Some(kept) = self.connections.get_mut(&conn) {
-            set_channels(kept, track, pair);
+            set_channels(&mut kept.session, track, pair);
         }
     }
 
@@ -128,11 +128,18 @@ impl World {
     {
         let act = session_left(self.session_of(conn));
         self.put_session(conn, None);
+        self.end_owned(conn);
+        act
+    }
+
+    /// Ends the mount that a connection owns, if it owns one.
+    pub(crate) fn end_owned(&mut self, conn: u64)
+        ensures { self.new ≡ record self.old { mounts = without_owned (owned_by conn self.old.mounts.mounts) self.old.mounts } }
+    {
         if let Some(mount) = self.mounts.owned_by(conn) {
             let number = mount.number;
             self.mounts.end(number);
         }
-        act
     }
 }
 
@@ -150,7 +157,7 @@ fn recording_begun(session: Option<&Session>) -> Act
 }
 
 /// What a connection has to do whose session ends.
-fn session_left(session: Option<&Session>) -> Act
+pub(crate) fn session_left(session: Option<&Session>) -> Act
     ensures { result ≡ teardown_act (option_copied session.entry) }
 {
     let Some(recorded) = session else {

@@ -22,7 +22,7 @@ impl World {
     ) -> Result<(Reply, Change), AllocError>
         requires open { IsSome (kept_of conn self.now.connections) }
         ensures judged { IfOk result (λ r. (history : History) → IsLegal self.now.mounts.seats history → Stands history self.now
-            → IsJudged (asked_of self.now history conn request.now) given.now r.0 r.1) }
+            → IsJudged (asked_of self.now history conn request.now) given.entry.now r.0 r.1) }
         ensures can { IfOk result (λ r. CanTake self.now conn r.1) }
     {
         match self.check(alloc, conn, request) {

@@ -5,7 +5,7 @@ use Rattle.cursor.proofs.Kept.{received-without}
 use Rattle.cursor.proofs.laws.received_in_order.Goals as goal
 
 pub returns : goal.returns
-returns c = λ keep seats seat start before during log h.
-    let at = reached keep seats seat start before during log h in
+returns c = λ keep seats seat back start before during log h.
+    let at = reached keep seats seat back start before during log h in
     received-without log.packets start (takes_of seat during) at.to at.settles (losses start (takes_of seat during)) (λ n above. refl)
     ∙ ap (λ e. without (losses start (takes_of seat during)) start (slice_range log.packets start e)) (sym at.adds)

@@ -10,9 +10,9 @@ pub loop-i-preserved : goal.loop-i-preserved
 loop-i-preserved c =
     let calls = c.args.calls.now in
     let i = c.loop-i.i in (
-      rw (c.attaches-attached.ensures, c.loop-i.invariant.0) (sym (attached_more calls i Attach c.loop-i-test.true)),
+      rw (c.attaches-attached.ensures, c.loop-i.invariant.0) (sym (attached_more calls i (Attach 0) c.loop-i-test.true)),
       below_more (λ (n : ℕ). IsOutOfTurn calls n → ⊥) i c.loop-i.invariant.1
-          (λ bad. false≢true (sym c.if-is_misplaced.false ∙ c.is_misplaced.ensures.1 (rw c.loop-i.invariant.0 (misplaced_at calls i Attach bad)))),
+          (λ bad. false≢true (sym c.if-is_misplaced.false ∙ c.is_misplaced.ensures.1 (rw c.loop-i.invariant.0 (misplaced_at calls i (Attach 0) bad)))),
     )
 
 pub returns : goal.returns

@@ -2,7 +2,7 @@ use Rattle.ring_steps.proofs.Loads.{attach_keeps, detach_keeps, first_load_keeps
 use Rattle.ring_steps.proofs.laws.loads_keep_the_invariant.Goals as goal
 
 pub returns-clause-attach : goal.returns-clause-attach
-returns-clause-attach c = λ s i x is. attach_keeps s i x is.sound is.there is.within
+returns-clause-attach c = λ s i x back is. attach_keeps s i x back is.sound is.there is.within
 
 pub returns-clause-detach : goal.returns-clause-detach
 returns-clause-detach c = λ s i x is. detach_keeps s i x is.sound is.there is.within

@@ -12,8 +12,8 @@ returns-clause-publishing c =
     let before = c.args.self.now.book.history in
     let request = c.args.request.now in
     let answer = c.in-Ok-call.answer in
-    let given : (record { word = c.args.word; points = c.empty.result }) ≡ with_word c.args.word =
-    ap (λ (points : List (Option Point)). record { word = c.args.word; points = points }) c.empty.ensures in
+    let given : (record { word = c.args.word; points = c.empty.result; now = 0 }) ≡ with_word c.args.word =
+    ap (λ (points : List (Option Point)). record { word = c.args.word; points = points; now = 0 }) c.empty.ensures in
     let is_reply = subst (λ (seats : ℕ). IsReplyOf seats before 1 request (with_word c.args.word) answer.reply answer.act) c.requires.seats
     (subst (λ (g : Given). IsReplyOf c.args.self.now.book.seats before 1 request g answer.reply answer.act) given c.in-Ok-call.ensures.reply) in (
       answer.act,

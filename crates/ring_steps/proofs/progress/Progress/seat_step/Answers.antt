@@ -17,7 +17,7 @@ seat_step-requires-clause-ready c =
     let below : c.from-place.result < length c.as_slice-seats.result.now = let past = c.if-place-seats.false in omega arith in
     let next = seat_next calls at c.as_slice-seats.result.now c.from-place.result c.args.seat own c.as_slice-calls.result.now n agrees
     c.as_slice-seats.ensures.value c.from-place.ensures below c.index-seats-place.is c.as_slice-calls.ensures c.index-next.ensures c.if-next-calls.false in
-    seat_ready calls at c.args.seat own n (get_or c.as_slice-calls.result.now n Attach) agrees c.requires.good next.0 next.1 next.2
+    seat_ready calls at c.args.seat own n (get_or c.as_slice-calls.result.now n (Attach 0)) agrees c.requires.good next.0 next.1 next.2
 
 pub returns-clause-goes_on : goal.returns-clause-goes_on
 returns-clause-goes_on c =
@@ -29,7 +29,7 @@ returns-clause-goes_on c =
     let below : c.from-place.result < length c.as_slice-seats.result.now = let past = c.if-place-seats.false in omega arith in
     let next = seat_next calls at c.as_slice-seats.result.now c.from-place.result c.args.seat own c.as_slice-calls.result.now n agrees
     c.as_slice-seats.ensures.value c.from-place.ensures below c.index-seats-place.is c.as_slice-calls.ensures c.index-next.ensures c.if-next-calls.false in
-    let call = get_or c.as_slice-calls.result.now n Attach in
+    let call = get_or c.as_slice-calls.result.now n (Attach 0) in
     let stepped = c.in_ok-stepped.stepped in
     let m = n + c.from.result in
     let new : ℕ → At = λ (place : ℕ). record { ring = c.seat_step.new.self; publisher = c.self.inside.publisher; seats = slice_set c.self.inside.seats.items place m } in

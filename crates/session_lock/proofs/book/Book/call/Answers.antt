@@ -2,12 +2,12 @@ use Rattle.std.proofs.Common.{◌∷◌, nat_le, is_some, ap, sym, subst, ◌∙
 use Rattle.std.specs.Option.{option_map}
 use Rattle.session_state.specs.declared.entry.Entry.TheVariants.{Request}
 use Rattle.session_state.specs.Legal.{IsLegal, IsReplyOf}
-use Rattle.session_lock.specs.Books.{IsOffer}
+use Rattle.session_lock.specs.Books.{IsKept, IsOffer}
 use Rattle.session_lock.specs.Entries.{Adds, Written}
 use Rattle.session_lock.specs.Requests.{CanBegin}
 use Rattle.session_lock.specs.Spares.{AreSpare, handed_out}
 use Rattle.session_lock.proofs.Requested.{can_begin, entered, pass_comes, pass_so, requested, settled_so}
-use Rattle.session_lock.proofs.Standing.{cut_to, roomier}
+use Rattle.session_lock.proofs.Standing.{cut_to, roomier, roomier_too}
 use Rattle.session_lock.proofs.book.Book.call.Goals as goal
 
 pub settle-pass-requires-clause-begins : goal.settle-pass-requires-clause-begins
@@ -22,6 +22,18 @@ settle-pass-requires-clause-begins g c named =
     subst (CanBegin c.make_room.new.spares c.args.conn) (sym (c.next_mount-number.ensures written.history kept.stands))
     (can_begin c.args.conn c.args.request.now c.args.given.now decided.reply decided.act c.self.inside.seats written.history follows c.make_room.new.spares spare c.in-Ok-make_room.ensures.spares
     (sym c.accepted_method-method.ensures ∙ named))
+
+-- where there is no room for the passes, or no memory to decide
+pub invariant_of-self : goal.invariant_of-self
+invariant_of-self g c =
+    roomier_too c.self.inside.seats c.self.inside.world c.make_room.new.entries c.self.inside.spares c.make_room.new.spares
+    (roomier c.self.inside.seats c.self.inside.world c.self.inside.entries c.make_room.new.entries c.self.inside.spares c.self.invariant c.make_room.ensures.same c.make_room.ensures.kept) c.make_room.ensures.mounts
+
+pub invariant_of-self-in_default-decide_and_copy : goal.invariant_of-self-in_default-decide_and_copy
+invariant_of-self-in_default-decide_and_copy g c =
+    subst (λ tables. IsKept c.self.inside.seats tables c.make_room.new.entries c.make_room.new.spares) (sym c.in_default-decide_and_copy.ensures.err)
+    (roomier_too c.self.inside.seats c.self.inside.world c.make_room.new.entries c.self.inside.spares c.make_room.new.spares
+    (roomier c.self.inside.seats c.self.inside.world c.self.inside.entries c.make_room.new.entries c.self.inside.spares c.self.invariant c.make_room.ensures.same c.make_room.ensures.kept) c.make_room.ensures.mounts)
 
 pub invariant_of-self-2 : goal.invariant_of-self-2
 invariant_of-self-2 g c =

@@ -1,4 +1,5 @@
-use Rattle.std.proofs.Common.{nat_le, arith}
+use Rattle.std.proofs.Common.{nat_le, arith, subst, sym}
+use Rattle.session_lock.specs.Books.{IsKept}
 use Rattle.session_lock.proofs.Standing.{connected, cut_to, legal_there, roomier}
 use Rattle.session_lock.proofs.book.Book.connect.Goals as goal
 
@@ -19,3 +20,11 @@ invariant_of-self-2 g c =
     let room = adds.room in
     connected seats tables c.connect.new.self c.reserve.new.self c.add.new.self held more c.connect.ensures.seats (nat_le written.cut written.kept) c.in_ok-next.next c.in_ok-conn.conn c.in_ok-next.ensures come adds
     (cut_to written c.reserve.new.self c.add.new.self c.in_ok-next.next tables kept.some c.reserve.ensures.kept c.in_ok-next.ensures adds) (omega (arith, opened, out, reserved, room))
+
+pub invariant_of-self : goal.invariant_of-self
+invariant_of-self g c = roomier c.self.inside.seats c.self.inside.world c.self.inside.entries c.reserve.new.self c.self.inside.spares c.self.invariant c.reserve.ensures.kept c.reserve.ensures.more
+
+pub invariant_of-self-in_err-conn : goal.invariant_of-self-in_err-conn
+invariant_of-self-in_err-conn g c =
+    subst (λ tables. IsKept c.self.inside.seats tables c.reserve.new.self c.self.inside.spares) (sym c.in_err-conn.ensures.err)
+    (roomier c.self.inside.seats c.self.inside.world c.self.inside.entries c.reserve.new.self c.self.inside.spares c.self.invariant c.reserve.ensures.kept c.reserve.ensures.more)

@@ -22,7 +22,7 @@ pub returns-in_ok-reply-in-Describe-clause-ok : goal.returns-in_ok-reply-in-Desc
 returns-in_ok-reply-in-Describe-clause-ok c history stands finds =
     let is : c.args.accepted ≡ found.Describe c.in-Describe.target c.in-Describe.mount = c.in-Describe.is in
     let what = subst (Finds (asked_of c.args.self.now history c.args.conn c.args.request.now)) is finds in
-    let there = named_is_numbered c.args.self.now.mounts c.in-Describe.target.path what.0 stands.sound what.1.is in
+    let there = named_is_numbered c.args.self.now.mounts c.in-Describe.target.path what.0 stands.recalls.sound what.1.is in
     let reply = c.in_ok-reply-in-Describe.ensures what.0 (ap (λ n. numbered n c.args.self.now.mounts.mounts) (sym what.2) ∙ there) in
     subst (λ (accepted : Accepted). IsAcceptedWith (asked_of c.args.self.now history c.args.conn c.args.request.now) (method_in accepted) c.args.given.now c.in_ok-reply-in-Describe.reply changes.Nothing) (sym is)
     (((c.in-Describe.target, what.0, what.1, reply), refl), refl)

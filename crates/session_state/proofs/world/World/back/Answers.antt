@@ -15,7 +15,7 @@ returns-clause-yes c =
     (λ history stands yes.
     let old : Tables = record { mounts = c.self.inside.mounts; connections = c.self.inside.connections.entries; came = c.self.inside.came; begun = c.self.inside.begun } in
     let out : IsSeat c.self.inside.mounts c.args.mount c.args.seat true = subst (λ b. MatchBool b (IsSeat c.self.inside.mounts c.args.mount c.args.seat true) (IsSeat c.self.inside.mounts c.args.mount c.args.seat true → ⊥)) yes given.out in (
-      is_back history old c.args.mount c.args.seat stands out,
+      is_back history old c.args.mount c.args.seat stands.recalls out,
       backed history old (record { mounts = c.give_back.new.self; connections = c.self.inside.connections.entries; came = c.self.inside.came; begun = c.self.inside.begun }) c.args.mount c.args.seat stands
           (ap (λ (table : Table). record { mounts = table; connections = c.self.inside.connections.entries; came = c.self.inside.came; begun = c.self.inside.begun }) (given.given yes)),
     ))
@@ -28,6 +28,6 @@ returns-clause-no c =
     (λ history legal stands no.
     let old : Tables = record { mounts = c.self.inside.mounts; connections = c.self.inside.connections.entries; came = c.self.inside.came; begun = c.self.inside.begun } in
     let out : IsSeat c.self.inside.mounts c.args.mount c.args.seat true → ⊥ = subst (λ b. MatchBool b (IsSeat c.self.inside.mounts c.args.mount c.args.seat true) (IsSeat c.self.inside.mounts c.args.mount c.args.seat true → ⊥)) no given.out in (
-      (λ back. out (is_seat history old c.args.mount c.args.seat legal stands back)),
+      (λ back. out (is_seat history old c.args.mount c.args.seat legal stands.recalls back)),
       ap (λ (table : Table). record { mounts = table; connections = c.self.inside.connections.entries; came = c.self.inside.came; begun = c.self.inside.begun }) (given.unchanged no),
     ))

@@ -16,7 +16,7 @@ returns-in-Some-owned_by-clause-ok c =
     → IsHangUp now.mounts.seats history c.args.conn acts.End × Stands (HangUp c.args.conn acts.End ∷ history)
     (record { mounts = c.end.new.self; connections = c.remove.new.self.entries; came = c.self.inside.came; begun = c.self.inside.begun })) c.self.view_is
     (λ history legal stands there. goes_so history (record { mounts = c.self.inside.mounts; connections = c.self.inside.connections.entries; came = c.self.inside.came; begun = c.self.inside.begun })
-    c.end.new.self c.remove.new.self.entries c.args.conn c.in-Some.session (Some c.in-Some-owned_by.mount.now) acts.End stands c.in-Some-owned_by.ensures c.end.ensures
+    c.end.new.self c.remove.new.self.entries c.args.conn c.in-Some.connection (Some c.in-Some-owned_by.mount.now) acts.End stands c.in-Some-owned_by.ensures c.end.ensures
     (record { each = removed.updates.0 }) removed.len (sym removed.value) refl)
 
 pub returns-clause-ok : goal.returns-clause-ok
@@ -26,5 +26,5 @@ returns-clause-ok c =
     → IsHangUp now.mounts.seats history c.args.conn c.seat_given_up.result × Stands (HangUp c.args.conn c.seat_given_up.result ∷ history)
     (record { mounts = c.self.inside.mounts; connections = c.remove.new.self.entries; came = c.self.inside.came; begun = c.self.inside.begun })) c.self.view_is
     (λ history legal stands there. goes_so history (record { mounts = c.self.inside.mounts; connections = c.self.inside.connections.entries; came = c.self.inside.came; begun = c.self.inside.begun })
-    c.self.inside.mounts c.remove.new.self.entries c.args.conn c.in-Some.session None c.seat_given_up.result stands c.in_default-owned_by.ensures refl
+    c.self.inside.mounts c.remove.new.self.entries c.args.conn c.in-Some.connection None c.seat_given_up.result stands c.in_default-owned_by.ensures refl
     (record { each = removed.updates.0 }) removed.len (sym removed.value) (c.seat_given_up.ensures ∙ ap pause_act c.as_ref.ensures.value))

@@ -1,0 +1,335 @@
+//! A player whose frames a writer sends.
+ghost use Rattle.std.specs.Prelude.{◌≡◌, ◌≤◌, length};
+
+use crate::line::{GATHERED, Line, TAKES};
+use crate::maker::Leave;
+use crate::notice::Notice;
+use crate::pace::KnownLevel;
+use crate::socket::HangUp;
+use cursor::{Left, Tap};
+use interleaved::{Gathering, TrySink};
+use pacing::Patience;
+use player::{OutStop, relay_out};
+use relay_accounts::FrameEnd;
+use std::alloc::Global;
+use std::mem;
+use std::sync::{Arc, Wait};
+use transport_header::TrackChannels;
+
+/// What a writer does with a player next.
+#[derive(Clone, Copy, Debug, PartialEq, Eq, Drop)]
+pub(crate) enum Next {
+    /// Nothing, until its mount has news or a lock is given back.
+    Sleep,
+    /// It looks at it again at once.
+    Again,
+    /// It looks at it again after so many milliseconds.
+    Later(u64),
+    /// Nothing more: it has nothing to send.
+    Over,
+}
+
+/// Where a connection's tap is.
+#[derive(Drop)]
+pub enum TapPlace<T> {
+    Nowhere,
+    /// Its frames are taken from it.
+    Attached(T),
+    /// Its mount has ended, and it was left with this account, so that nothing is kept of the mount's packets for a
+    /// player that stays.
+    Left(Left),
+}
+
+impl<T: Leave + Drop> TapPlace<T> {
+    /// The tap is left for good, if it is here.
+    pub(crate) fn leave(&mut self) {
+        let left = match mem::replace(self, TapPlace::Nowhere) {
+            TapPlace::Attached(tap) => TapPlace::Left(tap.leave_for_good()),
+            other => other,
+        };
+        *self = left;
+    }
+}
+
+/// A player that takes from a seat: its writer looks at it, and the thread that reads its connection takes it out again.
+#[derive(Drop)]
+pub(crate) struct Playing<T> {
+    tap: TapPlace<T>,
+    notice: Arc<Notice, Global>,
+    seat: usize,
+    channels: TrackChannels,
+    /// For how many milliseconds the connection may stay once its mount has ended and all was sent. `None` for good.
+    after_end: Option<u64>,
+    /// How often its mount's players had been woken when it last had taken all.
+    seen: u64,
+    /// Whether it is to be looked at though nobody was woken: it came, or there was more to take, or its line was taken.
+    again: bool,
+    known: KnownLevel,
+    /// Whether its mount's pace knows of it. It doesn't while its socket takes nothing: no publisher waits for that.
+    is_paced: bool,
+    /// While bytes wait that its socket didn't take. Then it takes no packet.
+    patience: Option<Patience>,
+    /// When its mount was first seen to have ended.
+    ended_at: Option<u64>,
+    /// How its frames ended.
+    end: Option<FrameEnd>,
+    /// When the connection is hung up that was told the end of its stream.
+    hung_up_at: Option<u64>,
+}
+
+impl<T> Playing<T> {
+    /// It has taken nothing yet, and its mount's pace knows of it.
+    pub(crate) fn new(
+        tap: T,
+        notice: Arc<Notice, Global>,
+        seat: usize,
+        channels: TrackChannels,
+        after_end: Option<u64>,
+    ) -> Playing<T> {
+        Playing {
+            tap: TapPlace::Attached(tap),
+            notice,
+            seat,
+            channels,
+            after_end,
+            seen: 0,
+            again: true,
+            known: KnownLevel::new(),
+            is_paced: true,
+            patience: None,
+            ended_at: None,
+            end: None,
+            hung_up_at: None,
+        }
+    }
+
+    /// How its frames ended, and where the tap is: `Stopped` where they hadn't, or where the last of them weren't written.
+    pub(crate) fn stop(mut self, rt: &impl Wait) -> (FrameEnd, TapPlace<T>) {
+        self.leave_pace(rt);
+        let end = match (self.end, &self.patience) {
+            (None, _) | (Some(FrameEnd::Ended), Some(_)) => FrameEnd::Stopped,
+            (Some(end), _) => end,
+        };
+        (end, self.tap)
+    }
+
+    /// No publisher waits for it any more.
+    fn leave_pace(&mut self, rt: &impl Wait) {
+        if self.is_paced {
+            self.is_paced = false;
+            self.notice.pace.leave(rt, self.seat);
+        }
+    }
+
+    /// Whether its frames have ended otherwise than with its mount.
+    fn has_failed(&self) -> bool {
+        !matches!(self.end, None | Some(FrameEnd::Ended))
+    }
+
+    /// Whether its mount ended so many milliseconds ago.
+    fn is_late(&mut self, now: u64, most: u64) -> bool {
+        if self.ended_at.is_none() && self.notice.has_ended() {
+            self.ended_at = Some(now);
+        }
+        self.ended_at
+            .is_some_and(|moment| now.saturating_sub(moment) >= most)
+    }
+}
+
+impl<T: Tap + Leave + Drop> Playing<T> {
+    /// Sends what there is to send and the socket takes, without waiting for anything: the rest of an earlier look, and then
+    /// the frames of up to sixteen takes. Moments are in milliseconds; a peer that takes no byte for `most` of them has failed.
+    pub(crate) fn look<W: TrySink + Drop, H: HangUp>(
+        &mut self,
+        rt: &impl Wait,
+        line: &Line<W>,
+        wire: &H,
+        buf: &mut Vec<u8>,
+        now: u64,
+        most: u64,
+    ) -> Next {
+        // Read before the tap is looked at, so that no wake is missed.
+        let wakes = self.notice.wakes();
+        if let Some(next) = self.has_time(wakes, now) {
+            return next;
+        }
+        let Some(mut sink) = line.try_hold() else {
+            self.again = true;
+            return Next::Sleep;
+        };
+        self.again = false;
+        let flushed = sink.try_flush();
+        let moved = flushed.unwrap_or(0) > 0;
+        let end = match (flushed, self.end) {
+            (Err(_), _) => Some(FrameEnd::WriteFailed),
+            (Ok(_), None) if sink.len() == 0 => {
+                self.come_back(rt);
+                self.take(rt, &mut sink, buf, wakes)
+            }
+            // Its packets aren't kept longer for who takes them so slowly; what it hadn't taken is counted as lost.
+            (Ok(_), None) if self.is_late(now, most) => Some(FrameEnd::Ended),
+            (Ok(_), end) => end,
+        };
+        let left = sink.len();
+        if left == 0 && end == Some(FrameEnd::Ended) {
+            self.tell_end(wire, now);
+        }
+        drop(sink);
+        self.finish(rt, end);
+        self.wait_for_peer(rt, left, moved, now, most);
+        self.next(wire, now)
+    }
+
+    /// What is next where there is nothing to do now. `None` where there is.
+    fn has_time(&self, wakes: u64, now: u64) -> Option<Next> {
+        if self.again {
+            return None;
+        }
+        match (&self.patience, self.hung_up_at, self.end) {
+            (Some(patience), _, _) if patience.is_due(now) => None,
+            (Some(patience), _, _) => Some(Next::Later(patience.rest(now))),
+            (None, Some(moment), _) if moment <= now => None,
+            (None, Some(moment), _) => Some(Next::Later(moment.saturating_sub(now))),
+            (None, None, Some(_)) => Some(Next::Over),
+            (None, None, None) if wakes == self.seen => Some(Next::Sleep),
+            (None, None, None) => None,
+        }
+    }
+
+    /// Gathers the frames of up to sixteen takes, as many as leave in one write, and writes what the socket takes at once. Says
+    /// how the frames ended, if they did.
+    fn take<W: TrySink + Drop>(
+        &mut self,
+        rt: &impl Wait,
+        sink: &mut Gathering<W>,
+        buf: &mut Vec<u8>,
+        wakes: u64,
+    ) -> Option<FrameEnd> {
+        let TapPlace::Attached(tap) = &mut self.tap else {
+            return Some(FrameEnd::Stopped);
+        };
+        if buf.len() < tap.packet_bytes() && buf.resize(tap.packet_bytes(), 0).is_err() {
+            return Some(FrameEnd::OutOfMemory);
+        }
+        let stop = gather(tap, sink, &self.channels, buf.as_mut_slice());
+        let cursor = tap.cursor();
+        if sink.try_flush().is_err() {
+            return Some(FrameEnd::WriteFailed);
+        }
+        match stop {
+            OutStop::Done => {
+                self.notice
+                    .pace
+                    .reach(rt, self.seat, cursor, &mut self.known);
+                self.again = true;
+            }
+            OutStop::Empty => {
+                // Before the writer sleeps: the publisher opens a round before it wakes.
+                self.notice
+                    .pace
+                    .level(rt, self.seat, cursor, &mut self.known);
+                self.seen = wakes;
+            }
+            OutStop::Ended => return Some(FrameEnd::Ended),
+            OutStop::WriteFailed => return Some(FrameEnd::WriteFailed),
+        }
+        None
+    }
+
+    /// Where its frames have ended, no publisher waits for it, and at its mount's end its tap is left, so that the mount's packets
+    /// go. What is written last may fail after that.
+    fn finish(&mut self, rt: &impl Wait, end: Option<FrameEnd>) {
+        if end.is_none() {
+            return;
+        }
+        self.leave_pace(rt);
+        self.end = end;
+        if end == Some(FrameEnd::Ended) {
+            self.tap.leave();
+        }
+    }
+
+    /// Its socket has taken all that waited: it takes packets again, and a publisher may wait for it once it has taken all.
+    fn come_back(&mut self, rt: &impl Wait) {
+        self.patience = None;
+        if !self.is_paced {
+            self.is_paced = true;
+            self.known = KnownLevel::new();
+            self.notice.pace.join(rt, self.seat);
+        }
+    }
+
+    /// While bytes wait that the socket didn't take, the player is tried again after a while. Once it was tried in vain no
+    /// publisher waits for it: until then it may be one that reads, and whose socket was full for a moment.
+    fn wait_for_peer(&mut self, rt: &impl Wait, left: usize, moved: bool, now: u64, most: u64) {
+        if left == 0 || self.has_failed() {
+            self.patience = None;
+            return;
+        }
+        match &mut self.patience {
+            Some(patience) if moved => *patience = Patience::new(now),
+            Some(patience) if patience.is_spent(now, most) => {
+                self.end = Some(FrameEnd::WriteFailed);
+                self.patience = None;
+            }
+            Some(patience) => {
+                patience.wait_on(now);
+                self.leave_pace(rt);
+            }
+            None => self.patience = Some(Patience::new(now)),
+        }
+        self.again = false;
+    }
+
+    /// Tells the peer the end of its stream, where it is to be hung up after it.
+    fn tell_end(&mut self, wire: &impl HangUp, now: u64) {
+        if let (Some(after_end), None) = (self.after_end, self.hung_up_at) {
+            wire.close_writes();
+            self.hung_up_at = Some(now.saturating_add(after_end));
+        }
+    }
+
+    /// What is next after a look. A connection whose frames have failed, or that has stayed long enough after the end of its
+    /// stream, is hung up, so that the thread that reads sees it.
+    fn next(&mut self, wire: &impl HangUp, now: u64) -> Next {
+        if self.again {
+            return Next::Again;
+        }
+        if let Some(patience) = &self.patience {
+            return Next::Later(patience.rest(now).max(1));
+        }
+        match (self.end, self.hung_up_at) {
+            (None, _) => Next::Sleep,
+            (Some(FrameEnd::Ended), None) => Next::Over,
+            (Some(FrameEnd::Ended), Some(moment)) if now < moment => {
+                Next::Later(moment.saturating_sub(now))
+            }
+            (Some(_), _) => {
+                wire.hang_up();
+                Next::Over
+            }
+        }
+    }
+}
+
+/// Makes up to sixteen takes, fewer where that is as much as leaves in one write, and says why no more came. A frame has room
+/// after what is gathered, so none is written with waiting.
+fn gather<T: Tap, W: TrySink + Drop>(
+    tap: &mut T,
+    sink: &mut Gathering<W>,
+    channels: &TrackChannels,
+    buf: &mut [u8],
+) -> OutStop
+    requires { T.packet_bytes tap.old ≤ length buf.old }
+{
+    for _ in 0..TAKES {
+        if sink.len() >= GATHERED {
+            break;
+        }
+        match relay_out(tap, sink, channels, 1, buf).stop {
+            OutStop::Done => {}
+            stop => return stop,
+        }
+    }
+    OutStop::Done
+}

@@ -1,0 +1,42 @@
+//! What the writers of a server sleep on.
+use crate::notice::low_half;
+use std::sync::Wait;
+use std::sync::atomic::{AtomicU64, Ordering};
+use std::time::Duration;
+
+/// A word that writers sleep on, and how often it was raised.
+#[derive(Drop)]
+pub(crate) struct Signal {
+    raised: AtomicU64,
+}
+
+impl Signal {
+    /// It wasn't raised.
+    pub(crate) fn new() -> Signal {
+        Signal {
+            raised: AtomicU64::new(0),
+        }
+    }
+
+    /// Wakes all writers, so that each looks at its players.
+    pub(crate) fn raise(&self) {
+        self.raised.fetch_add(1, Ordering::SeqCst);
+        self.raised.wake_all();
+    }
+
+    /// How often it was raised: read before a look, it lets no wake be missed.
+    pub(crate) fn raised(&self) -> u64 {
+        self.raised.load(Ordering::SeqCst)
+    }
+
+    /// Sleeps until it is raised once more than `raised` times, or for so many milliseconds. It may also return for no reason.
+    pub(crate) fn sleep(&self, rt: &impl Wait, raised: u64, most: Option<u64>) {
+        match most {
+            None => self.raised.park(rt, low_half(raised)),
+            Some(most) => {
+                let most = Duration::from_millis(most);
+                self.raised.park_timeout(rt, low_half(raised), most);
+            }
+        }
+    }
+}

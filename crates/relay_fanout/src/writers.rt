@@ -1,0 +1,258 @@
+//! The threads that send the frames of many players.
+ghost use Rattle.std.specs.Prelude.{◌≤◌};
+
+use crate::bell::Bell;
+use crate::frames::Hand;
+use crate::maker::Leave;
+use crate::playing::Next;
+use crate::socket::HangUp;
+use cursor::Tap;
+use interleaved::{Sink, TrySink};
+use std::alloc::{AllocError, Global};
+use std::sync::atomic::{AtomicBool, Ordering};
+use std::sync::{Arc, Mutex, Wait};
+use std::time::{Clock, Instant};
+
+/// The writers of a server: each is a thread that sends the frames of its players, and waits for none of them.
+///
+/// A player has a place with one of them while it plays. A list's lock is held for a look or a change, and no other lock is taken
+/// meanwhile.
+#[derive(Drop)]
+pub struct Writers<T, W: Sink, H> {
+    lists: Vec<Mutex<List<T, W, H>>>,
+    bell: Arc<Bell, Global>,
+    stopped: AtomicBool,
+    /// For how many milliseconds a peer may take no byte while some wait for it.
+    most: u64,
+}
+
+/// There is no memory for one more player, or no writer.
+#[derive(Debug, Drop)]
+pub struct NoWriter;
+
+impl From<AllocError> for NoWriter {
+    fn from(_refused: AllocError) -> NoWriter {
+        NoWriter
+    }
+}
+
+/// A player's place with a writer.
+#[derive(Clone, Copy, Debug, PartialEq, Eq, Drop)]
+pub(crate) struct Place {
+    writer: usize,
+    /// How often the writer's list had changed before the player came, which no other player of the list has.
+    turn: u64,
+}
+
+/// A player of a writer.
+#[derive(Drop)]
+struct Player<T, W: Sink, H> {
+    hand: Arc<Hand<T, W, H>, Global>,
+    turn: u64,
+}
+
+/// The players of a writer.
+#[derive(Drop)]
+struct List<T, W: Sink, H> {
+    players: Vec<Player<T, W, H>>,
+    /// How often a player came or left, which moves another one.
+    changes: u64,
+}
+
+impl<T: Drop, W: Sink + Drop, H: Drop> Writers<T, W, H> {
+    /// So many writers, at least one, without players.
+    pub fn new(
+        alloc: Global,
+        count: usize,
+        bell: Arc<Bell, Global>,
+        most: u64,
+    ) -> Result<Writers<T, W, H>, AllocError> {
+        let mut lists = Vec::with_capacity(alloc, count)?;
+        for _ in 0..count {
+            lists.push(Mutex::new(List {
+                players: Vec::new(alloc),
+                changes: 0,
+            }))?;
+        }
+        Ok(Writers {
+            lists,
+            bell,
+            stopped: AtomicBool::new(false),
+            most,
+        })
+    }
+
+    /// How many writers there are.
+    pub fn len(&self) -> usize {
+        self.lists.len()
+    }
+
+    /// How many players they have.
+    pub fn players(&self, rt: &impl Wait) -> usize {
+        let mut count = 0usize;
+        for list in &self.lists {
+            count = count.saturating_add(list.lock(rt).players.len());
+        }
+        count
+    }
+
+    /// Gives a player to the writer with the fewest, and wakes it. Says where it is.
+    pub(crate) fn add(
+        &self,
+        rt: &impl Wait,
+        hand: &Arc<Hand<T, W, H>, Global>,
+    ) -> Result<Place, NoWriter> {
+        let hand = Arc::try_clone(hand)?;
+        let writer = self.with_fewest(rt);
+        let Some(list) = self.lists.get(writer) else {
+            return Err(NoWriter);
+        };
+        let mut list = list.lock(rt);
+        let turn = list.changes;
+        list.players
+            .push(Player { hand, turn })
+            .map_err(|refused| AllocError::from(refused))?;
+        list.changes = list.changes.saturating_add(1);
+        drop(list);
+        self.bell.writers.raise();
+        Ok(Place { writer, turn })
+    }
+
+    /// The number of the writer with the fewest players.
+    fn with_fewest(&self, rt: &impl Wait) -> usize {
+        let (mut best, mut fewest) = (0, usize::MAX);
+        for (number, list) in self.lists.iter().enumerate() {
+            let count = list.lock(rt).players.len();
+            if count < fewest {
+                (best, fewest) = (number, count);
+            }
+        }
+        best
+    }
+
+    /// Takes a player out. Its writer may still be looking at it.
+    pub(crate) fn remove(&self, rt: &impl Wait, place: Place) {
+        if let Some(list) = self.lists.get(place.writer) {
+            list.lock(rt).remove(place.turn);
+        }
+    }
+
+    /// Ends the writers.
+    pub fn stop(&self) {
+        self.stopped.store(true, Ordering::SeqCst);
+        self.bell.writers.raise();
+    }
+}
+
+impl<T: Drop, W: Sink + Drop, H: Drop> List<T, W, H> {
+    /// Takes a player out, if it is here.
+    fn remove(&mut self, turn: u64) {
+        for (place, player) in self.players.iter().enumerate() {
+            if player.turn == turn {
+                self.players.swap_remove(place);
+                self.changes = self.changes.saturating_add(1);
+                return;
+            }
+        }
+    }
+}
+
+/// What a writer has to do after a look at all of its players.
+#[derive(Clone, Copy, Drop)]
+struct Rest {
+    again: bool,
+    /// After how many milliseconds, if nobody wakes it.
+    later: Option<u64>,
+}
+
+impl Rest {
+    /// There is this to do as well.
+    fn add(&mut self, next: Next) {
+        match next {
+            Next::Again => self.again = true,
+            Next::Later(time) => {
+                self.later = Some(self.later.map_or(time, |other| other.min(time)));
+            }
+            Next::Sleep | Next::Over => {}
+        }
+    }
+}
+
+impl<T: Tap + Leave + Drop, W: TrySink + Drop, H: HangUp + Drop> Writers<T, W, H> {
+    /// Sends the frames of one writer's players until the writers are stopped: the work of a thread of its own. It sleeps while
+    /// nothing comes for them.
+    pub fn write_all<R: Wait + Clock>(&self, rt: &R, alloc: Global, number: usize) {
+        let Some(list) = self.lists.get(number) else {
+            return;
+        };
+        let mut buf = Vec::new(alloc);
+        let began = Instant::now(rt).ok();
+        for _ in rt.forever() {
+            // Read before the players are looked at, so that no wake is missed.
+            let raised = self.bell.writers.raised();
+            if self.stopped.load(Ordering::SeqCst) {
+                return;
+            }
+            let rest = self.look_at_all(rt, list, &mut buf, now(rt, began));
+            if !rest.again {
+                self.bell.writers.sleep(rt, raised, rest.later);
+            }
+        }
+    }
+
+    /// Looks at each player once. One that comes, or is moved by one that leaves, may be passed over: then all are looked at again.
+    fn look_at_all(
+        &self,
+        rt: &impl Wait,
+        list: &Mutex<List<T, W, H>>,
+        buf: &mut Vec<u8>,
+        now: u64,
+    ) -> Rest {
+        let changes = list.lock(rt).changes;
+        let mut rest = Rest {
+            again: false,
+            later: None,
+        };
+        let mut place = 0;
+        for _ in rt.forever() {
+            let Some(Player { hand, turn }) = player_at(rt, list, place) else {
+                break;
+            };
+            let next = hand.look(rt, buf, now, self.most);
+            rest.add(next);
+            if next == Next::Over {
+                // It may have come anew meanwhile, which is another turn.
+                list.lock(rt).remove(turn);
+            } else {
+                place = place.saturating_add(1);
+            }
+        }
+        if list.lock(rt).changes != changes {
+            rest.again = true;
+        }
+        rest
+    }
+}
+
+/// The player at a place.
+fn player_at<T, W: Sink, H>(
+    rt: &impl Wait,
+    list: &Mutex<List<T, W, H>>,
+    place: usize,
+) -> Option<Player<T, W, H>> {
+    let list = list.lock(rt);
+    let found = list.players.get(place)?;
+    let hand = Arc::try_clone(&found.hand).ok()?;
+    let turn = found.turn;
+    Some(Player { hand, turn })
+}
+
+/// How many milliseconds have passed since then. Where the clock can't be read each moment has come.
+fn now<R: Clock>(rt: &R, began: Option<Instant>) -> u64 {
+    match (began, Instant::now(rt)) {
+        (Some(began), Ok(now)) => {
+            u64::try_from(now.duration_since(began).as_millis()).unwrap_or(u64::MAX)
+        }
+        _ => u64::MAX,
+    }
+}

@@ -1,0 +1,252 @@
+//! What stands where a request for memory is refused, in a talk and in the book that it asks. `tools/refuse-memory` runs each
+//! of these once for each request that it makes, with that one refused: then it ends for want of memory before what it shows,
+//! or passes.
+use crate::devices::{Outcome, in_pieces, made_host, outcome_of};
+use crate::exchange_tests::{ANNOUNCED, CAMERA, DESCRIBED, IS_SET_UP, RECORDS};
+use base_syntax::Items;
+use relay_talk::{FixedWord, TalkEnd};
+use rtsp_message::{Reader, Request, Unit};
+use session_lock::{Answer, AskFault, Book};
+use session_state::{Act, ConnectFault, Given};
+use std::alloc::Global;
+use std::collections::hash_map::RandomState;
+use std::test::Fail;
+
+/// What the last reply is where nothing more can be read for want of memory.
+const LAST: &[u8] = b"RTSP/1.0 503 Service Unavailable\r\n\r\n";
+
+/// What a camera is told: all replies, or with one that there was no memory for. The book hasn't heard that request, or it
+/// has, and its act was carried out.
+const TOLD: [[&[u8]; 4]; 7] = [
+    [ANNOUNCED, IS_SET_UP, RECORDS, DESCRIBED],
+    [
+        b"RTSP/1.0 503 Service Unavailable\r\nCSeq: 2\r\n\r\n",
+        b"RTSP/1.0 404 Not Found\r\nCSeq: 3\r\n\r\n",
+        b"RTSP/1.0 454 Session Not Found\r\nCSeq: 4\r\n\r\n",
+        b"RTSP/1.0 404 Not Found\r\nCSeq: 5\r\n\r\n",
+    ],
+    [
+        b"RTSP/1.0 503 Service Unavailable\r\nCSeq: 2\r\n\r\n",
+        IS_SET_UP,
+        RECORDS,
+        DESCRIBED,
+    ],
+    [
+        ANNOUNCED,
+        b"RTSP/1.0 503 Service Unavailable\r\nCSeq: 3\r\n\r\n",
+        b"RTSP/1.0 454 Session Not Found\r\nCSeq: 4\r\n\r\n",
+        DESCRIBED,
+    ],
+    [
+        ANNOUNCED,
+        b"RTSP/1.0 503 Service Unavailable\r\nCSeq: 3\r\n\r\n",
+        RECORDS,
+        DESCRIBED,
+    ],
+    [
+        ANNOUNCED,
+        IS_SET_UP,
+        b"RTSP/1.0 503 Service Unavailable\r\nCSeq: 4\r\n\r\n",
+        DESCRIBED,
+    ],
+    [
+        ANNOUNCED,
+        IS_SET_UP,
+        RECORDS,
+        b"RTSP/1.0 503 Service Unavailable\r\nCSeq: 5\r\n\r\n",
+    ],
+];
+
+/// Whether a text is these parts, one behind the other.
+fn is_joined(text: &[u8], parts: &[&[u8]]) -> bool {
+    let mut rest = text;
+    for part in parts {
+        match rest.strip_prefix(*part) {
+            Some(behind) => rest = behind,
+            None => return false,
+        }
+    }
+    rest.is_empty()
+}
+
+/// Whether a text is the replies to some of the first messages, and the last text.
+fn is_cut_off(text: &[u8]) -> bool {
+    let mut rest = text;
+    for reply in CAMERA.read {
+        if rest == LAST {
+            return true;
+        }
+        match rest.strip_prefix(*reply) {
+            Some(behind) => rest = behind,
+            None => return false,
+        }
+    }
+    rest == LAST
+}
+
+/// Whether this is what a talk comes to of which at most one request for memory was refused.
+fn stands(outcome: &Outcome) -> bool {
+    let text = outcome.written.as_slice();
+    match outcome.end {
+        TalkEnd::Done => TOLD.iter().any(|told| is_joined(text, told)),
+        TalkEnd::OutOfMemory => is_cut_off(text),
+        _ => false,
+    }
+}
+
+#[test]
+fn a_talk_tells_of_a_refusal_and_goes_on(rt: HostRuntime) -> Result<(), Fail> {
+    let host = made_host(&rt, 0xabcd)?;
+    let sent = CAMERA.sent.concat(host.alloc)?;
+    let mut word = FixedWord(host.word);
+    let outcome = outcome_of(host, &sent, in_pieces(50), &mut word)?;
+    assert!(rt; stands(&outcome));
+    Ok(())
+}
+
+/// What connections 1 and 2 ask, each answered with 200, with the act and the pass that is handed out.
+const ASKED: [(u64, &[u8], Act, Option<u16>); 5] = [
+    (
+        1,
+        b"ANNOUNCE rtsp://h/a RTSP/1.0\nCSeq: 1\nContent-Length: 26\n\nv=0\nm=audio 0 RTP/AVP 0  \n",
+        Act::Open,
+        None,
+    ),
+    (
+        1,
+        b"SETUP rtsp://h/a/trackID=0 RTSP/1.0\nCSeq: 2\nTransport: RTP/AVP/TCP;mode=record\n\n",
+        Act::None,
+        None,
+    ),
+    (
+        1,
+        b"RECORD rtsp://h/a RTSP/1.0\nCSeq: 3\nSession: 0000000100000007\n\n",
+        Act::Record,
+        None,
+    ),
+    (
+        2,
+        b"SETUP rtsp://h/a/trackID=0 RTSP/1.0\nCSeq: 1\nTransport: RTP/AVP/TCP\n\n",
+        Act::None,
+        None,
+    ),
+    (
+        2,
+        b"PLAY rtsp://h/a RTSP/1.0\nCSeq: 2\nSession: 0000000200000007\n\n",
+        Act::Play { mount: 1, seat: 0 },
+        Some(10),
+    ),
+];
+
+/// The request that a text is.
+fn request_of(alloc: Global, text: &[u8]) -> Result<Request, Fail> {
+    let mut units = Reader::new(alloc).feed(text)?.units;
+    match units.pop() {
+        Some(Unit::Message(request)) => Ok(request),
+        _ => Err(Fail::from("a request")),
+    }
+}
+
+/// The pass that an ANNOUNCE offers.
+fn offer_of(alloc: Global, text: &[u8]) -> Result<Option<Vec<u16>>, Fail> {
+    if !text.starts_with(b"ANNOUNCE") {
+        return Ok(None);
+    }
+    Ok(Some(vec![in alloc; 10]?))
+}
+
+/// The next connection's number, asked for once more where memory is refused. Nothing where the refusal changed the book.
+fn comes_at_last(book: &mut Book<u16>) -> Option<u64> {
+    let kept = book.kept();
+    match book.connect() {
+        Ok(conn) => Some(conn),
+        Err(ConnectFault::OutOfMemory) if book.kept() == kept => book.connect().ok(),
+        Err(_) => None,
+    }
+}
+
+/// The answer to a request, which is asked once more where memory is refused. Nothing where the refusal changed the book
+/// or kept the offer.
+fn answer_at_last(
+    book: &mut Book<u16>,
+    alloc: Global,
+    conn: u64,
+    request: &Request,
+    offer: Option<Vec<u16>>,
+) -> Option<Answer<u16>> {
+    let kept = book.kept();
+    let is_offered = offer.is_some();
+    let given = Given {
+        word: 7,
+        points: Items::empty(alloc),
+        now: 0,
+    };
+    match book.ask(conn, request, &given, offer) {
+        Ok(answer) => Some(answer),
+        Err(AskFault::NoMemory { back }) => {
+            if book.kept() != kept || back.is_some() != is_offered {
+                return None;
+            }
+            book.ask(conn, request, &given, back).ok()
+        }
+        Err(_) => None,
+    }
+}
+
+/// Whether a request is answered so.
+fn is_answered(
+    book: &mut Book<u16>,
+    alloc: Global,
+    asked: &(u64, &[u8], Act, Option<u16>),
+) -> Result<bool, Fail> {
+    let (conn, text, act, pass) = asked;
+    let request = request_of(alloc, text)?;
+    let offer = offer_of(alloc, text)?;
+    match answer_at_last(book, alloc, *conn, &request, offer) {
+        Some(answer) => {
+            Ok(answer.reply.status.code() == 200 && answer.act == *act && answer.pass == *pass)
+        }
+        None => Ok(false),
+    }
+}
+
+/// Whether two connections come, and all that they ask is answered.
+fn plays(book: &mut Book<u16>, alloc: Global) -> Result<bool, Fail> {
+    if comes_at_last(book) != Some(1) || comes_at_last(book) != Some(2) {
+        return Ok(false);
+    }
+    for asked in &ASKED {
+        if !is_answered(book, alloc, asked)? {
+            return Ok(false);
+        }
+    }
+    Ok(book.kept() == 7)
+}
+
+#[test]
+fn a_refused_call_of_the_book_is_made_again(rt: HostRuntime) -> Result<(), Fail> {
+    let mut book: Book<u16> = Book::new(rt.alloc(), 1, RandomState::new(&rt)?);
+    assert!(rt; plays(&mut book, rt.alloc())?);
+    Ok(())
+}
+
+/// Whether a player leaves and its seat comes back once, and then its camera leaves.
+fn leave(book: &mut Book<u16>) -> bool {
+    book.hangup(2) == Act::Stop { mount: 1, seat: 0 }
+        && book.give_back(1, 0, 10).is_none()
+        && book.give_back(1, 0, 11) == Some(11)
+        && book.hangup(2) == Act::None
+        && book.hangup(1) == Act::End
+        && book.kept() == 10
+}
+
+/// A hang-up and the return of a seat take no memory. In a run in which the request behind them is refused they answer the
+/// same.
+#[test]
+fn who_leaves_the_book_takes_no_memory(rt: HostRuntime) -> Result<(), Fail> {
+    let mut book: Book<u16> = Book::new(rt.alloc(), 1, RandomState::new(&rt)?);
+    assert!(rt; plays(&mut book, rt.alloc())?);
+    assert!(rt; leave(&mut book));
+    let _behind = Vec::from_elem(rt.alloc(), 0u8, 1).is_ok();
+    Ok(())
+}
