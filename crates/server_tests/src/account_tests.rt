@@ -1,10 +1,10 @@
 //! What becomes of the packets of a player that is too slow, and of its mount.
 use crate::connection_tests::{ANNOUNCE, SETUP};
-use crate::devices::{Count, Flag, Held, Staged, count, flag, has_come, joined};
+use crate::devices::{Count, Flag, Manner, Staged, Written, count, flag, has_come, joined};
 use crate::packets::FRAME;
 use crate::rings::Rings;
 use crate::serving::{
-    Serving, SharedRings, Watch, book_of, serve_in_thread, serve_source, shared_over,
+    Serving, SharedRings, Watch, book_of, line_in, serve_in_thread, serve_source, shared_over,
 };
 use crate::words::CountedWords;
 use interleaved::Writing;
@@ -87,18 +87,15 @@ fn stalled_line<R: Wait + Clock + Abort + Drop>(
     alloc: Global,
     watch: &Watch,
     stall: &Stall,
-) -> Line<Writing<Held<R>>> {
-    let bytes = Arc::try_clone(&watch.written).expect(&rt, "a count of its users");
+) -> Line<Writing<Written<R>>> {
     let let_on = Arc::try_clone(&stall.read).expect(&rt, "a count of its users");
     let writes = Arc::try_clone(&stall.writes).expect(&rt, "a count of its users");
-    let sink = Held {
-        rt,
-        bytes,
+    let manner = Manner::Held {
         free: SET_UP,
         let_on,
         writes,
     };
-    Line::new(alloc, Writing::new(sink), 16)
+    line_in(rt, alloc, &watch.written, manner)
 }
 
 /// Connection 1, which records. Once it is let on it sends its packets, and then closes; where `stay` is given, once that is

@@ -1,4 +1,6 @@
 //! Devices in memory, for tests.
+ghost use Rattle.std.specs.Prelude.{◌≤◌};
+
 use interleaved::TryWrite;
 use relay_server::HangUp;
 use std::alloc::Global;
@@ -40,18 +42,63 @@ impl HangUp for Open {
     fn limit_waits(&self, _wait: u64) {}
 }
 
-/// Keeps what is written for whoever shares it, and takes so many bytes more.
+/// Keeps what is written for whoever shares it.
 #[derive(Drop)]
 pub(crate) struct Written<R> {
     pub(crate) rt: R,
     pub(crate) bytes: Bytes,
-    pub(crate) room: usize,
+    pub(crate) manner: Manner,
 }
 
-impl<R: Wait> Write for Written<R> {
+/// How a device takes what is written.
+#[derive(Drop)]
+pub(crate) enum Manner {
+    /// So many bytes more, and then none.
+    Room(usize),
+    /// After so many bytes none until it is let on, for which it waits at most 10,000 turns of a millisecond. It counts the
+    /// writes.
+    Held {
+        free: usize,
+        let_on: Flag,
+        writes: Count,
+    },
+    /// All, each write after so many milliseconds.
+    Slow(u64),
+}
+
+impl<R: Wait + Clock> Written<R> {
+    /// How many of so many bytes are taken, once they may be.
+    fn taken(&mut self, len: usize) -> usize
+        ensures { result ≤ len }
+    {
+        match &mut self.manner {
+            Manner::Room(room) => {
+                let count = len.min(*room);
+                *room -= count;
+                count
+            }
+            Manner::Held {
+                free,
+                let_on,
+                writes,
+            } => {
+                if self.bytes.lock(&self.rt).len() >= *free {
+                    wait_for(&self.rt, let_on);
+                }
+                writes.fetch_add(1, Ordering::SeqCst);
+                len
+            }
+            Manner::Slow(wait) => {
+                thread::sleep(&self.rt, Duration::from_millis(*wait));
+                len
+            }
+        }
+    }
+}
+
+impl<R: Wait + Clock> Write for Written<R> {
     fn write(&mut self, buf: &[u8]) -> io::Result<usize> {
-        let count = buf.len().min(self.room);
-        self.room -= count;
+        let count = self.taken(buf.len());
         self.bytes.lock(&self.rt).extend_from_slice(&buf[..count])?;
         Ok(count)
     }
@@ -61,35 +108,7 @@ impl<R: Wait> Write for Written<R> {
     }
 }
 
-impl<R: Wait> TryWrite for Written<R> {}
-
-/// Keeps what is written for whoever shares it, and counts the writes. After so many bytes it takes nothing until it is let
-/// on, for which it waits at most 10,000 turns of a millisecond.
-#[derive(Drop)]
-pub(crate) struct Held<R> {
-    pub(crate) rt: R,
-    pub(crate) bytes: Bytes,
-    pub(crate) free: usize,
-    pub(crate) let_on: Flag,
-    pub(crate) writes: Count,
-}
-
-impl<R: Wait + Clock> Write for Held<R> {
-    fn write(&mut self, buf: &[u8]) -> io::Result<usize> {
-        if self.bytes.lock(&self.rt).len() >= self.free {
-            wait_for(&self.rt, &self.let_on);
-        }
-        self.writes.fetch_add(1, Ordering::SeqCst);
-        self.bytes.lock(&self.rt).extend_from_slice(buf)?;
-        Ok(buf.len())
-    }
-
-    fn flush(&mut self) -> io::Result<()> {
-        Ok(())
-    }
-}
-
-impl<R: Wait + Clock> TryWrite for Held<R> {}
+impl<R: Wait + Clock> TryWrite for Written<R> {}
 
 /// Waits until a word is set, for at most 10,000 turns of a millisecond.
 pub(crate) fn wait_for<R: Clock>(rt: &R, word: &AtomicBool) {

@@ -2,7 +2,7 @@
 use crate::account_tests::{
     LAST, PACKETS, PUBLIC_END, Stall, accounted, playing, published, recording,
 };
-use crate::devices::{Held, count, flag, has_come, wait_for};
+use crate::devices::{Manner, Written, count, flag, has_come, wait_for};
 use crate::rings::Rings;
 use crate::serving::{SharedRings, Watch, book_of, shared_over};
 use crate::words::CountedWords;
@@ -25,13 +25,13 @@ fn a_reply_of_any_length_is_written_out_at_once(rt: HostRuntime) {
     let alloc = rt.alloc();
     let watch = Watch::new(&rt, alloc);
     let writes = count(&rt, alloc);
-    let sink = Held {
-        rt,
-        bytes: Arc::try_clone(&watch.written).expect(&rt, "a count of its users"),
+    let manner = Manner::Held {
         free: usize::MAX,
         let_on: flag(&rt, alloc),
         writes: Arc::try_clone(&writes).expect(&rt, "a count of its users"),
     };
+    let bytes = Arc::try_clone(&watch.written).expect(&rt, "a count of its users");
+    let sink = Written { rt, bytes, manner };
     let line = Line::new(alloc, Writing::new(sink), 0);
     let mut all = 0usize;
     for len in LENGTHS {

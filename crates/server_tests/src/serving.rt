@@ -1,5 +1,5 @@
 //! Connections over devices in memory, for tests.
-use crate::devices::{Bytes, Flag, Open, Staged, Written, flag};
+use crate::devices::{Bytes, Flag, Manner, Open, Staged, Written, flag};
 use crate::rings::{Owned, Rings};
 use interleaved::{Reading, Sink, Writing};
 use packet_ring::Pass;
@@ -51,14 +51,24 @@ pub(crate) fn shared_over<V: Words + Drop>(
 }
 
 /// A line to a peer that takes so many bytes.
-pub(crate) fn line_to<R: Wait + Abort + Drop>(
+pub(crate) fn line_to<R: Wait + Clock + Abort + Drop>(
     rt: R,
     alloc: Global,
     bytes: &Bytes,
     room: usize,
 ) -> Line<Writing<Written<R>>> {
+    line_in(rt, alloc, bytes, Manner::Room(room))
+}
+
+/// A line to a peer that takes what is written in this manner.
+pub(crate) fn line_in<R: Wait + Clock + Abort + Drop>(
+    rt: R,
+    alloc: Global,
+    bytes: &Bytes,
+    manner: Manner,
+) -> Line<Writing<Written<R>>> {
     let bytes = Arc::try_clone(bytes).expect(&rt, "a count of its users");
-    Line::new(alloc, Writing::new(Written { rt, bytes, room }), 16)
+    Line::new(alloc, Writing::new(Written { rt, bytes, manner }), 16)
 }
 
 /// What a test and a connection share: what is written to its peer, and the word that lets the peer on.
@@ -105,18 +115,17 @@ pub(crate) fn sent_on<T, W: Sink>(line: Line<W>) -> Outgoing<T, W, Open> {
 }
 
 /// Serves a connection in a thread of its own.
-pub(crate) fn serve_in_thread<R, V, W>(
+pub(crate) fn serve_in_thread<R, V>(
     rt: R,
     alloc: Global,
     shared: &SharedRings<V>,
     conn: u64,
     source: Staged<R>,
-    line: Line<W>,
+    line: Line<Writing<Written<R>>>,
 ) -> JoinHandle<Outcome>
 where
     R: Threads + Wait + Clock + Abort + Copy + Drop + Send + 'static,
     V: Words + Drop + Send + 'static,
-    W: Sink + Drop + Send + 'static,
 {
     let theirs = Arc::try_clone(shared).expect(&rt, "a count of its users");
     thread::spawn(&rt, move || {

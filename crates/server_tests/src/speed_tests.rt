@@ -1,50 +1,25 @@
 //! Players at four speeds, and their accounts.
 use crate::account_tests::{SET_UP, SETUP_OUT};
 use crate::connection_tests::{ANNOUNCE, IN_SESSION, RECORD, SETUP};
-use crate::devices::{Bytes, Staged, has_come, joined};
+use crate::devices::{Manner, Staged, has_come, joined};
 use crate::packets::{number_in, small_frames};
 use crate::rings::Rings;
 use crate::serving::{
-    Serving, SharedRings, Watch, book_of, serve_camera, serve_in_thread, shared_over,
+    Serving, SharedRings, Watch, book_of, line_in, serve_camera, serve_in_thread, shared_over,
 };
 use crate::words::OneWord;
-use interleaved::{TryWrite, Writing};
-use relay_server::{ConnectionEnd, Line};
+use relay_server::ConnectionEnd;
 use std::alloc::{AllocError, Global};
-use std::io::Write;
 use std::process::Abort;
 use std::sync::{Arc, Wait};
 use std::thread::Threads;
-use std::time::{Clock, Duration};
-use std::{io, thread};
+use std::time::Clock;
 
 /// For how many milliseconds each write to a player takes.
 const WAITS: [u64; 4] = [0, 1, 5, 20];
 
 /// How many packets are published: a hundred times what a ring keeps.
 const PACKETS: u16 = 400;
-
-/// Keeps what is written for whoever shares it, so many milliseconds later.
-#[derive(Drop)]
-struct Slow<R> {
-    rt: R,
-    bytes: Bytes,
-    wait: u64,
-}
-
-impl<R: Wait + Clock> Write for Slow<R> {
-    fn write(&mut self, buf: &[u8]) -> io::Result<usize> {
-        thread::sleep(&self.rt, Duration::from_millis(self.wait));
-        self.bytes.lock(&self.rt).extend_from_slice(buf)?;
-        Ok(buf.len())
-    }
-
-    fn flush(&mut self) -> io::Result<()> {
-        Ok(())
-    }
-}
-
-impl<R: Wait + Clock> TryWrite for Slow<R> {}
 
 /// A player's requests, in the session of this number, below ten.
 fn requests(alloc: Global, session: u64) -> Result<Vec<u8>, AllocError> {
@@ -65,8 +40,7 @@ where
     let let_on = Arc::try_clone(&watch.let_on).expect(&rt, "a count of its users");
     let said = requests(alloc, conn).expect(&rt, "memory");
     let source = Staged::new(rt, said, Vec::new(alloc), let_on);
-    let bytes = Arc::try_clone(&watch.written).expect(&rt, "a count of its users");
-    let line = Line::new(alloc, Writing::new(Slow { rt, bytes, wait }), 16);
+    let line = line_in(rt, alloc, &watch.written, Manner::Slow(wait));
     let thread = serve_in_thread(rt, alloc, shared, conn, source, line);
     assert!(rt; has_come(&rt, &watch.written, SET_UP, b"\r\n\r\n"));
     Serving { watch, thread }
