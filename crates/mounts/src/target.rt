@@ -38,11 +38,12 @@ fn base_text(alloc: Global, text: &[u8]) -> Result<Bytes, AllocError>
     ensures { IfOk result (λ base. base ≡ base_of text.now) }
 {
     let resource = resource_text(text);
-    let mut base = Bytes::from_slice(alloc, resource)?;
+    let mut base = Vec::with_capacity(alloc, resource.len().saturating_add(1))?;
+    base.extend_from_slice(resource)?;
     if !ends_in_slash(resource) {
         base.push(b'/')?;
     }
-    Ok(base)
+    Ok(Bytes::new(base))
 }
 
 /// Whether a path is empty or begins with a slash.

@@ -78,9 +78,11 @@ impl<S: Source + Drop> Intake<S> {
     }
 
     /// At most so many units are still to come: each takes a byte at least of what the source has left, of what is held
-    /// and of what waits, or is read already.
+    /// and of what waits, or is read already. Beside what the source has left that is bounded: 65,536 bytes are held at most,
+    /// fewer than 73,728 wait, and no more units are read already than these together have bytes.
     pub fn left(&self) -> u64
-        ensures { result ≡ weight S.bound self.now }
+        ensures value { result ≡ weight S.bound self.now }
+        ensures few { result ≤ S.bound self.now.source + 278_528 }
     {
         let held = &self.piece[..self.held];
         let unread = self.source.left() + held.len() as u64;

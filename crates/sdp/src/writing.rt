@@ -11,6 +11,9 @@ use base_syntax::Bytes;
 use itoa::Buffer;
 use std::alloc::{AllocError, Global};
 
+/// The most bytes of a line that `write` adds: the control attribute of a track's number, below 16.
+const CONTROL_LEN: usize = b"a=control:trackID=15\r\n".len();
+
 /// Appends lines, but for control attributes, each with CRLF.
 fn write_lines(out: &mut Vec<u8>, lines: &[Bytes]) -> Result<(), AllocError>
     ensures { OnOk result (out.new.items ≡ out.old.items ++ flat_map written (without_controls lines.now)) }
@@ -55,13 +58,36 @@ fn write_tracks(out: &mut Vec<u8>, tracks: &[Track]) -> Result<(), AllocError>
     Ok(())
 }
 
+/// How many bytes lines take, but for control attributes, each with CRLF.
+fn len_of(lines: &[Bytes]) -> usize {
+    let mut len = 0usize;
+    for line in lines {
+        if control_value(line.as_slice()).is_some() {
+            continue;
+        }
+        len = len.saturating_add(line.len()).saturating_add(2);
+    }
+    len
+}
+
+/// How many bytes the text of a description takes at most: its length, or a few bytes more.
+fn room_for(description: &Description) -> usize {
+    let mut room = len_of(description.session()).saturating_add(CONTROL_LEN);
+    for track in description.tracks() {
+        let lines = len_of(track.lines.as_slice());
+        room = room.saturating_add(lines).saturating_add(CONTROL_LEN);
+    }
+    room
+}
+
 /// The text of a description for players: its lines without the announced controls, with the control `*` for
 /// the session and `trackID=k` for the track of number k, counted from 0 (RFC 2326, C.1.1). Each line
 /// ends with CRLF.
 pub fn write(alloc: Global, description: &Description) -> Result<Vec<u8>, AllocError>
     ensures { IfOk result (λ out. out.items ≡ description_text description.now) }
 {
-    let mut out = Vec::new(alloc);
+    // A text that grows would be copied again and again.
+    let mut out = Vec::with_capacity(alloc, room_for(description))?;
     write_lines(&mut out, description.session())?;
     write_control(&mut out, b"*")?;
     write_tracks(&mut out, description.tracks())?;
