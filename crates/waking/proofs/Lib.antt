@@ -1,2 +1,4 @@
+mod Invariant
 mod Keeping
-mod Remembering
+mod Players
+mod Schedules

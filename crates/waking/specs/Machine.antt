@@ -1,7 +1,7 @@
--- The machine of wake-ups, as one player meets it: its mount, its line, its writer, and all other threads. Each step is one
--- atomic operation of one thread, in any order. Threads that are at the same place are counted, so there may be any number of
--- publishers, readers and writers, and what concerns other mounts, players and writers alone is a step of "somebody".
-use Rattle.std.specs.Prelude.{◌≡◌, ◌≢◌, ℕ, ◌+◌, ◌-◌, ◌<◌, ◌⊎◌, Bool, true, false, List, [], ◌∷◌}
+-- The machine of wake-ups: any number of mounts, of players, of their writers and of other threads, all of which make their steps
+-- in any order. Each step is one atomic operation of one thread, or what a lock holds together. Threads that are at the same
+-- place are counted.
+use Rattle.std.specs.Prelude.{◌≡◌, ℕ, ◌+◌, ◌-◌, ◌<◌, ◌==◌, ◌⊎◌, Bool, true, false, Option, None, Some, List, [], ◌∷◌, if◌then◌else◌}
 use Rattle.waking.specs.declared.attention.Attention.{Attention}
 use Rattle.waking.specs.declared.round.Next.{Next}
 use Rattle.waking.specs.declared.round.Next.TheVariants.{Sleep, Again, Later, Over}
@@ -10,26 +10,18 @@ use Rattle.waking.specs.Attentions.{emptied, held, newcomer, to_look_at}
 use Rattle.waking.specs.Rounds.{added, begun}
 use Rattle.waking.specs.Words.{next_of}
 
--- where the player's writer is
-pub data Point : Type 0 where
-  -- it is about to read the word that writers sleep on
-  awake : Point
-  -- it has read it, and goes through its players
-  between : Point
-  -- it has the player, and has read how often its mount's players were woken
-  knows : Point
-  -- its first try of the player's line has failed
-  failed : Point
-  -- it has marked the line as skipped
-  marked : Point
-  -- it has the line
-  holds : Point
-  -- its round is over, and it is about to sleep
-  ends : Point
-  asleep : Point
+-- what all threads share
+pub record Words : Type 0 where
+  -- whether the waking thread was rung since it last began to ask mounts for marks
+  pub rung : Bool
+  -- how often the word that writers sleep on was raised
+  pub raised : ℕ
+  -- how many threads have raised it, and are about to wake who sleeps
+  pub calling : ℕ
 
-pub record State : Type 0 where
-  -- THE MOUNT. How many packets were put into its log, and one more once it has ended
+-- a mount
+pub record Mount : Type 0 where
+  -- how many packets were put into its log, and one more once it has ended
   pub logged : ℕ
   -- its marks since they were last taken
   pub news : ℕ
@@ -37,257 +29,406 @@ pub record State : Type 0 where
   pub wakes : ℕ
   -- how many threads have put something into the log, and haven't told it
   pub publishing : ℕ
-  -- how many have marked the mount, and haven't rung
+  -- how many have marked it, and haven't rung
   pub ringing : ℕ
-  -- how many have taken its marks, and are about to count a wake-up
+  -- how many have emptied its marks, and are about to count a wake-up
   pub telling : ℕ
-  -- THE WAKING THREAD. Whether it was rung since it last began to ask mounts for marks
-  pub rung : Bool
-  -- whether it has asked this one since
-  pub asked : Bool
-  -- THE WORD that writers sleep on: how often it was raised
-  pub raised : ℕ
-  -- how many threads are about to raise it
+  -- how many have counted one, and are about to raise the word
   pub raising : ℕ
-  -- how many have raised it, and are about to wake who sleeps
-  pub calling : ℕ
-  -- THE LINE. How many threads have it to write a reply, or wait for it
+  -- whether the waking thread has asked it for marks since it began to
+  pub asked : Bool
+  -- whether that has taken its marks, and is about to count a wake-up
+  pub took : Bool
+  -- whether that has counted one, and hasn't raised the word since
+  pub owed : Bool
+
+-- where the look of a player's writer at it is
+pub data Stage : Type 0 where
+  -- it has the player, and has read how often its mount's players were woken
+  knows : Stage
+  -- its first try of the player's line has failed
+  failed : Stage
+  -- it has marked the line as skipped
+  marked : Stage
+  -- it has the line
+  holds : Stage
+
+-- a player, with its line
+pub record Player : Type 0 where
+  -- how many threads have the line to write a reply, or wait for it
   pub replying : ℕ
   -- how many have given it back, and haven't looked for the mark
   pub parting : ℕ
+  -- how many are about to raise the word, for the mark that they took or for the player that came
+  pub raising : ℕ
+  -- whether the line is marked as skipped
   pub skipped : Bool
-  -- THE PLAYER. Whether it is in its writer's list
+  -- whether the player is in its writer's list
   pub here : Bool
   pub attention : Attention
   -- whether it is looked at again after a time alone: bytes wait that its socket didn't take, or it is to be hung up
   pub waits : Bool
-  -- how many packets the log had, and its end, when it last had taken all
+  -- how many packets the log had, and its end, when it was last found empty
   pub looked : ℕ
-  -- ITS WRITER
-  pub point : Point
-  -- how often the word had been raised when it read it
-  pub read : ℕ
-  -- how often the mount's players had been woken when it read that
+  -- how often the mount's players had been woken when its writer last read that
   pub known : ℕ
+  pub stage : Option Stage
+  -- whether its writer has looked at it in this round
+  pub done : Bool
+  -- whether its writer is to look at it again after a time
+  pub due : Bool
+
+-- where a writer is
+pub data Place : Type 0 where
+  -- it is about to read the word
+  awake : Place
+  -- it has read it, and goes through its players
+  between : Place
+  -- it looks at this one
+  looking : (player : ℕ) → Place
+  -- its round is over, and it is about to sleep
+  ends : Place
+  asleep : Place
+
+-- a writer
+pub record Writer : Type 0 where
+  pub place : Place
+  -- how often the word had been raised when it last read it
+  pub read : ℕ
   pub round : Round
   -- how often its list has changed
   pub list : ℕ
-  -- whether it has looked at the player in this round, or the round is over
-  pub done : Bool
-  -- whether it is to look at it again after a time
-  pub due : Bool
 
--- before all: nothing is published, and the player hasn't come
-abbrev pub start : State
-start = record {
-  logged = 0;
-  news = 0;
-  wakes = 0;
-  publishing = 0;
-  ringing = 0;
-  telling = 0;
-  rung = false;
-  asked = true;
-  raised = 0;
-  raising = 0;
-  calling = 0;
-  replying = 0;
-  parting = 0;
-  skipped = false;
-  here = false;
-  attention = newcomer;
-  waits = false;
-  looked = 0;
-  point = awake;
-  read = 0;
-  known = 0;
-  round = begun 0;
-  list = 0;
-  done = false;
-  due = false;
+pub record State : Type 0 where
+  pub words : Words
+  pub mounts : (mount : ℕ) → Mount
+  pub players : (player : ℕ) → Player
+  pub writers : (writer : ℕ) → Writer
+  -- which mount each player takes from, and which writer it has
+  pub mount_of : (player : ℕ) → ℕ
+  pub writer_of : (player : ℕ) → ℕ
+
+-- before all: nothing is published, and no player has come
+abbrev pub start : (mount_of writer_of : ℕ → ℕ) → State
+start mount_of writer_of = record {
+  words = record { rung = false; raised = 0; calling = 0 };
+  mounts = λ _. record { logged = 0; news = 0; wakes = 0; publishing = 0; ringing = 0; telling = 0; raising = 0; asked = true; took = false; owed = false };
+  players = λ _. record {
+    replying = 0;
+    parting = 0;
+    raising = 0;
+    skipped = false;
+    here = false;
+    attention = newcomer;
+    waits = false;
+    looked = 0;
+    known = 0;
+    stage = None;
+    done = false;
+    due = false;
+  };
+  writers = λ _. record { place = awake; read = 0; round = begun 0; list = 0 };
+  mount_of = mount_of;
+  writer_of = writer_of;
 }
 
--- the writer goes on after a look at the player, and this is next
-abbrev pub looked_at : Next → State → State
-looked_at next s = record s { point = between; round = added next s.round; done = true }
+-- one of them changes
+abbrev pub put : {A : Type 0} → (ℕ → A) → (number : ℕ) → A → (ℕ → A)
+put all number it other = if number == other then it else all other
+
+-- who raises the word; to wake who sleeps is a step of its own
+abbrev pub raised_once : Words → Words
+raised_once words = record words { raised = next_of words.raised; calling = words.calling + 1 }
+
+-- what concerns one mount
+pub data MountStep : Type 0 where
+  -- a publisher puts a packet, or the end, into the log
+  logs : MountStep
+  -- and marks the mount
+  marks : MountStep
+  -- or empties the marks, to wake the players itself
+  wakes_itself : MountStep
+  -- it does so though nothing is new, where it waits for players that are behind
+  hurries : MountStep
+  -- it finds that the waking thread was rung already
+  finds_rung : MountStep
+  -- it rings
+  rings : MountStep
+  -- who emptied the marks counts a wake-up
+  tells : MountStep
+  -- and raises the word
+  raises : MountStep
+  -- the waking thread finds no marks
+  finds_no_marks : MountStep
+  -- it takes them
+  takes_marks : MountStep
+  -- and counts a wake-up
+  counts : MountStep
+
+abbrev pub MayMount : MountStep → Words → Mount → Type 0
+MayMount logs words mount = Unit {0}
+MayMount marks words mount = 0 < mount.publishing
+MayMount wakes_itself words mount = 0 < mount.publishing
+MayMount hurries words mount = Unit {0}
+MayMount finds_rung words mount = (0 < mount.ringing) × (words.rung ≡ true)
+MayMount rings words mount = 0 < mount.ringing
+MayMount tells words mount = 0 < mount.telling
+MayMount raises words mount = 0 < mount.raising
+MayMount finds_no_marks words mount = (mount.asked ≡ false) × (mount.news ≡ 0)
+MayMount takes_marks words mount = (mount.asked ≡ false) × (0 < mount.news)
+MayMount counts words mount = mount.took ≡ true
+
+abbrev pub mount_after : MountStep → Mount → Mount
+mount_after logs mount = record mount { logged = mount.logged + 1; publishing = mount.publishing + 1 }
+mount_after marks mount = record mount { publishing = mount.publishing - 1; news = next_of mount.news; ringing = mount.ringing + 1 }
+mount_after wakes_itself mount = record mount { publishing = mount.publishing - 1; news = 0; telling = mount.telling + 1 }
+mount_after hurries mount = record mount { news = 0; telling = mount.telling + 1 }
+mount_after finds_rung mount = record mount { ringing = mount.ringing - 1 }
+mount_after rings mount = record mount { ringing = mount.ringing - 1 }
+mount_after tells mount = record mount { telling = mount.telling - 1; wakes = next_of mount.wakes; raising = mount.raising + 1 }
+mount_after raises mount = record mount { raising = mount.raising - 1 }
+mount_after finds_no_marks mount = record mount { asked = true }
+mount_after takes_marks mount = record mount { asked = true; news = 0; took = true }
+mount_after counts mount = record mount { took = false; wakes = next_of mount.wakes; owed = true }
+
+abbrev pub words_after_mount : MountStep → Words → Words
+words_after_mount rings words = record words { rung = true }
+words_after_mount raises words = raised_once words
+words_after_mount step words = words
+
+-- what concerns one player beside its writer
+pub data PlayerStep : Type 0 where
+  -- a reader's thread wants the line, for a reply
+  wants_line : PlayerStep
+  -- it gives the line back
+  gives_back : PlayerStep
+  -- it takes the mark that it finds there
+  finds_mark : PlayerStep
+  -- it finds none
+  finds_no_mark : PlayerStep
+  -- the player comes into its writer's list
+  joins : PlayerStep
+  -- it is taken out of it
+  leaves : PlayerStep
+  -- who took the mark, or put the player in, raises the word
+  raises_for_it : PlayerStep
+
+abbrev pub MayPlayer : PlayerStep → Player → Type 0
+MayPlayer wants_line player = Unit {0}
+MayPlayer gives_back player = 0 < player.replying
+MayPlayer finds_mark player = (0 < player.parting) × (player.skipped ≡ true)
+MayPlayer finds_no_mark player = (0 < player.parting) × (player.skipped ≡ false)
+MayPlayer joins player = player.here ≡ false
+MayPlayer leaves player = player.here ≡ true
+MayPlayer raises_for_it player = 0 < player.raising
+
+abbrev pub player_after : PlayerStep → Player → Player
+player_after wants_line player = record player { replying = player.replying + 1 }
+player_after gives_back player = record player { replying = player.replying - 1; parting = player.parting + 1 }
+player_after finds_mark player = record player { parting = player.parting - 1; skipped = false; raising = player.raising + 1 }
+player_after finds_no_mark player = record player { parting = player.parting - 1 }
+player_after joins player = record player { here = true; attention = newcomer; waits = false; looked = 0; raising = player.raising + 1 }
+player_after leaves player = record player { here = false }
+player_after raises_for_it player = record player { raising = player.raising - 1 }
+
+abbrev pub words_after_player : PlayerStep → Words → Words
+words_after_player raises_for_it words = raised_once words
+words_after_player step words = words
+
+abbrev pub writer_after_player : PlayerStep → Writer → Writer
+writer_after_player joins writer = record writer { list = writer.list + 1 }
+writer_after_player leaves writer = record writer { list = writer.list + 1 }
+writer_after_player step writer = writer
+
+-- a player's writer at it
+pub data LookStep : Type 0 where
+  -- the player's own lock is taken: it is looked at again after a time
+  passes_over : (time : ℕ) → LookStep
+  -- the writer has the player, and reads how often its mount's players were woken
+  reads_wakes : LookStep
+  -- there is nothing to do
+  finds_nothing : LookStep
+  -- it isn't time to try it again
+  finds_no_time : (time : ℕ) → LookStep
+  -- it gets the line at once
+  gets_line : LookStep
+  -- it doesn't
+  fails : LookStep
+  -- it marks the line as skipped
+  marks_line : LookStep
+  -- it gets the line after all
+  gets_line_late : LookStep
+  -- it doesn't, and goes on without this player
+  skips : LookStep
+  -- it finds the ring empty, and the socket has taken all
+  takes_all : LookStep
+  -- its takes are used up, and the socket has taken all
+  uses_up : LookStep
+  -- bytes are left
+  keeps_rest : (time : ℕ) → LookStep
+  -- it finds the ring empty, and bytes are left, or the connection is to be hung up
+  keeps_last_rest : (time : ℕ) → LookStep
+  -- the player has nothing more to send, and is taken out of the list
+  finishes : LookStep
+
+-- the writer looks at the player of this number, and is at this stage
+abbrev pub IsAt : Stage → (number : ℕ) → Player → Writer → Type 0
+IsAt stage number player writer = (writer.place ≡ looking number) × (player.stage ≡ Some stage)
+
+-- A try of the line fails only while a thread has it or waits for it.
+abbrev pub MayLook : LookStep → (number : ℕ) → Player → Writer → Type 0
+MayLook (passes_over time) number player writer = writer.place ≡ between
+MayLook reads_wakes number player writer = writer.place ≡ between
+MayLook finds_nothing number player writer = IsAt knows number player writer × (player.attention.again ≡ false) × (player.known ≡ player.attention.seen) × (player.waits ≡ false)
+MayLook (finds_no_time time) number player writer = IsAt knows number player writer × (player.attention.again ≡ false) × (player.waits ≡ true)
+MayLook gets_line number player writer = IsAt knows number player writer
+MayLook fails number player writer = IsAt knows number player writer × (0 < player.replying)
+MayLook marks_line number player writer = IsAt failed number player writer
+MayLook gets_line_late number player writer = IsAt marked number player writer
+MayLook skips number player writer = IsAt marked number player writer × (0 < player.replying)
+MayLook takes_all number player writer = IsAt holds number player writer
+MayLook uses_up number player writer = IsAt holds number player writer
+MayLook (keeps_rest time) number player writer = IsAt holds number player writer
+MayLook (keeps_last_rest time) number player writer = IsAt holds number player writer
+MayLook finishes number player writer = IsAt holds number player writer
+
+-- the look is over
+abbrev pub seen_to : Player → Player
+seen_to player = record player { stage = None; done = true }
+
+abbrev pub player_after_look : LookStep → Mount → Player → Player
+player_after_look (passes_over time) mount player = seen_to (record player { due = true })
+player_after_look reads_wakes mount player = record player { known = mount.wakes; stage = Some knows; done = false }
+player_after_look finds_nothing mount player = seen_to player
+player_after_look (finds_no_time time) mount player = seen_to (record player { due = true })
+player_after_look gets_line mount player = record player { stage = Some holds; attention = held player.attention }
+player_after_look fails mount player = record player { stage = Some failed }
+player_after_look marks_line mount player = record player { stage = Some marked; skipped = true }
+player_after_look gets_line_late mount player = record player { stage = Some holds; attention = held player.attention }
+player_after_look skips mount player = seen_to (record player { attention = to_look_at player.attention })
+player_after_look takes_all mount player = seen_to (record player { attention = emptied player.known; waits = false; looked = mount.logged })
+player_after_look uses_up mount player = seen_to (record player { attention = to_look_at player.attention; waits = false })
+player_after_look (keeps_rest time) mount player = seen_to (record player { attention = held player.attention; waits = true; due = true })
+player_after_look (keeps_last_rest time) mount player =
+    seen_to (record player { attention = emptied player.known; waits = true; looked = mount.logged; due = true })
+player_after_look finishes mount player = seen_to (record player { here = false })
+
+-- the writer goes on, and this is next for the player
+abbrev pub gone_on : Next → Writer → Writer
+gone_on next writer = record writer { place = between; round = added next writer.round }
+
+abbrev pub writer_after_look : LookStep → (number : ℕ) → Writer → Writer
+writer_after_look (passes_over time) number writer = gone_on (Later time) writer
+writer_after_look reads_wakes number writer = record writer { place = looking number }
+writer_after_look finds_nothing number writer = gone_on Sleep writer
+writer_after_look (finds_no_time time) number writer = gone_on (Later time) writer
+writer_after_look gets_line number writer = writer
+writer_after_look fails number writer = writer
+writer_after_look marks_line number writer = writer
+writer_after_look gets_line_late number writer = writer
+writer_after_look skips number writer = gone_on Sleep writer
+writer_after_look takes_all number writer = gone_on Sleep writer
+writer_after_look uses_up number writer = gone_on Again writer
+writer_after_look (keeps_rest time) number writer = gone_on (Later time) writer
+writer_after_look (keeps_last_rest time) number writer = gone_on (Later time) writer
+writer_after_look finishes number writer = gone_on Over (record writer { list = writer.list + 1 })
+
+-- a writer's round
+pub data RoundStep : Type 0 where
+  -- it reads the word
+  begins : RoundStep
+  -- a player is to be looked at again, or the list has changed: another round
+  goes_round : RoundStep
+  -- neither
+  ends_round : RoundStep
+  -- the word is the one that was read, and the writer sleeps
+  sleeps : RoundStep
+  -- it isn't, or the writer was woken for no reason, or the time is over
+  returns : RoundStep
+
+-- A walk over a list that hasn't changed meets each player in it.
+abbrev pub MayRound : RoundStep → State → (writer : ℕ) → Type 0
+MayRound begins s w = (s.writers w).place ≡ awake
+MayRound goes_round s w = (s.writers w).place ≡ between
+MayRound ends_round s w = ((s.writers w).place ≡ between) × ((s.writers w).round.again ≡ false) × ((s.writers w).list ≡ (s.writers w).round.changes)
+    × ((player : ℕ) → w ≡ s.writer_of player → (s.players player).here ≡ true → (s.players player).done ≡ true)
+MayRound sleeps s w = ((s.writers w).place ≡ ends) × (s.words.raised ≡ (s.writers w).read)
+MayRound returns s w = ((s.writers w).place ≡ ends) ⊎ ((s.writers w).place ≡ asleep)
+
+abbrev pub writer_after_round : RoundStep → Words → Writer → Writer
+writer_after_round begins words writer = record writer { place = between; read = words.raised; round = begun writer.list }
+writer_after_round goes_round words writer = record writer { place = awake }
+writer_after_round ends_round words writer = record writer { place = ends }
+writer_after_round sleeps words writer = record writer { place = asleep }
+writer_after_round returns words writer = record writer { place = awake }
+
+-- each of its players, where a round begins
+abbrev pub player_after_round : RoundStep → Player → Player
+player_after_round begins player = record player { done = false; due = false }
+player_after_round step player = player
+
+-- one that sleeps is woken
+abbrev pub woken : Place → Place
+woken awake = awake
+woken between = between
+woken (looking player) = looking player
+woken ends = ends
+woken asleep = awake
 
 -- one step of one thread
 pub data Act : Type 0 where
-  -- a publisher puts a packet, or the end, into the mount's log
-  logs : Act
-  -- and marks the mount
-  marks : Act
-  -- or takes the marks to wake the players itself
-  wakes_itself : Act
-  -- it does so though nothing is new, to wait for players that are behind
-  hurries : Act
-  -- it finds that the waking thread was rung already
-  finds_rung : Act
-  -- it rings
-  rings : Act
-  -- another mount's publisher does
-  rings_for_others : Act
+  at_mount : (mount : ℕ) → MountStep → Act
+  at_player : (player : ℕ) → PlayerStep → Act
+  looks_at : (player : ℕ) → LookStep → Act
+  in_round : (writer : ℕ) → RoundStep → Act
   -- the waking thread begins to ask mounts for marks
   clears : Act
-  -- it finds none
-  finds_no_marks : Act
-  -- it takes them
-  takes_marks : Act
-  -- who took the marks counts a wake-up of the mount's players
-  tells : Act
-  -- somebody raises the word
-  raises : Act
-  -- somebody does so for another player's sake
-  raises_for_others : Act
-  -- who raised it wakes who sleeps, but this writer doesn't
+  -- it raises the word, once for all wake-ups that it has counted
+  raises_once : Act
+  -- who raised the word wakes who sleeps on it
   calls : Act
-  -- or this writer does
-  wakes_writer : Act
-  -- a reader's thread wants the line, for a reply
-  wants_line : Act
-  -- it gives the line back
-  gives_back : Act
-  -- it takes the mark that it finds
-  finds_mark : Act
-  -- it finds none
-  finds_no_mark : Act
-  -- the player comes into its writer's list
-  joins : Act
-  -- it leaves the list
-  leaves : Act
-  -- another one comes or leaves
-  changes_list : Act
-  -- the writer reads the word
-  begins : Act
-  -- the player's own lock is taken: it is looked at again after a time
-  passes_over : (time : ℕ) → Act
-  -- it has the player, and reads how often its mount's players were woken
-  reads_wakes : Act
-  -- there is nothing to do
-  finds_nothing : Act
-  -- it isn't yet time to try it again
-  finds_no_time : (time : ℕ) → Act
-  -- it gets the line at once
-  gets_line : Act
-  -- it doesn't
-  fails : Act
-  -- it marks the line as skipped
-  marks_line : Act
-  -- it gets the line after all
-  gets_line_late : Act
-  -- it doesn't, and goes on without this player
-  skips : Act
-  -- it takes all that there is, and the socket takes it
-  takes_all : Act
-  -- it uses up its takes, and the socket takes all of it
-  uses_up : Act
-  -- bytes are left, or the connection is to be hung up
-  keeps_rest : (time : ℕ) → Act
-  -- the same once all was taken
-  keeps_last_rest : (time : ℕ) → Act
-  -- the player has nothing more to send, and is taken out of the list
-  finishes : Act
-  -- another player was looked at
-  looks_at_another : Next → Act
-  -- a player is to be looked at again, or the list has changed: another round
-  goes_round : Act
-  -- neither
-  ends_round : Act
-  -- the word is the one that was read, and the writer sleeps
-  sleeps : Act
-  -- it isn't, or it was woken for no reason, or the time is over
-  returns : Act
 
--- When a step may be made. A try of the line fails only while a thread has the line or waits for it. A walk over a list that
--- didn't change meets each player in it.
+-- when it may be made
 abbrev pub May : Act → State → Type 0
-May logs s = Unit {0}
-May marks s = 0 < s.publishing
-May wakes_itself s = 0 < s.publishing
-May hurries s = Unit {0}
-May finds_rung s = (0 < s.ringing) × (s.rung ≡ true)
-May rings s = 0 < s.ringing
-May rings_for_others s = Unit {0}
-May clears s = s.asked ≡ true
-May finds_no_marks s = (s.asked ≡ false) × (s.news ≡ 0)
-May takes_marks s = (s.asked ≡ false) × (0 < s.news)
-May tells s = 0 < s.telling
-May raises s = 0 < s.raising
-May raises_for_others s = Unit {0}
-May calls s = (0 < s.calling) × (s.point ≢ asleep)
-May wakes_writer s = (0 < s.calling) × (s.point ≡ asleep)
-May wants_line s = Unit {0}
-May gives_back s = 0 < s.replying
-May finds_mark s = (0 < s.parting) × (s.skipped ≡ true)
-May finds_no_mark s = (0 < s.parting) × (s.skipped ≡ false)
-May joins s = s.here ≡ false
-May leaves s = s.here ≡ true
-May changes_list s = Unit {0}
-May begins s = s.point ≡ awake
-May (passes_over time) s = s.point ≡ between
-May reads_wakes s = s.point ≡ between
-May finds_nothing s = (s.point ≡ knows) × (s.attention.again ≡ false) × (s.known ≡ s.attention.seen) × (s.waits ≡ false)
-May (finds_no_time time) s = (s.point ≡ knows) × (s.attention.again ≡ false) × (s.waits ≡ true)
-May gets_line s = s.point ≡ knows
-May fails s = (s.point ≡ knows) × (0 < s.replying)
-May marks_line s = s.point ≡ failed
-May gets_line_late s = s.point ≡ marked
-May skips s = (s.point ≡ marked) × (0 < s.replying)
-May takes_all s = s.point ≡ holds
-May uses_up s = s.point ≡ holds
-May (keeps_rest time) s = s.point ≡ holds
-May (keeps_last_rest time) s = s.point ≡ holds
-May finishes s = s.point ≡ holds
-May (looks_at_another next) s = s.point ≡ between
-May goes_round s = s.point ≡ between
-May ends_round s = (s.point ≡ between) × (s.round.again ≡ false) × (s.list ≡ s.round.changes) × (s.here ≡ true → s.done ≡ true)
-May sleeps s = (s.point ≡ ends) × (s.raised ≡ s.read)
-May returns s = (s.point ≡ ends) ⊎ (s.point ≡ asleep)
+May (at_mount mount step) s = MayMount step s.words (s.mounts mount)
+May (at_player player step) s = MayPlayer step (s.players player)
+May (looks_at player step) s = MayLook step player (s.players player) (s.writers (s.writer_of player))
+May (in_round writer step) s = MayRound step s writer
+May clears s = Unit {0}
+May raises_once s = Unit {0}
+May calls s = 0 < s.words.calling
 
--- what a step leads to
+-- what it leads to
 abbrev pub after : Act → State → State
-after logs s = record s { logged = s.logged + 1; publishing = s.publishing + 1 }
-after marks s = record s { publishing = s.publishing - 1; news = next_of s.news; ringing = s.ringing + 1 }
-after wakes_itself s = record s { publishing = s.publishing - 1; news = 0; telling = s.telling + 1 }
-after hurries s = record s { news = 0; telling = s.telling + 1 }
-after finds_rung s = record s { ringing = s.ringing - 1 }
-after rings s = record s { ringing = s.ringing - 1; rung = true }
-after rings_for_others s = record s { rung = true }
-after clears s = record s { rung = false; asked = false }
-after finds_no_marks s = record s { asked = true }
-after takes_marks s = record s { asked = true; news = 0; telling = s.telling + 1 }
-after tells s = record s { telling = s.telling - 1; wakes = next_of s.wakes; raising = s.raising + 1 }
-after raises s = record s { raising = s.raising - 1; raised = next_of s.raised; calling = s.calling + 1 }
-after raises_for_others s = record s { raised = next_of s.raised; calling = s.calling + 1 }
-after calls s = record s { calling = s.calling - 1 }
-after wakes_writer s = record s { calling = s.calling - 1; point = awake }
-after wants_line s = record s { replying = s.replying + 1 }
-after gives_back s = record s { replying = s.replying - 1; parting = s.parting + 1 }
-after finds_mark s = record s { parting = s.parting - 1; skipped = false; raising = s.raising + 1 }
-after finds_no_mark s = record s { parting = s.parting - 1 }
-after joins s = record s { here = true; attention = newcomer; waits = false; looked = 0; list = s.list + 1; raising = s.raising + 1 }
-after leaves s = record s { here = false; list = s.list + 1 }
-after changes_list s = record s { list = s.list + 1 }
-after begins s = record s { point = between; read = s.raised; round = begun s.list; done = false; due = false }
-after (passes_over time) s = looked_at (Later time) (record s { due = true })
-after reads_wakes s = record s { point = knows; known = s.wakes; done = false }
-after finds_nothing s = looked_at Sleep s
-after (finds_no_time time) s = looked_at (Later time) (record s { due = true })
-after gets_line s = record s { point = holds; attention = held s.attention }
-after fails s = record s { point = failed }
-after marks_line s = record s { point = marked; skipped = true }
-after gets_line_late s = record s { point = holds; attention = held s.attention }
-after skips s = looked_at Sleep (record s { attention = to_look_at s.attention })
-after takes_all s = looked_at Sleep (record s { attention = emptied s.known; waits = false; looked = s.logged })
-after uses_up s = looked_at Again (record s { attention = to_look_at s.attention; waits = false })
-after (keeps_rest time) s = looked_at (Later time) (record s { attention = held s.attention; waits = true; due = true })
-after (keeps_last_rest time) s = looked_at (Later time) (record s { attention = emptied s.known; waits = true; looked = s.logged; due = true })
-after finishes s = looked_at Over (record s { here = false; list = s.list + 1 })
-after (looks_at_another next) s = record s { round = added next s.round }
-after goes_round s = record s { point = awake }
-after ends_round s = record s { point = ends; done = true }
-after sleeps s = record s { point = asleep }
-after returns s = record s { point = awake }
+after (at_mount mount step) s = record s {
+  words = words_after_mount step s.words;
+  mounts = put s.mounts mount (mount_after step (s.mounts mount));
+}
+after (at_player player step) s = record s {
+  words = words_after_player step s.words;
+  players = put s.players player (player_after step (s.players player));
+  writers = put s.writers (s.writer_of player) (writer_after_player step (s.writers (s.writer_of player)));
+}
+after (looks_at player step) s = record s {
+  players = put s.players player (player_after_look step (s.mounts (s.mount_of player)) (s.players player));
+  writers = put s.writers (s.writer_of player) (writer_after_look step player (s.writers (s.writer_of player)));
+}
+after (in_round writer step) s = record s {
+  players = λ player. if writer == s.writer_of player then player_after_round step (s.players player) else s.players player;
+  writers = put s.writers writer (writer_after_round step s.words (s.writers writer));
+}
+after clears s = record s {
+  words = record s.words { rung = false };
+  mounts = λ mount. record (s.mounts mount) { asked = false };
+}
+after raises_once s = record s {
+  words = raised_once s.words;
+  mounts = λ mount. record (s.mounts mount) { owed = false };
+}
+after calls s = record s {
+  words = record s.words { calling = s.words.calling - 1 };
+  writers = λ writer. record (s.writers writer) { place = woken (s.writers writer).place };
+}
 
 -- these steps may follow one another
 abbrev pub Ran : (old : State) → List Act → (new : State) → Type 0

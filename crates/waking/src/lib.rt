@@ -8,6 +8,6 @@ mod round;
 mod word;
 
 pub use attention::Attention;
-pub use laws::{no_player_is_forgotten, steps_keep_the_invariant};
+pub use laws::no_player_is_forgotten;
 pub use round::{Next, Round};
 pub use word::{NO_MARKS, are_marks, next_word};
