@@ -3,7 +3,7 @@ use Rattle.std.specs.Prelude.{◌≡◌, ◌≢◌, ℕ, ◌<◌, ◌≤◌, ◌
 use Rattle.waking.specs.Machine.{Place, State, awake, between, looking, ends, asleep, marked, holds}
 use Rattle.waking.specs.Laws.{View, WillAsk, WillFindMark, WillRaise, view_of}
 
--- a writer's round is over
+-- a writer's sweep is over
 abbrev pub is_over : Place → Bool
 is_over awake = false
 is_over between = false
@@ -13,7 +13,7 @@ is_over asleep = true
 
 -- the writer needn't care for the player before the word is raised, or knows that it has to
 abbrev pub IsCared : View → Type 0
-IsCared v = (v.writer.round.again ≡ true) ⊎ WillRaise v ⊎ (v.player.here ≡ false) ⊎ (v.player.due ≡ true)
+IsCared v = (v.writer.sweep.again ≡ true) ⊎ WillRaise v ⊎ (v.player.here ≡ false) ⊎ (v.player.due ≡ true)
     ⊎ ((v.player.attention.again ≡ true) × WillFindMark v)
     ⊎ ((v.player.attention.again ≡ false) × (v.player.waits ≡ false) × (v.player.attention.seen ≡ v.mount.wakes))
 
@@ -38,8 +38,8 @@ pub record Sound (v : View) : Type 0 where
   pub mark : v.player.stage ≡ Some marked → v.words.raised ≡ v.writer.read → (v.player.skipped ≡ true) ⊎ WillRaise v
   -- until the word is raised, who was looked at is cared for
   pub cared : v.words.raised ≡ v.writer.read → (v.player.done ≡ true) ⊎ (is_over v.writer.place ≡ true) → IsCared v
-  pub limited : v.player.due ≡ true → is_some v.writer.round.later ≡ true
-  pub over : is_over v.writer.place ≡ true → v.writer.round.again ≡ false
+  pub limited : v.player.due ≡ true → is_some v.writer.sweep.later ≡ true
+  pub over : is_over v.writer.place ≡ true → v.writer.sweep.again ≡ false
   -- a writer sleeps on the word that it read, or is about to be woken
   pub word : v.writer.place ≡ asleep → (v.words.raised ≡ v.writer.read) ⊎ (0 < v.words.calling)
 

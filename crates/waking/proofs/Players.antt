@@ -1,24 +1,24 @@
--- A writer's round, and what the waking thread and who raised the word do for all at once.
+-- A writer's sweep, and what the waking thread and who raised the word do for all at once.
 use Rattle.std.proofs.Common.{◌≡◌, ℕ, ◌<◌, ◌⊎◌, ◌-◌, true, false, refl, arith}
-use Rattle.waking.specs.Machine.{Place, Words, awake, between, looking, ends, asleep, begins, goes_round, ends_round, sleeps, returns, player_after_round, raised_once, woken, writer_after_round}
+use Rattle.waking.specs.Machine.{Place, Words, awake, between, looking, ends, asleep, begins, sweeps_again, ends_sweep, sleeps, returns, player_after_sweep, raised_once, woken, writer_after_sweep}
 use Rattle.waking.specs.Laws.{View}
 use Rattle.waking.proofs.Invariant.{Sound, is_over}
 
 pub begin_keeps : (v : View) → Sound v → v.writer.place ≡ awake
-    → Sound (record v { player = player_after_round begins v.player; writer = writer_after_round begins v.words v.writer })
+    → Sound (record v { player = player_after_sweep begins v.player; writer = writer_after_sweep begins v.words v.writer })
 begin_keeps v h may = search arith
 
-pub again_keeps : (v : View) → Sound v → v.writer.place ≡ between → Sound (record v { writer = writer_after_round goes_round v.words v.writer })
+pub again_keeps : (v : View) → Sound v → v.writer.place ≡ between → Sound (record v { writer = writer_after_sweep sweeps_again v.words v.writer })
 again_keeps v h may = search arith
 
-pub end_keeps : (v : View) → Sound v → v.writer.place ≡ between → v.writer.round.again ≡ false → (v.player.here ≡ true → v.player.done ≡ true)
-    → Sound (record v { writer = writer_after_round ends_round v.words v.writer })
+pub end_keeps : (v : View) → Sound v → v.writer.place ≡ between → v.writer.sweep.again ≡ false → (v.player.here ≡ true → v.player.done ≡ true)
+    → Sound (record v { writer = writer_after_sweep ends_sweep v.words v.writer })
 end_keeps v h may quiet met = search arith
 
-pub sleep_keeps : (v : View) → Sound v → v.writer.place ≡ ends → v.words.raised ≡ v.writer.read → Sound (record v { writer = writer_after_round sleeps v.words v.writer })
+pub sleep_keeps : (v : View) → Sound v → v.writer.place ≡ ends → v.words.raised ≡ v.writer.read → Sound (record v { writer = writer_after_sweep sleeps v.words v.writer })
 sleep_keeps v h may same = search arith
 
-pub return_keeps : (v : View) → Sound v → (v.writer.place ≡ ends) ⊎ (v.writer.place ≡ asleep) → Sound (record v { writer = writer_after_round returns v.words v.writer })
+pub return_keeps : (v : View) → Sound v → (v.writer.place ≡ ends) ⊎ (v.writer.place ≡ asleep) → Sound (record v { writer = writer_after_sweep returns v.words v.writer })
 return_keeps v h may = search arith
 
 pub clear_keeps : (v : View) → Sound v → Sound (record v { words = record v.words { rung = false }; mount = record v.mount { asked = false } })

@@ -1,7 +1,7 @@
 -- Each step of the machine keeps the invariant for each player, and so does each schedule.
 use Rattle.std.proofs.Common.{◌≡◌, ◌≢◌, ℕ, ◌<◌, ◌⊎◌, Bool, true, false, List, [], ◌∷◌, refl, ap, sym, subst, ◌∙◌, inl, inr, arith, if◌then◌else◌, ◌==◌}
 use Rattle.std.proofs.lemmas.Bool.Decides.{eqb_tells}
-use Rattle.waking.specs.Machine.{Act, LookStep, May, MayRound, Mount, MountStep, Player, PlayerStep, Ran, RoundStep, State, Words, Writer, after, asleep, at_mount, at_player, begins, calls, clears, ends, ends_round, goes_round, in_round, looks_at, mount_after, player_after, player_after_look, player_after_round, put, raises_once, returns, sleeps, start, words_after_mount, words_after_player, writer_after_look, writer_after_player, writer_after_round}
+use Rattle.waking.specs.Machine.{Act, LookStep, May, MaySweep, Mount, MountStep, Player, PlayerStep, Ran, SweepStep, State, Words, Writer, after, asleep, at_mount, at_player, begins, calls, clears, ends, ends_sweep, sweeps_again, in_sweep, looks_at, mount_after, player_after, player_after_look, player_after_sweep, put, raises_once, returns, sleeps, start, words_after_mount, words_after_player, writer_after_look, writer_after_player, writer_after_sweep}
 use Rattle.waking.specs.Laws.{IsRemembered, View, view_of}
 use Rattle.waking.proofs.Invariant.{AllSound, Sound}
 use Rattle.waking.proofs.Keeping.{fellow_keeps, look_beside_keeps, look_keeps, mount_keeps, other_mount_keeps, other_player_keeps, player_keeps}
@@ -76,30 +76,30 @@ look_step q step s h may p =
     (h p)
 
 -- at a player of this writer
-own_round : (w : ℕ) (step : RoundStep) (s : State) → AllSound s → MayRound step s w → (p : ℕ) → w ≡ s.writer_of p
+own_sweep : (w : ℕ) (step : SweepStep) (s : State) → AllSound s → MaySweep step s w → (p : ℕ) → w ≡ s.writer_of p
     → Sound (record {
       number = p;
       words = s.words;
       mount = s.mounts (s.mount_of p);
-      player = player_after_round step (s.players p);
-      writer = writer_after_round step s.words (s.writers (s.writer_of p));
+      player = player_after_sweep step (s.players p);
+      writer = writer_after_sweep step s.words (s.writers (s.writer_of p));
     })
-own_round w begins s h may p same = begin_keeps (view_of s p) (h p) (ap (λ (k : ℕ). (s.writers k).place) (sym same) ∙ may)
-own_round w goes_round s h may p same = again_keeps (view_of s p) (h p) (ap (λ (k : ℕ). (s.writers k).place) (sym same) ∙ may)
-own_round w ends_round s h may p same =
+own_sweep w begins s h may p same = begin_keeps (view_of s p) (h p) (ap (λ (k : ℕ). (s.writers k).place) (sym same) ∙ may)
+own_sweep w sweeps_again s h may p same = again_keeps (view_of s p) (h p) (ap (λ (k : ℕ). (s.writers k).place) (sym same) ∙ may)
+own_sweep w ends_sweep s h may p same =
     end_keeps (view_of s p) (h p)
     (ap (λ (k : ℕ). (s.writers k).place) (sym same) ∙ may.0)
-    (ap (λ (k : ℕ). (s.writers k).round.again) (sym same) ∙ may.1)
+    (ap (λ (k : ℕ). (s.writers k).sweep.again) (sym same) ∙ may.1)
     (may.3 p same)
-own_round w sleeps s h may p same =
+own_sweep w sleeps s h may p same =
     sleep_keeps (view_of s p) (h p)
     (ap (λ (k : ℕ). (s.writers k).place) (sym same) ∙ may.0)
     (may.1 ∙ ap (λ (k : ℕ). (s.writers k).read) same)
-own_round w returns s h may p same =
+own_sweep w returns s h may p same =
     return_keeps (view_of s p) (h p) (subst (λ (k : ℕ). ((s.writers k).place ≡ ends) ⊎ ((s.writers k).place ≡ asleep)) same may)
 
-round_step : (w : ℕ) (step : RoundStep) (s : State) → AllSound s → May (in_round w step) s → AllSound (after (in_round w step) s)
-round_step w step s h may p =
+sweep_step : (w : ℕ) (step : SweepStep) (s : State) → AllSound s → May (in_sweep w step) s → AllSound (after (in_sweep w step) s)
+sweep_step w step s h may p =
     elim (eqb_tells w (s.writer_of p)) [
       | inl it_is ↦
           rw it_is.0
@@ -107,9 +107,9 @@ round_step w step s h may p =
             number = p;
             words = s.words;
             mount = s.mounts (s.mount_of p);
-            player = player_after_round step (s.players p);
-            writer = writer_after_round step s.words (s.writers k);
-          })) (sym it_is.1) (own_round w step s h may p it_is.1))
+            player = player_after_sweep step (s.players p);
+            writer = writer_after_sweep step s.words (s.writers k);
+          })) (sym it_is.1) (own_sweep w step s h may p it_is.1))
       | inr it_isnt ↦ rw it_isnt.0 (h p)
     ]
 
@@ -118,7 +118,7 @@ step_keeps : (act : Act) (s : State) → AllSound s → May act s → AllSound (
 step_keeps (at_mount mount step) s h may = mount_step mount step s h may
 step_keeps (at_player player step) s h may = player_step player step s h may
 step_keeps (looks_at player step) s h may = look_step player step s h may
-step_keeps (in_round writer step) s h may = round_step writer step s h may
+step_keeps (in_sweep writer step) s h may = sweep_step writer step s h may
 step_keeps clears s h may = λ p. clear_keeps (view_of s p) (h p)
 step_keeps raises_once s h may = λ p. raise_once_keeps (view_of s p) (h p)
 step_keeps calls s h may = λ p. call_keeps (view_of s p) (h p) may

@@ -40,7 +40,7 @@ IsToBeLookedAt v = (v.player.looked ≢ v.mount.logged) ⊎ (v.player.attention.
 
 -- its writer's sleep ends by itself, since the writer is to look at this player again after a time
 abbrev pub IsTimed : View → Type 0
-IsTimed v = (v.player.due ≡ true) × (is_some v.writer.round.later ≡ true)
+IsTimed v = (v.player.due ≡ true) × (is_some v.writer.sweep.later ≡ true)
 
 -- while its writer sleeps, a player that is to be looked at isn't forgotten
 abbrev pub IsRemembered : View → Type 0

@@ -1,5 +1,5 @@
 pub mod Attentions
 pub mod Laws
 pub mod Machine
-pub mod Rounds
+pub mod Sweeps
 pub mod Words

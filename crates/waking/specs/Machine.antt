@@ -3,11 +3,11 @@
 -- place are counted.
 use Rattle.std.specs.Prelude.{◌≡◌, ℕ, ◌+◌, ◌-◌, ◌<◌, ◌==◌, ◌⊎◌, Bool, true, false, Option, None, Some, List, [], ◌∷◌, if◌then◌else◌}
 use Rattle.waking.specs.declared.attention.Attention.{Attention}
-use Rattle.waking.specs.declared.round.Next.{Next}
-use Rattle.waking.specs.declared.round.Next.TheVariants.{Sleep, Again, Later, Over}
-use Rattle.waking.specs.declared.round.Round.{Round}
+use Rattle.waking.specs.declared.sweep.Next.{Next}
+use Rattle.waking.specs.declared.sweep.Next.TheVariants.{Sleep, Again, Later, Over}
+use Rattle.waking.specs.declared.sweep.Sweep.{Sweep}
 use Rattle.waking.specs.Attentions.{emptied, held, newcomer, to_look_at}
-use Rattle.waking.specs.Rounds.{added, begun}
+use Rattle.waking.specs.Sweeps.{added, begun}
 use Rattle.waking.specs.Words.{next_of}
 
 -- what all threads share
@@ -73,7 +73,7 @@ pub record Player : Type 0 where
   -- how often the mount's players had been woken when its writer last read that
   pub known : ℕ
   pub stage : Option Stage
-  -- whether its writer has looked at it in this round
+  -- whether its writer has looked at it in this sweep
   pub done : Bool
   -- whether its writer is to look at it again after a time
   pub due : Bool
@@ -86,7 +86,7 @@ pub data Place : Type 0 where
   between : Place
   -- it looks at this one
   looking : (player : ℕ) → Place
-  -- its round is over, and it is about to sleep
+  -- its sweep is over, and it is about to sleep
   ends : Place
   asleep : Place
 
@@ -95,7 +95,7 @@ pub record Writer : Type 0 where
   pub place : Place
   -- how often the word had been raised when it last read it
   pub read : ℕ
-  pub round : Round
+  pub sweep : Sweep
   -- how often its list has changed
   pub list : ℕ
 
@@ -127,7 +127,7 @@ start mount_of writer_of = record {
     done = false;
     due = false;
   };
-  writers = λ _. record { place = awake; read = 0; round = begun 0; list = 0 };
+  writers = λ _. record { place = awake; read = 0; sweep = begun 0; list = 0 };
   mount_of = mount_of;
   writer_of = writer_of;
 }
@@ -290,7 +290,7 @@ MayLook takes_all number player writer = IsAt holds number player writer
 MayLook uses_up number player writer = IsAt holds number player writer
 MayLook (keeps_rest time) number player writer = IsAt holds number player writer
 MayLook (keeps_last_rest time) number player writer = IsAt holds number player writer
-MayLook finishes number player writer = IsAt holds number player writer
+MayLook finishes number player writer = writer.place ≡ looking number
 
 -- the look is over
 abbrev pub seen_to : Player → Player
@@ -315,7 +315,7 @@ player_after_look finishes mount player = seen_to (record player { here = false 
 
 -- the writer goes on, and this is next for the player
 abbrev pub gone_on : Next → Writer → Writer
-gone_on next writer = record writer { place = between; round = added next writer.round }
+gone_on next writer = record writer { place = between; sweep = added next writer.sweep }
 
 abbrev pub writer_after_look : LookStep → (number : ℕ) → Writer → Writer
 writer_after_look (passes_over time) number writer = gone_on (Later time) writer
@@ -333,39 +333,39 @@ writer_after_look (keeps_rest time) number writer = gone_on (Later time) writer
 writer_after_look (keeps_last_rest time) number writer = gone_on (Later time) writer
 writer_after_look finishes number writer = gone_on Over (record writer { list = writer.list + 1 })
 
--- a writer's round
-pub data RoundStep : Type 0 where
+-- a writer's sweep
+pub data SweepStep : Type 0 where
   -- it reads the word
-  begins : RoundStep
-  -- a player is to be looked at again, or the list has changed: another round
-  goes_round : RoundStep
+  begins : SweepStep
+  -- a player is to be looked at again, or the list has changed: another sweep
+  sweeps_again : SweepStep
   -- neither
-  ends_round : RoundStep
+  ends_sweep : SweepStep
   -- the word is the one that was read, and the writer sleeps
-  sleeps : RoundStep
+  sleeps : SweepStep
   -- it isn't, or the writer was woken for no reason, or the time is over
-  returns : RoundStep
+  returns : SweepStep
 
 -- A walk over a list that hasn't changed meets each player in it.
-abbrev pub MayRound : RoundStep → State → (writer : ℕ) → Type 0
-MayRound begins s w = (s.writers w).place ≡ awake
-MayRound goes_round s w = (s.writers w).place ≡ between
-MayRound ends_round s w = ((s.writers w).place ≡ between) × ((s.writers w).round.again ≡ false) × ((s.writers w).list ≡ (s.writers w).round.changes)
+abbrev pub MaySweep : SweepStep → State → (writer : ℕ) → Type 0
+MaySweep begins s w = (s.writers w).place ≡ awake
+MaySweep sweeps_again s w = (s.writers w).place ≡ between
+MaySweep ends_sweep s w = ((s.writers w).place ≡ between) × ((s.writers w).sweep.again ≡ false) × ((s.writers w).list ≡ (s.writers w).sweep.changes)
     × ((player : ℕ) → w ≡ s.writer_of player → (s.players player).here ≡ true → (s.players player).done ≡ true)
-MayRound sleeps s w = ((s.writers w).place ≡ ends) × (s.words.raised ≡ (s.writers w).read)
-MayRound returns s w = ((s.writers w).place ≡ ends) ⊎ ((s.writers w).place ≡ asleep)
+MaySweep sleeps s w = ((s.writers w).place ≡ ends) × (s.words.raised ≡ (s.writers w).read)
+MaySweep returns s w = ((s.writers w).place ≡ ends) ⊎ ((s.writers w).place ≡ asleep)
 
-abbrev pub writer_after_round : RoundStep → Words → Writer → Writer
-writer_after_round begins words writer = record writer { place = between; read = words.raised; round = begun writer.list }
-writer_after_round goes_round words writer = record writer { place = awake }
-writer_after_round ends_round words writer = record writer { place = ends }
-writer_after_round sleeps words writer = record writer { place = asleep }
-writer_after_round returns words writer = record writer { place = awake }
+abbrev pub writer_after_sweep : SweepStep → Words → Writer → Writer
+writer_after_sweep begins words writer = record writer { place = between; read = words.raised; sweep = begun writer.list }
+writer_after_sweep sweeps_again words writer = record writer { place = awake }
+writer_after_sweep ends_sweep words writer = record writer { place = ends }
+writer_after_sweep sleeps words writer = record writer { place = asleep }
+writer_after_sweep returns words writer = record writer { place = awake }
 
--- each of its players, where a round begins
-abbrev pub player_after_round : RoundStep → Player → Player
-player_after_round begins player = record player { done = false; due = false }
-player_after_round step player = player
+-- each of its players, where a sweep begins
+abbrev pub player_after_sweep : SweepStep → Player → Player
+player_after_sweep begins player = record player { done = false; due = false }
+player_after_sweep step player = player
 
 -- one that sleeps is woken
 abbrev pub woken : Place → Place
@@ -380,7 +380,7 @@ pub data Act : Type 0 where
   at_mount : (mount : ℕ) → MountStep → Act
   at_player : (player : ℕ) → PlayerStep → Act
   looks_at : (player : ℕ) → LookStep → Act
-  in_round : (writer : ℕ) → RoundStep → Act
+  in_sweep : (writer : ℕ) → SweepStep → Act
   -- the waking thread begins to ask mounts for marks
   clears : Act
   -- it raises the word, once for all wake-ups that it has counted
@@ -393,7 +393,7 @@ abbrev pub May : Act → State → Type 0
 May (at_mount mount step) s = MayMount step s.words (s.mounts mount)
 May (at_player player step) s = MayPlayer step (s.players player)
 May (looks_at player step) s = MayLook step player (s.players player) (s.writers (s.writer_of player))
-May (in_round writer step) s = MayRound step s writer
+May (in_sweep writer step) s = MaySweep step s writer
 May clears s = Unit {0}
 May raises_once s = Unit {0}
 May calls s = 0 < s.words.calling
@@ -413,9 +413,9 @@ after (looks_at player step) s = record s {
   players = put s.players player (player_after_look step (s.mounts (s.mount_of player)) (s.players player));
   writers = put s.writers (s.writer_of player) (writer_after_look step player (s.writers (s.writer_of player)));
 }
-after (in_round writer step) s = record s {
-  players = λ player. if writer == s.writer_of player then player_after_round step (s.players player) else s.players player;
-  writers = put s.writers writer (writer_after_round step s.words (s.writers writer));
+after (in_sweep writer step) s = record s {
+  players = λ player. if writer == s.writer_of player then player_after_sweep step (s.players player) else s.players player;
+  writers = put s.writers writer (writer_after_sweep step s.words (s.writers writer));
 }
 after clears s = record s {
   words = record s.words { rung = false };

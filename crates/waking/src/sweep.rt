@@ -1,6 +1,6 @@
-//! A writer's round.
+//! A writer's sweep.
 ghost use Rattle.std.specs.Prelude.{◌≡◌, ◌↔◌, false, IsTrue};
-ghost use Rattle.waking.specs.Rounds.{added, begun};
+ghost use Rattle.waking.specs.Sweeps.{added, begun};
 
 /// What a writer does with a player next.
 #[derive(Clone, Copy, Debug, PartialEq, Eq, Drop)]
@@ -17,8 +17,8 @@ pub enum Next {
 
 /// What a writer has to do after a look at each of its players.
 #[derive(Clone, Copy, Debug, PartialEq, Eq, Drop)]
-pub struct Round {
-    /// How often its list had changed when the round began.
+pub struct Sweep {
+    /// How often its list had changed when the sweep began.
     pub changes: u64,
     /// Whether a player is to be looked at again at once.
     pub again: bool,
@@ -26,12 +26,12 @@ pub struct Round {
     pub later: Option<u64>,
 }
 
-impl Round {
+impl Sweep {
     /// No player was looked at.
-    pub fn new(changes: u64) -> Round
+    pub fn new(changes: u64) -> Sweep
         ensures { result ≡ begun changes }
     {
-        Round {
+        Sweep {
             changes,
             again: false,
             later: None,
