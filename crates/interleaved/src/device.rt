@@ -95,11 +95,15 @@ pub trait Sink {
 
 /// A sink that can also be written to without waiting, as a socket whose peer may read nothing for a while.
 pub trait TrySink: Sink {
+    /// One call of `try_write` with these bytes may lead from the one to the other, and take so many of them.
+    ghost takes: { Self → List ℕ → ℕ → Self → Type 0 };
+
     /// Writes bytes from the front of `bytes`, as many as the device takes at once, and says how many: none where it takes
     /// none now, which is no failure. `Failed` where the device fails now or failed before.
     fn try_write(&mut self, bytes: &[u8]) -> Result<usize, Failed>
         ensures count { IfOk result (λ n. n ≤ length bytes.now) }
         ensures bytes { IfOk result (λ n. Appends (Self.written self.old) (Self.written self.new) (take n bytes.now)) }
+        ensures took { IfOk result (λ n. takes self.old bytes.now n self.new) }
         ensures working { OnOk result ((Self.failed self.old ≡ false) × (Self.failed self.new ≡ false)) }
 
         ensures refused { OnErr result (Self.failed self.new ≡ true) }

@@ -97,6 +97,8 @@ impl<W: TrySink + Drop> Gathering<W> {
         ensures count { IfOk result (λ n. n ≤ length self.old.kept) }
         ensures through { IfOk result (λ n. Appends (W.written self.old.inner) (W.written self.new.inner) (take n self.old.kept)) }
         ensures rest { IfOk result (λ n. self.new.kept ≡ drop n self.old.kept) }
+        ensures took { IfOk result (λ n. 0 < length self.old.kept → W.takes self.old.inner self.old.kept n self.new.inner) }
+        ensures worked { OnOk result (0 < length self.old.kept → W.failed self.old.inner ≡ false) }
         ensures working { OnOk result (W.failed self.new.inner ≡ W.failed self.old.inner) }
         ensures told { Keeps (gathered W.written self.old) (gathered W.written self.new) }
         ensures failed { OnErr result (W.failed self.new.inner ≡ true) }

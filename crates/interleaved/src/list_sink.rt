@@ -87,6 +87,8 @@ impl Sink for ListSink {
 }
 
 impl TrySink for ListSink {
+    ghost takes = { λ old bytes n _. n ≡ min old.room (length bytes) };
+
     /// As `write`: it never has to wait.
     fn try_write(&mut self, bytes: &[u8]) -> Result<usize, Failed> {
         self.write(bytes)

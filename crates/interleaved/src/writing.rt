@@ -1,5 +1,5 @@
 //! A sink over one of std's writers.
-ghost use Rattle.std.specs.Prelude.{◌≡◌, true, false};
+ghost use Rattle.std.specs.Prelude.{◌≡◌, ◌≤◌, true, false, length};
 ghost use Rattle.std.specs.Io.{WritesAtMost};
 ghost use Rattle.std.specs.Io.KnownBytes.{WriteAppends};
 
@@ -73,6 +73,8 @@ impl<W: Write + Drop> Sink for Writing<W> {
 }
 
 impl<W: TryWrite + Drop> TrySink for Writing<W> {
+    ghost takes = { λ _ bytes n _. n ≤ length bytes };
+
     fn try_write(&mut self, bytes: &[u8]) -> Result<usize, Failed> {
         if self.failed {
             return Err(Failed);

@@ -99,6 +99,7 @@ pub fn wake_players<R: Wait + Clock>(rt: &R, bell: &Bell, board: &Board, gather:
         // What is published from here on rings again; what was published before is marked already.
         bell.rung.store(QUIET, Ordering::SeqCst);
         if board.wake_marked(rt) {
+            // After the wake-ups are counted, once for all mounts.
             bell.writers.raise();
         }
         // Looked at after the clearing: a stop before it is seen here, and one after it rings.

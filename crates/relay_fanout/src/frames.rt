@@ -7,7 +7,7 @@ use crate::maker::Leave;
 use crate::notice::Notice;
 use crate::pace::KnownLevel;
 use crate::phase::FramePhase;
-use crate::playing::{Next, Playing, TapPlace};
+use crate::playing::{Playing, TapPlace};
 use crate::socket::HangUp;
 use crate::writers::{NoWriter, Place, Writers};
 use cursor::Tap;
@@ -16,11 +16,13 @@ use player::OutStop;
 use relay_accounts::FrameEnd;
 use rtsp_message::{Status, put_plain};
 use std::alloc::{AllocError, Global};
+use std::sync::atomic::{AtomicU64, Ordering};
 use std::sync::{Arc, Mutex, Wait};
 use std::thread::{JoinHandle, Threads};
 use std::time::{Clock, Duration};
 use std::{mem, thread};
 use transport_header::TrackChannels;
+use waking::Next;
 
 /// What the thread that sends a connection's frames has of it: a thread of its own, or a writer, which has other players, too.
 ///
@@ -33,12 +35,15 @@ pub struct Hand<T, W: Sink, H> {
     pub phase: FramePhase,
     tap: Mutex<TapPlace<T>>,
     playing: Mutex<Option<Playing<T>>>,
+    /// How many players it has had.
+    plays: AtomicU64,
 }
 
 impl<T, W: Sink + Drop, H> Hand<T, W, H> {
     /// Writes a reply. A writer that found the line taken meanwhile is woken.
     pub fn write(&self, rt: &impl Wait, bell: &Bell, text: &[u8]) -> Result<(), Failed> {
         let written = self.line.write(rt, text);
+        // After the line was given back: a writer that marks it later than this gets it at its last try.
         if self.line.was_skipped() {
             bell.writers.raise();
         }
@@ -68,10 +73,11 @@ impl<T: Tap + Leave + Drop, W: Sink + Drop, H: HangUp + Drop> Hand<T, W, H> {
             phase: FramePhase::new(),
             tap: Mutex::new(TapPlace::Nowhere),
             playing: Mutex::new(None),
+            plays: AtomicU64::new(0),
         }
     }
 
-    /// Puts the player in that a writer will look at, with the tap that was put in before.
+    /// Puts the player in that a writer will look at, with the tap that was put in before. Tells its number.
     pub(crate) fn play(
         &self,
         rt: &impl Wait,
@@ -79,14 +85,16 @@ impl<T: Tap + Leave + Drop, W: Sink + Drop, H: HangUp + Drop> Hand<T, W, H> {
         seat: usize,
         channels: TrackChannels,
         after_end: Option<Duration>,
-    ) {
+    ) -> u64 {
+        let number = self.plays.fetch_add(1, Ordering::SeqCst);
         let TapPlace::Attached(tap) = self.take(rt) else {
-            return;
+            return number;
         };
         let after_end = after_end.map(|time| u64::try_from(time.as_millis()).unwrap_or(u64::MAX));
         notice.pace.join(rt, seat);
-        let playing = Playing::new(tap, notice, seat, channels, after_end);
+        let playing = Playing::new(number, tap, notice, seat, channels, after_end);
         *self.playing.lock(rt) = Some(playing);
+        number
     }
 
     /// Takes the player out again, after at most one look of its writer, and says how its frames ended. Its tap is put back.
@@ -209,15 +217,28 @@ impl<T: Tap + Leave + Drop, W: Sink + Drop, H: HangUp + Drop> Hand<T, W, H> {
 }
 
 impl<T: Tap + Leave + Drop, W: TrySink + Drop, H: HangUp + Drop> Hand<T, W, H> {
-    /// A writer looks at the player. While the thread that reads puts it in or takes it out, or the writer that had it before looks
-    /// at it yet, it is looked at again after a moment.
-    pub(crate) fn look(&self, rt: &impl Wait, buf: &mut Vec<u8>, now: u64, most: u64) -> Next {
-        match self.playing.try_lock() {
-            Some(mut playing) => match &mut *playing {
-                Some(playing) => playing.look(rt, &self.line, &self.wire, buf, now, most),
-                None => Next::Sleep,
-            },
-            None => Next::Later(1),
+    /// A writer looks at the player of this number; at another one, which came since, it doesn't. While the thread that reads puts
+    /// it in or takes it out, it is looked at again after a moment.
+    pub(crate) fn look(
+        &self,
+        rt: &impl Wait,
+        number: u64,
+        buf: &mut Vec<u8>,
+        now: u64,
+        most: u64,
+    ) -> Next {
+        let Some(mut playing) = self.playing.try_lock() else {
+            return Next::Later(1);
+        };
+        match &mut *playing {
+            Some(playing) => {
+                if playing.number() == number {
+                    playing.look(rt, &self.line, &self.wire, buf, now, most)
+                } else {
+                    Next::Sleep
+                }
+            }
+            None => Next::Sleep,
         }
     }
 }
@@ -292,8 +313,8 @@ impl Frames {
         H: HangUp + Drop,
     {
         let notice = Arc::try_clone(&self.notice)?;
-        hand.play(rt, notice, self.seat, channels, after_end);
-        self.sender = Sender::Writer(writers.add(rt, hand)?);
+        let number = hand.play(rt, notice, self.seat, channels, after_end);
+        self.sender = Sender::Writer(writers.add(rt, hand, number)?);
         Ok(())
     }
 

@@ -9,6 +9,7 @@ use std::alloc::{AllocError, Global};
 use std::sync::atomic::{AtomicBool, AtomicU64, Ordering};
 use std::sync::{Arc, Mutex, Wait};
 use transport_header::{MOST_TRACKS, Point};
+use waking::{NO_MARKS, are_marks, next_word};
 
 /// What the publisher of a mount and its players share beside the ring: where each track stands, and the word that
 /// players sleep on while there is nothing to take.
@@ -33,7 +34,7 @@ impl Notice {
     pub fn new(alloc: Global, seats: usize, bell: Arc<Bell, Global>) -> Result<Notice, AllocError> {
         Ok(Notice {
             points: Mutex::new([None; MOST_TRACKS]),
-            news: AtomicU64::new(0),
+            news: AtomicU64::new(NO_MARKS),
             wakes: AtomicU64::new(0),
             ended: AtomicBool::new(false),
             pace: Pace::new(alloc, seats)?,
@@ -60,13 +61,20 @@ impl Notice {
     }
 
     /// A packet came. The players aren't woken yet. Tells when as many have come as leave at once.
+    ///
+    /// Called once the packet can be taken, and before the bell is rung.
     pub(crate) fn mark(&self) -> bool {
-        self.news.fetch_add(1, Ordering::SeqCst) == TAKES - 1
+        let before = self
+            .news
+            .fetch_update(Ordering::SeqCst, Ordering::SeqCst, |marks| {
+                Some(next_word(marks))
+            });
+        before == Ok(TAKES - 1)
     }
 
     /// Wakes the players if packets came since they were last woken, but for those that a writer has. Says whether any came.
     pub(crate) fn wake_if_marked(&self) -> bool {
-        let is_marked = self.news.swap(0, Ordering::SeqCst) > 0;
+        let is_marked = are_marks(self.news.swap(NO_MARKS, Ordering::SeqCst));
         if is_marked {
             self.wake_threads();
         }
@@ -85,14 +93,20 @@ impl Notice {
 
     /// Wakes the players of the mount, to whatever came.
     pub fn wake(&self) {
-        self.news.store(0, Ordering::SeqCst);
+        // The marks first: one that is made after this is told by who made it.
+        self.news.store(NO_MARKS, Ordering::SeqCst);
         self.wake_threads();
+        // After the wake-up is counted, which a writer that reads the word as it is now sees.
         self.bell.writers.raise();
     }
 
     /// Wakes the players that have a thread of their own.
     fn wake_threads(&self) {
-        self.wakes.fetch_add(1, Ordering::SeqCst);
+        let _ = self
+            .wakes
+            .fetch_update(Ordering::SeqCst, Ordering::SeqCst, |word| {
+                Some(next_word(word))
+            });
         self.wakes.wake_all();
     }
 

@@ -15,19 +15,7 @@ use std::alloc::Global;
 use std::mem;
 use std::sync::{Arc, Wait};
 use transport_header::TrackChannels;
-
-/// What a writer does with a player next.
-#[derive(Clone, Copy, Debug, PartialEq, Eq, Drop)]
-pub(crate) enum Next {
-    /// Nothing, until its mount has news or a lock is given back.
-    Sleep,
-    /// It looks at it again at once.
-    Again,
-    /// It looks at it again after so many milliseconds.
-    Later(u64),
-    /// Nothing more: it has nothing to send.
-    Over,
-}
+use waking::{Attention, Next};
 
 /// Where a connection's tap is.
 #[derive(Drop)]
@@ -54,16 +42,16 @@ impl<T: Leave + Drop> TapPlace<T> {
 /// A player that takes from a seat: its writer looks at it, and the thread that reads its connection takes it out again.
 #[derive(Drop)]
 pub(crate) struct Playing<T> {
+    /// How many players its connection had before.
+    number: u64,
     tap: TapPlace<T>,
     notice: Arc<Notice, Global>,
     seat: usize,
     channels: TrackChannels,
     /// For how many milliseconds the connection may stay once its mount has ended and all was sent. `None` for good.
     after_end: Option<u64>,
-    /// How often its mount's players had been woken when it last had taken all.
-    seen: u64,
-    /// Whether it is to be looked at though nobody was woken: it came, or there was more to take, or its line was taken.
-    again: bool,
+    /// Whether it is to be looked at.
+    attention: Attention,
     known: KnownLevel,
     /// Whether its mount's pace knows of it. It doesn't while its socket takes nothing: no publisher waits for that.
     is_paced: bool,
@@ -80,6 +68,7 @@ pub(crate) struct Playing<T> {
 impl<T> Playing<T> {
     /// It has taken nothing yet, and its mount's pace knows of it.
     pub(crate) fn new(
+        number: u64,
         tap: T,
         notice: Arc<Notice, Global>,
         seat: usize,
@@ -87,13 +76,13 @@ impl<T> Playing<T> {
         after_end: Option<u64>,
     ) -> Playing<T> {
         Playing {
+            number,
             tap: TapPlace::Attached(tap),
             notice,
             seat,
             channels,
             after_end,
-            seen: 0,
-            again: true,
+            attention: Attention::new(),
             known: KnownLevel::new(),
             is_paced: true,
             patience: None,
@@ -101,6 +90,11 @@ impl<T> Playing<T> {
             end: None,
             hung_up_at: None,
         }
+    }
+
+    /// How many players its connection had before.
+    pub(crate) fn number(&self) -> u64 {
+        self.number
     }
 
     /// How its frames ended, and where the tap is: `Stopped` where they hadn't, or where the last of them weren't written.
@@ -148,16 +142,17 @@ impl<T: Tap + Leave + Drop> Playing<T> {
         now: u64,
         most: u64,
     ) -> Next {
-        // Read before the tap is looked at, so that no wake is missed.
+        // Read before the tap is looked at, so that a wake-up for what comes after the look isn't taken for seen.
         let wakes = self.notice.wakes();
         if let Some(next) = self.has_time(wakes, now) {
             return next;
         }
         let Some(mut sink) = line.try_hold() else {
-            self.again = true;
+            // Who has the line raises the writers' word once it has given it back.
+            self.attention.look_again();
             return Next::Sleep;
         };
-        self.again = false;
+        self.attention.hold();
         let flushed = sink.try_flush();
         let moved = flushed.unwrap_or(0) > 0;
         let end = match (flushed, self.end) {
@@ -182,7 +177,7 @@ impl<T: Tap + Leave + Drop> Playing<T> {
 
     /// What is next where there is nothing to do now. `None` where there is.
     fn has_time(&self, wakes: u64, now: u64) -> Option<Next> {
-        if self.again {
+        if self.attention.again {
             return None;
         }
         match (&self.patience, self.hung_up_at, self.end) {
@@ -191,7 +186,7 @@ impl<T: Tap + Leave + Drop> Playing<T> {
             (None, Some(moment), _) if moment <= now => None,
             (None, Some(moment), _) => Some(Next::Later(moment.saturating_sub(now))),
             (None, None, Some(_)) => Some(Next::Over),
-            (None, None, None) if wakes == self.seen => Some(Next::Sleep),
+            (None, None, None) if self.attention.is_settled(wakes) => Some(Next::Sleep),
             (None, None, None) => None,
         }
     }
@@ -221,14 +216,14 @@ impl<T: Tap + Leave + Drop> Playing<T> {
                 self.notice
                     .pace
                     .reach(rt, self.seat, cursor, &mut self.known);
-                self.again = true;
+                self.attention.look_again();
             }
             OutStop::Empty => {
                 // Before the writer sleeps: the publisher opens a round before it wakes.
                 self.notice
                     .pace
                     .level(rt, self.seat, cursor, &mut self.known);
-                self.seen = wakes;
+                self.attention.found_empty(wakes);
             }
             OutStop::Ended => return Some(FrameEnd::Ended),
             OutStop::WriteFailed => return Some(FrameEnd::WriteFailed),
@@ -278,7 +273,7 @@ impl<T: Tap + Leave + Drop> Playing<T> {
             }
             None => self.patience = Some(Patience::new(now)),
         }
-        self.again = false;
+        self.attention.hold();
     }
 
     /// Tells the peer the end of its stream, where it is to be hung up after it.
@@ -292,7 +287,7 @@ impl<T: Tap + Leave + Drop> Playing<T> {
     /// What is next after a look. A connection whose frames have failed, or that has stayed long enough after the end of its
     /// stream, is hung up, so that the thread that reads sees it.
     fn next(&mut self, wire: &impl HangUp, now: u64) -> Next {
-        if self.again {
+        if self.attention.again {
             return Next::Again;
         }
         if let Some(patience) = &self.patience {

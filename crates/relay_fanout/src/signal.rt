@@ -3,6 +3,7 @@ use crate::notice::low_half;
 use std::sync::Wait;
 use std::sync::atomic::{AtomicU64, Ordering};
 use std::time::Duration;
+use waking::next_word;
 
 /// A word that writers sleep on, and how often it was raised.
 #[derive(Drop)]
@@ -19,8 +20,15 @@ impl Signal {
     }
 
     /// Wakes all writers, so that each looks at its players.
+    ///
+    /// Called once a look sees what there is to be seen: a wake-up was counted, a player came, or a marked line was given back.
     pub(crate) fn raise(&self) {
-        self.raised.fetch_add(1, Ordering::SeqCst);
+        let _ = self
+            .raised
+            .fetch_update(Ordering::SeqCst, Ordering::SeqCst, |word| {
+                Some(next_word(word))
+            });
+        // After the change, so that who is about to sleep doesn't, and who sleeps is woken.
         self.raised.wake_all();
     }
 

@@ -4,7 +4,6 @@ ghost use Rattle.std.specs.Prelude.{◌≤◌};
 use crate::bell::Bell;
 use crate::frames::Hand;
 use crate::maker::Leave;
-use crate::playing::Next;
 use crate::socket::HangUp;
 use cursor::Tap;
 use interleaved::{Sink, TrySink};
@@ -12,6 +11,7 @@ use std::alloc::{AllocError, Global};
 use std::sync::atomic::{AtomicBool, Ordering};
 use std::sync::{Arc, Mutex, Wait};
 use std::time::{Clock, Instant};
+use waking::{Next, Sweep};
 
 /// The writers of a server: each is a thread that sends the frames of its players, and waits for none of them.
 ///
@@ -48,6 +48,8 @@ pub(crate) struct Place {
 #[derive(Drop)]
 struct Player<T, W: Sink, H> {
     hand: Arc<Hand<T, W, H>, Global>,
+    /// Which of its connection's players it is.
+    number: u64,
     turn: u64,
 }
 
@@ -96,11 +98,12 @@ impl<T: Drop, W: Sink + Drop, H: Drop> Writers<T, W, H> {
         count
     }
 
-    /// Gives a player to the writer with the fewest, and wakes it. Says where it is.
+    /// Gives a connection's player of this number to the writer with the fewest, and wakes it. Says where it is.
     pub(crate) fn add(
         &self,
         rt: &impl Wait,
         hand: &Arc<Hand<T, W, H>, Global>,
+        number: u64,
     ) -> Result<Place, NoWriter> {
         let hand = Arc::try_clone(hand)?;
         let writer = self.with_fewest(rt);
@@ -110,10 +113,11 @@ impl<T: Drop, W: Sink + Drop, H: Drop> Writers<T, W, H> {
         let mut list = list.lock(rt);
         let turn = list.changes;
         list.players
-            .push(Player { hand, turn })
+            .push(Player { hand, number, turn })
             .map_err(|refused| AllocError::from(refused))?;
         list.changes = list.changes.saturating_add(1);
         drop(list);
+        // Once the player is in the list, so that its writer finds it there.
         self.bell.writers.raise();
         Ok(Place { writer, turn })
     }
@@ -157,27 +161,6 @@ impl<T: Drop, W: Sink + Drop, H: Drop> List<T, W, H> {
     }
 }
 
-/// What a writer has to do after a look at all of its players.
-#[derive(Clone, Copy, Drop)]
-struct Rest {
-    again: bool,
-    /// After how many milliseconds, if nobody wakes it.
-    later: Option<u64>,
-}
-
-impl Rest {
-    /// There is this to do as well.
-    fn add(&mut self, next: Next) {
-        match next {
-            Next::Again => self.again = true,
-            Next::Later(time) => {
-                self.later = Some(self.later.map_or(time, |other| other.min(time)));
-            }
-            Next::Sleep | Next::Over => {}
-        }
-    }
-}
-
 impl<T: Tap + Leave + Drop, W: TrySink + Drop, H: HangUp + Drop> Writers<T, W, H> {
     /// Sends the frames of one writer's players until the writers are stopped: the work of a thread of its own. It sleeps while
     /// nothing comes for them.
@@ -188,38 +171,36 @@ impl<T: Tap + Leave + Drop, W: TrySink + Drop, H: HangUp + Drop> Writers<T, W, H
         let mut buf = Vec::new(alloc);
         let began = Instant::now(rt).ok();
         for _ in rt.forever() {
-            // Read before the players are looked at, so that no wake is missed.
+            // Read before the players are looked at, so that a raise for what a look didn't see ends the sleep.
             let raised = self.bell.writers.raised();
             if self.stopped.load(Ordering::SeqCst) {
                 return;
             }
-            let rest = self.look_at_all(rt, list, &mut buf, now(rt, began));
-            if !rest.again {
-                self.bell.writers.sleep(rt, raised, rest.later);
+            let (sweep, changes) = self.look_at_all(rt, list, &mut buf, now(rt, began));
+            if sweep.is_over(changes) {
+                self.bell.writers.sleep(rt, raised, sweep.later);
             }
         }
     }
 
-    /// Looks at each player once. One that comes, or is moved by one that leaves, may be passed over: then all are looked at again.
+    /// Looks at each player once, and tells how often the list has changed after that. Where it has changed meanwhile, one that came,
+    /// or was moved by one that left, may have been passed over.
     fn look_at_all(
         &self,
         rt: &impl Wait,
         list: &Mutex<List<T, W, H>>,
         buf: &mut Vec<u8>,
         now: u64,
-    ) -> Rest {
-        let changes = list.lock(rt).changes;
-        let mut rest = Rest {
-            again: false,
-            later: None,
-        };
+    ) -> (Sweep, u64) {
+        // Read before the first player, and again after the last.
+        let mut sweep = Sweep::new(list.lock(rt).changes);
         let mut place = 0;
         for _ in rt.forever() {
-            let Some(Player { hand, turn }) = player_at(rt, list, place) else {
+            let Some(Player { hand, number, turn }) = player_at(rt, list, place) else {
                 break;
             };
-            let next = hand.look(rt, buf, now, self.most);
-            rest.add(next);
+            let next = hand.look(rt, number, buf, now, self.most);
+            sweep.add(next);
             if next == Next::Over {
                 // It may have come anew meanwhile, which is another turn.
                 list.lock(rt).remove(turn);
@@ -227,10 +208,7 @@ impl<T: Tap + Leave + Drop, W: TrySink + Drop, H: HangUp + Drop> Writers<T, W, H
                 place = place.saturating_add(1);
             }
         }
-        if list.lock(rt).changes != changes {
-            rest.again = true;
-        }
-        rest
+        (sweep, list.lock(rt).changes)
     }
 }
 
@@ -243,8 +221,8 @@ fn player_at<T, W: Sink, H>(
     let list = list.lock(rt);
     let found = list.players.get(place)?;
     let hand = Arc::try_clone(&found.hand).ok()?;
-    let turn = found.turn;
-    Some(Player { hand, turn })
+    let (number, turn) = (found.number, found.turn);
+    Some(Player { hand, number, turn })
 }
 
 /// How many milliseconds have passed since then. Where the clock can't be read each moment has come.

@@ -24,6 +24,8 @@ mod serving;
 #[cfg(test)]
 mod speed_tests;
 #[cfg(test)]
+mod stalled_tests;
+#[cfg(test)]
 mod text_tests;
 #[cfg(test)]
 mod words;

@@ -1,0 +1,5 @@
+pub mod Attentions
+pub mod Laws
+pub mod Machine
+pub mod Sweeps
+pub mod Words
