@@ -6,3 +6,4 @@ pub mod Plain
 pub mod Player
 pub mod Refusals
 pub mod Taps
+pub mod Visits

@@ -68,6 +68,10 @@ pub record PlainEvent (old : Plain) (call : Call) (answer : Answer) (new : Plain
   pub keep : new.keep ≡ old.keep
   pub packet_bytes : new.packet_bytes ≡ old.packet_bytes
 
+-- a take of a seat may give this, and lead from old to new
+abbrev pub TakesAt : (seat : ℕ) → (old : Plain) → Delivery → (new : Plain) → Type 0
+TakesAt seat old answer new = PlainEvent old (Take seat) (Taken answer) new
+
 -- the refusals that a plain log gives
 abbrev pub PlainMayRefuse : refusals.Refused → Type 0
 PlainMayRefuse (refusal.Pinned pins) = ⊥

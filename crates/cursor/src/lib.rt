@@ -3,9 +3,11 @@
 #![tactic(auto)]
 
 mod calls;
+mod copies;
 mod feeds;
 mod histories;
 pub mod laws;
+mod lends;
 mod list_tap;
 mod packets;
 mod plain_feed;
@@ -15,10 +17,13 @@ mod pumping;
 mod refusals;
 mod takes;
 mod taps;
+mod visits;
 
 pub use calls::{Answer, Call};
+pub use copies::Copying;
 pub use feeds::Feed;
 pub use histories::run;
+pub use lends::Lend;
 pub use list_tap::ListTap;
 pub use packets::Packet;
 pub use plain_feed::PlainFeed;
@@ -28,3 +33,4 @@ pub use pumping::{Stopped, pump};
 pub use refusals::Refused;
 pub use takes::{Account, Delivery, Left, Taken};
 pub use taps::Tap;
+pub use visits::Visit;

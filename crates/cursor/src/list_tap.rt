@@ -1,8 +1,11 @@
 ghost use Rattle.std.specs.Prelude.{◌≡◌, ◌≤◌};
 ghost use Rattle.cursor.specs.Listed.{IsCounted};
 
-use super::takes::{Account, Delivery, Taken, copy_front};
+use super::copies::Copying;
+use super::lends::Lend;
+use super::takes::{Account, Delivery, Taken};
 use super::taps::Tap;
+use super::visits::Visit;
 use std::marker::Model;
 use std::vec;
 
@@ -57,25 +60,8 @@ impl Tap for ListTap {
     ghost take_gives = { ListStep };
 
     fn take(&mut self, buf: &mut [u8]) -> Taken {
-        let Some(delivery) = self.rest.next() else {
-            return Taken::Ended;
-        };
-        match delivery {
-            Delivery::Got { number, packet } => {
-                self.account.taken += 1;
-                Taken::Packet {
-                    number,
-                    tag: packet.tag,
-                    len: copy_front(packet.bytes.as_slice(), buf),
-                }
-            }
-            Delivery::Lost(count) => {
-                self.account.lost += count;
-                Taken::Lost(count)
-            }
-            Delivery::Empty => Taken::Empty,
-            Delivery::Ended => Taken::Ended,
-        }
+        let mut copying = Copying::new(buf);
+        self.take_with(&mut copying)
     }
 
     fn cursor(&self) -> u64 {
@@ -91,4 +77,30 @@ impl Tap for ListTap {
     }
 
     ghost counts = { λ old d new h. h.account };
+}
+
+impl Lend for ListTap {
+    fn take_with<V: Visit>(&mut self, visitor: &mut V) -> Taken {
+        let Some(delivery) = self.rest.next() else {
+            return Taken::Ended;
+        };
+        match delivery {
+            Delivery::Got { number, packet } => {
+                self.account.taken += 1;
+                let bytes = packet.bytes.as_slice();
+                visitor.see(packet.tag, bytes);
+                Taken::Packet {
+                    number,
+                    tag: packet.tag,
+                    len: bytes.len(),
+                }
+            }
+            Delivery::Lost(count) => {
+                self.account.lost += count;
+                Taken::Lost(count)
+            }
+            Delivery::Empty => Taken::Empty,
+            Delivery::Ended => Taken::Ended,
+        }
+    }
 }

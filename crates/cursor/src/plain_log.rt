@@ -2,13 +2,16 @@ ghost use Rattle.std.specs.Prelude.{◌≡◌, ◌<◌, ◌≤◌, ◌↔◌, �
 ghost use Rattle.std.specs.Prelude.{IsTrue, IfOk, IfErr, OnErr, IsErrOf};
 ghost use Rattle.cursor.specs.Account.{cursor_of};
 ghost use Rattle.cursor.specs.Log.{packet_of};
-ghost use Rattle.cursor.specs.Plain.{empty_plain, PlainEvent, PlainMayRefuse, IsFree, IsAttached, HasAccount};
+ghost use Rattle.cursor.specs.Plain.{empty_plain, PlainEvent, PlainMayRefuse, IsFree, IsAttached, HasAccount, TakesAt};
 ghost use Rattle.cursor.specs.Taps.{delivery_of, FitsBuffer};
+ghost use Rattle.cursor.specs.Visits.{TakesWith};
 
 use super::calls::{Answer, Call};
+use super::copies::Copying;
 use super::packets::Packet;
 use super::refusals::Refused;
-use super::takes::{Account, Left, Taken, copy_front};
+use super::takes::{Account, Left, Taken};
+use super::visits::Visit;
 use base_syntax::Bytes;
 use std::alloc::{AllocError, Global};
 use std::marker::Model;
@@ -113,6 +116,18 @@ impl PlainLog {
             PlainEvent self.old (Call.Take seat) answer self.new }
         ensures fits { FitsBuffer result self.old.packet_bytes }
     {
+        let mut copying = Copying::new(buf);
+        self.take_with(seat, &mut copying)
+    }
+
+    /// Takes as `take` does, and shows the packet to the visitor where it lies.
+    pub fn take_with<V: Visit>(&mut self, seat: u16, visitor: &mut V) -> Taken
+        requires attached { IsAttached self.old seat }
+        requires room { self.old.packet_bytes ≤ V.packet_bytes visitor.old }
+        ensures event { TakesWith (TakesAt seat) V.see_gives self.old visitor.old result self.new visitor.new }
+        ensures fits { FitsBuffer result self.old.packet_bytes }
+        ensures room { V.packet_bytes visitor.new ≡ V.packet_bytes visitor.old }
+    {
         let end = self.packets.len() as u64;
         let floor = end.saturating_sub(self.keep);
         let mut account = self.account(seat);
@@ -122,11 +137,13 @@ impl PlainLog {
             Taken::Lost(floor - cursor)
         } else if cursor < end {
             let packet = &self.packets[cursor as usize];
+            let bytes = packet.bytes.as_slice();
+            visitor.see(packet.tag, bytes);
             account.taken += 1;
             Taken::Packet {
                 number: cursor,
                 tag: packet.tag,
-                len: copy_front(packet.bytes.as_slice(), buf),
+                len: bytes.len(),
             }
         } else if self.closed {
             Taken::Ended

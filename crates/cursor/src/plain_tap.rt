@@ -1,9 +1,11 @@
 ghost use Rattle.std.specs.Prelude.{◌≡◌};
 ghost use Rattle.cursor.specs.Plain.{IsAttached};
 
+use super::lends::Lend;
 use super::plain_log::PlainLog;
 use super::takes::{Account, Taken};
 use super::taps::Tap;
+use super::visits::Visit;
 use std::marker::Model;
 
 /// A plain log with one seat that is attached, as a tap.
@@ -67,4 +69,10 @@ impl Tap for PlainTap {
     }
 
     ghost counts = { λ old d new h. h.counts };
+}
+
+impl Lend for PlainTap {
+    fn take_with<V: Visit>(&mut self, visitor: &mut V) -> Taken {
+        self.log.take_with(self.seat, visitor)
+    }
 }

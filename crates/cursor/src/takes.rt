@@ -99,6 +99,7 @@ impl Taken {
 pub(crate) fn copy_front(bytes: &[u8], buffer: &mut [u8]) -> usize
     requires { length bytes.now ≤ length buffer.old }
     ensures len { result ≡ length bytes.now }
+    ensures size { length buffer.new ≡ length buffer.old }
     ensures front { take result buffer.new ≡ bytes.now }
 {
     let len = bytes.len();

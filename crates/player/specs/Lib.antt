@@ -1,1 +1,2 @@
 pub mod FramesOut
+pub mod Shown

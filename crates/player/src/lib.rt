@@ -2,9 +2,12 @@
 //! (RFC 2326, 10.12).
 #![tactic(auto)]
 
+mod frame_writer;
 mod framing;
+mod holding;
 mod relaying;
 mod report;
 
+pub use holding::relay_out_held;
 pub use relaying::relay_out;
 pub use report::{OutReport, OutStop};

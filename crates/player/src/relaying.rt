@@ -3,7 +3,7 @@ ghost use Rattle.std.specs.Prelude.{◌≡◌, ◌≢◌, ◌≤◌, true, lengt
 ghost use Rattle.player.specs.FramesOut.{TakesOut, RelaysOut};
 
 use crate::framing::write_frame;
-use crate::report::{OutReport, OutStop};
+use crate::report::{OutReport, OutStop, report_of};
 use cursor::{Taken, Tap};
 use interleaved::{Sink, WriteCut};
 use transport_header::TrackChannels;
@@ -72,16 +72,4 @@ fn relay_takes<T: Tap, W: Sink>(
         }
     }
     report_of(sent, skipped, 0, OutStop::Done)
-}
-
-fn report_of(sent: u64, skipped: u64, cut: usize, stop: OutStop) -> OutReport
-    ensures { result ≡ record { sent = sent; skipped = skipped; lost = 0; cut = cut; stop = stop } }
-{
-    OutReport {
-        sent,
-        skipped,
-        lost: 0,
-        cut,
-        stop,
-    }
 }

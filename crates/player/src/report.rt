@@ -1,4 +1,5 @@
 //! What is told of packets that went out.
+ghost use Rattle.std.specs.Prelude.{◌≡◌};
 
 /// Why no more packets went out.
 #[derive(Clone, Copy, Debug, PartialEq, Eq, Drop)]
@@ -27,4 +28,17 @@ pub struct OutReport {
     /// else 0.
     pub cut: usize,
     pub stop: OutStop,
+}
+
+/// The report of so many packets, where what was lost isn't counted yet.
+pub(crate) fn report_of(sent: u64, skipped: u64, cut: usize, stop: OutStop) -> OutReport
+    ensures { result ≡ record { sent = sent; skipped = skipped; lost = 0; cut = cut; stop = stop } }
+{
+    OutReport {
+        sent,
+        skipped,
+        lost: 0,
+        cut,
+        stop,
+    }
 }

@@ -3,9 +3,9 @@ ghost use Rattle.std.specs.Prelude.{◌≡◌, Some, IfOk};
 ghost use Rattle.cursor.specs.Log.{packet_of};
 
 use base_syntax::Bytes;
-use cursor::{Account, Delivery, ListTap, Packet, PlainLog, PlainTap, Tap};
+use cursor::{Account, Delivery, Lend, ListTap, Packet, PlainLog, PlainTap, Tap};
 use interleaved::{Failed, Gathering, ListSink, Sink};
-use player::{OutReport, OutStop, relay_out};
+use player::{OutReport, OutStop, relay_out, relay_out_held};
 use std::alloc::{AllocError, Global};
 use std::process::Abort;
 use transport_header::{ChannelPair, TrackChannels};
@@ -43,19 +43,44 @@ fn row_frames_out(alloc: Global) -> Result<ListTap, AllocError> {
     Ok(ListTap::new(list, 3, 2))
 }
 
+/// How a packet comes to its frame: by a buffer that it is copied to, or from where it lies.
+#[derive(Clone, Copy, Debug)]
+enum Way {
+    Copied,
+    Held,
+}
+
+const WAYS: [Way; 2] = [Way::Copied, Way::Held];
+
+/// Relays one way.
+fn relay<T: Lend, W: Sink>(
+    way: Way,
+    tap: &mut T,
+    sink: &mut W,
+    channels: &TrackChannels,
+    n: u64,
+) -> OutReport {
+    match way {
+        Way::Copied => {
+            let mut buf = [0; 65_535];
+            let most = tap.packet_bytes();
+            relay_out(tap, sink, channels, n, &mut buf[..most])
+        }
+        Way::Held => relay_out_held(tap, sink, channels, n),
+    }
+}
+
 /// Relays the row into a sink of so much room.
 fn relay_row(
     rt: &impl Abort,
     alloc: Global,
+    way: Way,
     room: usize,
     n: u64,
 ) -> (OutReport, ListSink, Account) {
     let mut tap = row_frames_out(alloc).expect(rt, "memory");
     let mut sink = ListSink::new(alloc, room).expect(rt, "memory");
-    let channels = one_track(4, 5);
-    let mut buf = [0; 65_535];
-    let most = tap.packet_bytes();
-    let report = relay_out(&mut tap, &mut sink, &channels, n, &mut buf[..most]);
+    let report = relay(way, &mut tap, &mut sink, &one_track(4, 5), n);
     (report, sink, tap.account())
 }
 
@@ -71,7 +96,6 @@ fn row_frames_out_in_any_number_of_takes(rt: HostRuntime) {
         (16, 1, 1, 4, OutStop::Empty),
     ];
     for (n, sent, skipped, lost, stop) in cases {
-        let (report, sink, account) = relay_row(&rt, rt.alloc(), 100, n);
         let want = OutReport {
             sent,
             skipped,
@@ -79,21 +103,23 @@ fn row_frames_out_in_any_number_of_takes(rt: HostRuntime) {
             cut: 0,
             stop,
         };
-        assert_eq!(rt; report, want, "{n}");
-        assert_eq!(rt;
-            (account.taken, account.lost),
-            (sent + skipped, lost),
-            "{n}"
-        );
-        let len = if sent == 1 { FRAME.len() } else { 0 };
-        assert_eq!(rt; sink.bytes(), &FRAME[..len], "{n}");
+        for way in WAYS {
+            let (report, sink, account) = relay_row(&rt, rt.alloc(), way, 100, n);
+            assert_eq!(rt; report, want, "{n} {way:?}");
+            assert_eq!(rt;
+                (account.taken, account.lost),
+                (sent + skipped, lost),
+                "{n} {way:?}"
+            );
+            let len = if sent == 1 { FRAME.len() } else { 0 };
+            assert_eq!(rt; sink.bytes(), &FRAME[..len], "{n} {way:?}");
+        }
     }
 }
 
 #[test]
 fn row_frames_out_cut_at_each_byte(rt: HostRuntime) {
     for cut in 0..6 {
-        let (report, sink, _) = relay_row(&rt, rt.alloc(), cut, 9);
         let want = OutReport {
             sent: 0,
             skipped: 0,
@@ -101,9 +127,12 @@ fn row_frames_out_cut_at_each_byte(rt: HostRuntime) {
             cut,
             stop: OutStop::WriteFailed,
         };
-        assert_eq!(rt; report, want, "{cut}");
-        assert_eq!(rt; sink.bytes(), &FRAME[..cut], "{cut}");
-        assert!(rt; sink.has_failed());
+        for way in WAYS {
+            let (report, sink, _) = relay_row(&rt, rt.alloc(), way, cut, 9);
+            assert_eq!(rt; report, want, "{cut} {way:?}");
+            assert_eq!(rt; sink.bytes(), &FRAME[..cut], "{cut} {way:?}");
+            assert!(rt; sink.has_failed());
+        }
     }
 }
 
@@ -133,12 +162,6 @@ fn a_plain_log_goes_out(rt: HostRuntime) {
         (16, 2, 1, OutStop::Ended),
     ];
     for (n, sent, lost, stop) in cases {
-        let mut tap = tap_behind(&rt, rt.alloc(), 2, &[0, 0, 1]);
-        let mut sink = ListSink::new(rt.alloc(), 100).expect(&rt, "memory");
-        let mut buf = [0; 65_535];
-        let most = tap.packet_bytes();
-        let channels = one_track(9, 200);
-        let report = relay_out(&mut tap, &mut sink, &channels, n, &mut buf[..most]);
         let want = OutReport {
             sent,
             skipped: 0,
@@ -146,7 +169,6 @@ fn a_plain_log_goes_out(rt: HostRuntime) {
             cut: 0,
             stop,
         };
-        assert_eq!(rt; report, want, "{n}");
         let len = if sent == 0 {
             0
         } else if sent == 1 {
@@ -154,7 +176,13 @@ fn a_plain_log_goes_out(rt: HostRuntime) {
         } else {
             12
         };
-        assert_eq!(rt; sink.bytes(), out.get(..len).unwrap_or(&[]), "{n}");
+        for way in WAYS {
+            let mut tap = tap_behind(&rt, rt.alloc(), 2, &[0, 0, 1]);
+            let mut sink = ListSink::new(rt.alloc(), 100).expect(&rt, "memory");
+            let report = relay(way, &mut tap, &mut sink, &one_track(9, 200), n);
+            assert_eq!(rt; report, want, "{n} {way:?}");
+            assert_eq!(rt; sink.bytes(), out.get(..len).unwrap_or(&[]), "{n} {way:?}");
+        }
     }
 }
 
@@ -167,16 +195,69 @@ fn large_losses(alloc: Global) -> Result<ListTap, AllocError> {
     Ok(ListTap::new(list, 0, 2))
 }
 
-#[test]
-fn losses_of_any_size_are_added(rt: HostRuntime) {
-    let mut tap = large_losses(rt.alloc()).expect(&rt, "memory");
-    let mut sink = ListSink::new(rt.alloc(), 6).expect(&rt, "memory");
-    let channels = one_track(5, 4);
-    let mut buf = [0; 65_535];
-    let most = tap.packet_bytes();
-    let report = relay_out(&mut tap, &mut sink, &channels, 3, &mut buf[..most]);
+/// Relays the two losses and the packet one way. The list, the packet and the sink are three requests for memory.
+fn relay_large_losses(rt: &impl Abort, alloc: Global, way: Way) {
+    let mut tap = large_losses(alloc).expect(rt, "memory");
+    let mut sink = ListSink::new(alloc, 6).expect(rt, "memory");
+    let report = relay(way, &mut tap, &mut sink, &one_track(5, 4), 3);
     assert_eq!(rt; (report.sent, report.lost), (1, u64::MAX - 1));
     assert_eq!(rt; sink.bytes(), FRAME.as_slice());
+}
+
+#[test]
+fn losses_of_any_size_are_added(rt: HostRuntime) {
+    relay_large_losses(&rt, rt.alloc(), Way::Copied);
+}
+
+#[test]
+fn losses_of_any_size_are_added_with_packets_held(rt: HostRuntime) {
+    relay_large_losses(&rt, rt.alloc(), Way::Held);
+}
+
+/// Packets of no byte and of some, RTP and RTCP, one of a track that isn't set up, and losses, before and after there is
+/// none for now.
+fn mixed(alloc: Global) -> Result<ListTap, AllocError> {
+    let mut list = Vec::with_capacity(alloc, 9)?;
+    list.push(got(alloc, 0, 0, &[])?)?;
+    list.push(got(alloc, 1, 1, &[1])?)?;
+    list.push(Delivery::Lost(2))?;
+    list.push(got(alloc, 4, 2, &[2, 3])?)?;
+    list.push(Delivery::Lost(1))?;
+    list.push(got(alloc, 6, 0, &[4, 5, 6])?)?;
+    list.push(Delivery::Empty)?;
+    list.push(got(alloc, 7, 1, &[7])?)?;
+    list.push(Delivery::Ended)?;
+    Ok(ListTap::new(list, 0, 3))
+}
+
+/// Relays twice, in at most so many takes each, into a sink of so much room.
+fn relay_mixed(
+    rt: &impl Abort,
+    alloc: Global,
+    way: Way,
+    room: usize,
+    n: u64,
+) -> ([OutReport; 2], ListSink, Account) {
+    let mut tap = mixed(alloc).expect(rt, "memory");
+    let mut sink = ListSink::new(alloc, room).expect(rt, "memory");
+    let channels = one_track(4, 5);
+    let first = relay(way, &mut tap, &mut sink, &channels, n);
+    let second = relay(way, &mut tap, &mut sink, &channels, n);
+    ([first, second], sink, tap.account())
+}
+
+#[test]
+fn held_packets_go_out_as_copied_ones(rt: HostRuntime) {
+    // Its four frames have 4, 5, 7 and 5 bytes.
+    for room in 0..=21 {
+        for n in 0..=10 {
+            let (copied, out, account) = relay_mixed(&rt, rt.alloc(), Way::Copied, room, n);
+            let (held, same, other) = relay_mixed(&rt, rt.alloc(), Way::Held, room, n);
+            assert_eq!(rt; held, copied, "{room} {n}");
+            assert_eq!(rt; same.bytes(), out.bytes(), "{room} {n}");
+            assert_eq!(rt; other, account, "{room} {n}");
+        }
+    }
 }
 
 /// A sink in memory that counts the writes that it takes.
