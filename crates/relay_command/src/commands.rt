@@ -134,7 +134,7 @@ fn back_arg<'a>(alloc: Global) -> Arg<'a> {
         .default_value("0")
         .value_parser(clap::value_parser!(u16).range(0..4096))
         .help(
-            "How many of the kept packets a new player is given at once, 0 to 4095; above 0 without RTP-Info",
+            "How many of the kept packets a new player is given at once, 0 to 4095; above 0 without RTP-Info; near --keep a fast publisher makes it lose some, and has packets refused while it copies",
         )
 }
 

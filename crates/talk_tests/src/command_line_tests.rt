@@ -280,7 +280,7 @@ Options:
       --packet-bytes <N>  The longest packet, in bytes, 12 to 65535 [default: 16384]
       --accept <N>        End when N connections were accepted and have ended
       --gather <MS>       For how long packets gather before players are woken, 0 to 100 milliseconds [default: 5]
-      --back <N>          How many of the kept packets a new player is given at once, 0 to 4095; above 0 without RTP-Info [default: 0]
+      --back <N>          How many of the kept packets a new player is given at once, 0 to 4095; above 0 without RTP-Info; near --keep a fast publisher makes it lose some, and has packets refused while it copies [default: 0]
       --hang-up-ended     Hang a player up once the last packet of its mount was written
       --writers <N>       How many threads send frames, 0 to 64, where 0 gives each player its own [default: one a processor]
       --verbose           Tell of each mount and each player on standard error
