@@ -130,6 +130,34 @@ fn are_first_and_last(frames: &[u8]) -> bool {
     want == BEFORE + MEANWHILE
 }
 
+/// The player has its place with the writer.
+fn given<R: Wait + Abort + Drop>(rt: &R, stage: &Stage<R>) -> Frames {
+    let notice = Arc::try_clone(&stage.notice).expect(rt, "a count of its users");
+    let mut frames = Frames::new(1, 0, notice);
+    let given = frames.give(rt, &stage.player, &stage.writers, one_track(), None);
+    assert!(rt; given.is_ok());
+    frames
+}
+
+/// How many bytes the frames have before the player is first looked at.
+const FIRST: usize = BEFORE as usize * FRAME;
+
+/// Once the socket has taken five bytes, and takes nothing more, publishes the packets of the frames behind the first; then the socket
+/// takes all, up to the last of them.
+fn publish_and_let_on<R>(rt: &R, stage: &mut Stage<R>, frames: &[u8])
+where
+    R: Wait + Clock + Abort + Drop,
+{
+    assert!(rt; has_come(rt, &stage.bytes, 5, frames.get(..5).unwrap_or(b"")));
+    let then = frames.get(FIRST..).unwrap_or(b"");
+    publish(rt, &mut stage.feed, &stage.notice, then);
+    stage.room.store(1 << 40, Ordering::SeqCst);
+    let last = then
+        .get((usize::from(MEANWHILE) - 1) * FRAME..)
+        .unwrap_or(b"");
+    assert!(rt; has_come(rt, &stage.bytes, 6, last));
+}
+
 /// While bytes wait that its socket didn't take, here all but five of the first frame, a player takes nothing from its ring, which
 /// counts what it loses; then it goes on behind them.
 fn goes_on_behind_its_rest<R>(rt: R, alloc: Global)
@@ -139,22 +167,14 @@ where
     let maker = RingMaker::new(64, 1, FRAME);
     let mut stage = staged(rt, alloc, &maker);
     let packets = small_frames(alloc, BEFORE + MEANWHILE).expect(&rt, "memory");
-    let (first, then) = packets.as_slice().split_at(usize::from(BEFORE) * FRAME);
+    let first = packets.as_slice().get(..FIRST).unwrap_or(b"");
     publish(&rt, &mut stage.feed, &stage.notice, first);
     stage.room.store(5, Ordering::SeqCst);
-    let notice = Arc::try_clone(&stage.notice).expect(&rt, "a count of its users");
-    let mut frames = Frames::new(1, 0, notice);
-    let given = frames.give(&rt, &stage.player, &stage.writers, one_track(), None);
-    assert!(rt; given.is_ok());
+    let mut frames = given(&rt, &stage);
     let theirs = Arc::try_clone(&stage.writers).expect(&rt, "a count of its users");
-    let writer = thread::spawn(&rt, move || theirs.write_all(&rt, alloc, 0)).expect(
-        &rt, "a thread",
-    );
-    assert!(rt; has_come(&rt, &stage.bytes, 5, &first[..5]));
-    publish(&rt, &mut stage.feed, &stage.notice, then);
-    stage.room.store(1 << 40, Ordering::SeqCst);
-    let last = &then[then.len() - FRAME..];
-    assert!(rt; has_come(&rt, &stage.bytes, 6, last));
+    let writer = thread::spawn(&rt, move || theirs.write_all(&rt, alloc, 0));
+    let writer = writer.expect(&rt, "a thread");
+    publish_and_let_on(&rt, &mut stage, packets.as_slice());
     let _ = frames.join(&rt, &*stage.player, Some(&*stage.writers));
     stage.writers.stop();
     writer.join(&rt);

@@ -130,12 +130,13 @@ impl TrySink for ShortOnce {
     fn try_write(&mut self, bytes: &[u8]) -> Result<usize, Failed> {
         let is_short = self.tries == self.place;
         self.tries = self.tries.saturating_add(1);
-        let front = match self.short {
+        let most = match self.short {
             _ if !is_short => bytes.len(),
             Short::None => 0,
-            Short::One => bytes.len().min(1),
+            Short::One => 1,
             Short::AllButOne => bytes.len().saturating_sub(1),
         };
+        let front = bytes.len().min(most);
         self.sink.write(&bytes[..front])
     }
 }
