@@ -1,11 +1,12 @@
 //! Connections over devices in memory, for tests.
 use crate::devices::{Bytes, Flag, Open, Staged, Written, flag};
+use crate::moments::Still;
 use crate::rings::{Owned, Rings};
 use interleaved::{Reading, Sink, Writing};
 use packet_ring::Pass;
 use relay_server::{
-    ConnectionEnd, Counts, Events, Line, OpenGate, Outcome, Outgoing, Seat, Shared, SharedBook,
-    run_connection,
+    ConnectionEnd, Counts, Events, Hearing, Line, OpenGate, Outcome, Outgoing, Seat, Shared,
+    SharedBook, run_connection,
 };
 use session_lock::Book;
 use session_state::Words;
@@ -119,6 +120,7 @@ where
     W: Sink + Drop + Send + 'static,
 {
     let theirs = Arc::try_clone(shared).expect(&rt, "a count of its users");
+    let hearing = Hearing::new(alloc, Still).expect(&rt, "memory");
     thread::spawn(&rt, move || {
         run_connection(
             rt,
@@ -128,6 +130,7 @@ where
             Reading::new(source),
             sent_on(line),
             Events::none(),
+            hearing,
         )
     })
     .expect(&rt, "a thread")
