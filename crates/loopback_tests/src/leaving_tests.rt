@@ -203,7 +203,7 @@ fn seat_is_freed<R: Clock + Abort>(rt: &R, peers: &mut Peers, last: Last<'_>) {
 }
 
 /// Peers of which the first player has stopped reading amid what the camera published.
-fn stalled<R: Net<Stream = TcpStream> + Clock + Abort>(
+pub(crate) fn stalled<R: Net<Stream = TcpStream> + Clock + Abort>(
     rt: &R,
     alloc: Global,
     addr: SocketAddr,

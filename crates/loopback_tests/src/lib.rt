@@ -8,9 +8,15 @@ mod back_tests;
 #[cfg(test)]
 mod burst_tests;
 #[cfg(test)]
+mod dial;
+#[cfg(test)]
 mod ending_tests;
 #[cfg(test)]
 mod events_tests;
+#[cfg(test)]
+mod expiry_tests;
+#[cfg(test)]
+mod idle_tests;
 #[cfg(test)]
 mod kept;
 #[cfg(test)]

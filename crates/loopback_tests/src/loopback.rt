@@ -1,4 +1,5 @@
 //! Clients over loopback, for tests.
+use crate::dial::{Dial, Told};
 use log::Log;
 use packet_ring::Pass;
 use relay_server::{Accepts, Gate, Options, RingMaker, Seat, SharedBook, run_server};
@@ -239,6 +240,12 @@ pub(crate) struct Set {
     pub(crate) writers: usize,
     /// Whether lines tell of each mount and each player.
     pub(crate) is_verbose: bool,
+    /// What tells the time; `None` where it stands at 0.
+    pub(crate) dial: Option<Dial>,
+    /// The milliseconds after which a silent peer is looked at.
+    pub(crate) read_wait: u64,
+    /// The milliseconds after which a silent peer without a session is hung up; `None` for never.
+    pub(crate) idle: Option<u64>,
 }
 
 /// By whom frames are sent: by a thread a player, and by two writers.
@@ -258,6 +265,18 @@ impl Set {
             back: 0,
             writers: 0,
             is_verbose: false,
+            dial: None,
+            read_wait: 2_000,
+            idle: None,
+        }
+    }
+
+    /// By this clock, and a silent peer is looked at every ten milliseconds.
+    pub(crate) fn timed(self, dial: Dial) -> Set {
+        Set {
+            dial: Some(dial),
+            read_wait: 10,
+            ..self
         }
     }
 
@@ -277,6 +296,7 @@ fn serve<R, S, L, G>(
     maker: RingMaker,
     book: SharedBook<Seat<Pass>>,
     gate: G,
+    moments: Told,
 ) -> JoinHandle<Result<(), AllocError>>
 where
     R: Threads + Abort,
@@ -285,7 +305,9 @@ where
     G: Gate + Drop + Send + Sync + 'static,
 {
     thread::spawn(rt, move || {
-        run_server(served, alloc, &listener, options, maker, book, WORD, gate)
+        run_server(
+            served, alloc, &listener, options, maker, book, WORD, gate, moments,
+        )
     })
     .expect(rt, "a thread")
 }
@@ -350,8 +372,20 @@ where
         write_wait: set.write_wait,
         writers: set.writers,
         is_verbose: set.is_verbose,
+        read_wait: set.read_wait,
+        idle: set.idle,
     };
     let maker = RingMaker::new(set.keep.clamp(1, 4095), seats, 16_384).going_back(set.back);
-    let thread = serve(rt, served, alloc, listener, options, maker, theirs, gate);
+    let thread = serve(
+        rt,
+        served,
+        alloc,
+        listener,
+        options,
+        maker,
+        theirs,
+        gate,
+        Told(set.dial),
+    );
     Running { addr, book, thread }
 }

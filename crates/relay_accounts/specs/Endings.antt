@@ -17,12 +17,14 @@ told_end read sent true = ends.Done
 told_end read frames.WriteFailed false = ends.WriteFailed
 told_end read sent false = read
 
--- How a connection ended. A fault of its stream, and that it was out of memory or had no thread, is told whatever became of its
--- frames.
+-- How a connection ended. A fault of its stream, that it was out of memory or had no thread, and that it was hung up for its
+-- silence, is told whatever became of its frames.
 abbrev pub end_of : ConnectionEnd → FrameEnd → (is_over : Bool) → ConnectionEnd
 end_of (ends.StreamFault fault) sent is_over = ends.StreamFault fault
 end_of ends.OutOfMemory sent is_over = ends.OutOfMemory
 end_of ends.NoThread sent is_over = ends.NoThread
+end_of ends.Expired sent is_over = ends.Expired
+end_of ends.Idle sent is_over = ends.Idle
 end_of read sent is_over = told_end read sent is_over
 
 -- the status of the fixed text after a fault (RFC 2326, 7.1.1): a head or a body that is too long, else a bad request

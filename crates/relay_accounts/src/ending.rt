@@ -16,6 +16,10 @@ pub enum ConnectionEnd {
     OutOfMemory,
     /// No thread could be started for its frames.
     NoThread,
+    /// Its session has expired in silence.
+    Expired,
+    /// It was silent for too long without a session.
+    Idle,
 }
 
 impl fmt::Display for ConnectionEnd {
@@ -32,6 +36,8 @@ impl fmt::Display for ConnectionEnd {
             ConnectionEnd::WriteFailed => write!(f, "write failed"),
             ConnectionEnd::OutOfMemory => write!(f, "out of memory"),
             ConnectionEnd::NoThread => write!(f, "no thread for its frames"),
+            ConnectionEnd::Expired => write!(f, "session expired"),
+            ConnectionEnd::Idle => write!(f, "silent without a session"),
         }
     }
 }
@@ -56,7 +62,9 @@ pub fn end_of(read: ConnectionEnd, sent: FrameEnd, is_over: bool) -> ConnectionE
     match (read, sent) {
         (ConnectionEnd::StreamFault(_), _)
         | (ConnectionEnd::OutOfMemory, _)
-        | (ConnectionEnd::NoThread, _) => read,
+        | (ConnectionEnd::NoThread, _)
+        | (ConnectionEnd::Expired, _)
+        | (ConnectionEnd::Idle, _) => read,
         (_, FrameEnd::OutOfMemory) => ConnectionEnd::OutOfMemory,
         _ if is_over => ConnectionEnd::Done,
         (_, FrameEnd::WriteFailed) => ConnectionEnd::WriteFailed,

@@ -5,6 +5,7 @@ ghost use Rattle.publisher.specs.FramesIn.{RelaysIn};
 ghost use Rattle.relay_accounts.specs.Incoming.{DropsFrames};
 
 use crate::counts::Counts;
+use crate::heard::Heard;
 use cursor::Feed;
 use interleaved::Source;
 use publisher::{InReport, InStop, relay_in};
@@ -26,8 +27,12 @@ pub fn publish_frames<S: Source + Drop, F: Feed>(
     relay_in(intake, feed, channels, &mut points)
 }
 
-/// Drops frames until a message comes, the end or a fault, and counts each as a stranger.
-pub fn skip_frames<S: Source + Drop>(intake: &mut Intake<S>, counts: &mut Counts) -> InStop
+/// Drops frames until a message comes, the end or a fault, counts each as a stranger and notes it as heard.
+pub fn skip_frames<S: Source + Drop>(
+    intake: &mut Intake<S>,
+    counts: &mut Counts,
+    heard: &Heard,
+) -> InStop
     ensures { DropsFrames S.incoming S.failed intake.old intake.new counts.old counts.new result }
 {
     // Both are read for the proof alone: no more frames than are left can come, and the count is within its range.
@@ -35,7 +40,10 @@ pub fn skip_frames<S: Source + Drop>(intake: &mut Intake<S>, counts: &mut Counts
     let _counted = counts.strangers;
     loop {
         match intake.next() {
-            Next::Unit(Unit::Frame(_)) => counts.add_stranger(),
+            Next::Unit(Unit::Frame(_)) => {
+                counts.add_stranger();
+                heard.note();
+            }
             Next::Unit(Unit::Message(request)) => return InStop::Message(request),
             Next::End => return InStop::End,
             Next::Fault(fault) => return InStop::Fault(fault),

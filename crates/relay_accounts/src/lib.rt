@@ -5,6 +5,7 @@
 mod backlog;
 mod counts;
 mod ending;
+mod heard;
 mod incoming;
 mod outcome;
 mod points;
@@ -13,6 +14,7 @@ mod tally;
 pub use backlog::{Backlog, Waiting};
 pub use counts::Counts;
 pub use ending::{ConnectionEnd, FrameEnd, end_of, status_of};
+pub use heard::Heard;
 pub use incoming::{publish_frames, skip_frames};
 pub use outcome::{Outcome, Part};
 pub use points::point_to_post;

@@ -71,6 +71,7 @@ fn serve_command<'a>(alloc: Global) -> Result<Command<'a>, AllocError> {
         .arg(gather_arg(alloc))?
         .arg(back_arg(alloc))?
         .arg(hang_up_ended_arg(alloc))?
+        .arg(idle_arg(alloc))?
         .arg(writers_arg(alloc))?
         .arg(verbose_arg(alloc))
 }
@@ -143,6 +144,17 @@ fn hang_up_ended_arg<'a>(alloc: Global) -> Arg<'a> {
         .long("hang-up-ended")
         .action(ArgAction::SetTrue)
         .help("Hang a player up once the last packet of its mount was written")
+}
+
+fn idle_arg<'a>(alloc: Global) -> Arg<'a> {
+    Arg::new(alloc, "idle")
+        .long("idle")
+        .value_name("SECONDS")
+        .default_value("300")
+        .value_parser(clap::value_parser!(u16))
+        .help(
+            "Hang up who says nothing for so long without a session, 0 to 65535, where 0 is never",
+        )
 }
 
 fn writers_arg<'a>(alloc: Global) -> Arg<'a> {

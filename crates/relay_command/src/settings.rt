@@ -20,6 +20,8 @@ pub struct Settings {
     pub back: u64,
     /// Whether a player is hung up after the last packet of its mount.
     pub hang_up_ended: bool,
+    /// After how many seconds a connection without a session is hung up that says nothing; `None` for never.
+    pub idle: Option<u64>,
     /// How many threads send the frames of all players, 0 to 64; 0 gives each player a thread of its own, and `None` is one for
     /// each processor.
     pub writers: Option<usize>,
@@ -41,6 +43,10 @@ impl Settings {
             gather: number(matches, "gather").min(100) as u64,
             back: number(matches, "back").min(4095) as u64,
             hang_up_ended: matches.get_flag("hang-up-ended"),
+            idle: match number(matches, "idle") {
+                0 => None,
+                seconds => Some(seconds as u64),
+            },
             writers: matches
                 .get_one::<u16>("writers")
                 .map(|count| usize::from(count).min(64)),

@@ -1,10 +1,12 @@
 //! A live relay for RTSP 1.0 (RFC 2326).
 #![tactic(auto)]
 
+mod moments;
 mod serve;
 pub mod task;
 
 use interleaved::{Reading, Writing};
+use moments::ClockMoments;
 use rand::make_rng;
 use rand::rngs::StdRng;
 use relay_command::{Asked, exit_code, read_words};
@@ -65,7 +67,8 @@ fn talk_with<V: Words>(rt: &HostRuntime, words: &mut V) -> anyhow::Result<ExitCo
     };
     let reader = Reading::new(rt.stdin());
     let mut writer = Writing::new(rt.stdout());
-    let ended = do_talk(rt.alloc(), hasher, reader, &mut writer, words)?;
+    let mut moments = ClockMoments::new(*rt);
+    let ended = do_talk(rt.alloc(), hasher, reader, &mut writer, words, &mut moments)?;
     Ok(tell(rt, &ended))
 }
 

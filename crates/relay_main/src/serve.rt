@@ -1,6 +1,7 @@
 //! The command `relay serve`.
 ghost use Rattle.relay_command.specs.Serving.{IsInRange};
 
+use crate::moments::ClockMoments;
 use log::{Log, warn};
 use rand::make_rng;
 use rand::rngs::StdRng;
@@ -27,6 +28,9 @@ const AFTER_END: u64 = 10_000;
 
 /// For how many milliseconds a write to a peer that reads nothing may move no byte.
 const WRITE_WAIT: u64 = 20_000;
+
+/// How often a silent peer is looked at, in milliseconds: its session ends so long after its time at most.
+const READ_WAIT: u64 = 2_000;
 
 /// A writer for each processor that the process may use, as far as the system tells how many, and at most 64.
 fn one_a_processor(rt: &impl Threads) -> usize {
@@ -77,6 +81,8 @@ where
         gather: settings.gather,
         after_end: settings.hang_up_ended.then_some(AFTER_END),
         write_wait: WRITE_WAIT,
+        read_wait: READ_WAIT,
+        idle: settings.idle.map(|seconds| seconds.saturating_mul(1_000)),
         writers: settings.writers.unwrap_or_else(|| one_a_processor(&rt)),
         is_verbose: settings.is_verbose,
     };
@@ -92,6 +98,7 @@ where
         book,
         DrawnWords(rng),
         OpenGate,
+        ClockMoments::new(rt),
     ) {
         Ok(()) => Ok(()),
         Err(_) => Err(OUT_OF_MEMORY),

@@ -1,18 +1,21 @@
 //! One connection, from its coming to its hang-up.
 mod asking;
 mod carrying_out;
+mod expiring;
 mod incoming;
 mod told;
 
 use crate::events::Events;
 use crate::gate::Gate;
+use crate::heard_feed::HeardFeed;
+use crate::hearing::{Hearing, Watch};
 use crate::shared::Shared;
 use interleaved::{Sink, Source};
 use publisher::InStop;
 use relay_accounts::{ConnectionEnd, Counts, Outcome, Part, end_of, status_of};
 use relay_fanout::{Frames, Hand, HangUp, Line, Maker, Posting, Writers, close_behind_text};
 use rtsp_message::{Intake, Request, Status};
-use session_state::{Act, Method, Words, read_method};
+use session_state::{Act, Method, Moments, Words, read_method};
 use std::alloc::Global;
 use std::sync::{Arc, Wait};
 use std::thread::Threads;
@@ -21,7 +24,7 @@ use told::Told;
 
 /// A connection that is being served, by the thread that reads it.
 #[derive(Drop)]
-pub(crate) struct Connection<R, M: Maker, V, G, W: Sink, H> {
+pub(crate) struct Connection<R, M: Maker, V, G, W: Sink, H, N> {
     rt: R,
     alloc: Global,
     shared: Arc<Shared<M, V, G>, Global>,
@@ -36,7 +39,7 @@ pub(crate) struct Connection<R, M: Maker, V, G, W: Sink, H> {
     /// Its part in the mount of its last session.
     part: Option<Part>,
     /// From an accepted ANNOUNCE to the mount's end.
-    publishing: Option<Posting<R, M::In>>,
+    publishing: Option<HeardFeed<Posting<R, M::In>>>,
     /// The number of its mount, from the first RECORD on.
     mount: Option<u64>,
     /// From a PLAY that took a seat until the seat is given back.
@@ -47,6 +50,7 @@ pub(crate) struct Connection<R, M: Maker, V, G, W: Sink, H> {
     torn_down: bool,
     counts: Counts,
     events: Events<R>,
+    hearing: Hearing<N>,
 }
 
 /// Where a connection's replies and frames go: its line, what ends it, and the writers that send its frames, or `None` where a
@@ -60,8 +64,8 @@ pub struct Outgoing<T, W: Sink, H> {
 
 /// Serves an open connection: answers its requests in order, publishes what comes in while it records, and sends what
 /// its seat takes while it plays. Ends when the peer says nothing more, at a fault, at a failed read or write or where it is
-/// out of memory, and hangs the connection up in the book.
-pub fn run_connection<R, M, V, G, S, W, H>(
+/// out of memory, and hangs the connection up in the book. Its session expires where the connection wasn't heard for 60 seconds.
+pub fn run_connection<R, M, V, G, S, W, H, N>(
     rt: R,
     alloc: Global,
     shared: Arc<Shared<M, V, G>, Global>,
@@ -69,6 +73,7 @@ pub fn run_connection<R, M, V, G, S, W, H>(
     mut reader: S,
     outgoing: Outgoing<M::Out, W, H>,
     events: Events<R>,
+    hearing: Hearing<N>,
 ) -> Outcome
 where
     R: Threads + Wait + Clock + Copy + Send + 'static,
@@ -79,6 +84,7 @@ where
     S: Source + Drop,
     W: Sink + Drop + Send + 'static,
     H: HangUp + Drop + Send + Sync + 'static,
+    N: Moments + Drop,
 {
     let Outgoing {
         line,
@@ -88,7 +94,14 @@ where
     let hand = match Arc::new(alloc, Hand::new(line, wire)) {
         Ok(hand) => hand,
         Err(refused) => {
-            turn_away(&rt, &shared, conn, &refused.value, &mut reader);
+            turn_away(
+                &rt,
+                &shared,
+                conn,
+                &refused.value,
+                &mut reader,
+                hearing.watch(),
+            );
             return Outcome {
                 end: ConnectionEnd::OutOfMemory,
                 counts: Counts::new(),
@@ -113,6 +126,7 @@ where
         torn_down: false,
         counts: Counts::new(),
         events,
+        hearing,
     };
     let end = connection.run(reader);
     Outcome {
@@ -129,6 +143,7 @@ fn turn_away<R, M, V, G, S, W, H>(
     conn: u64,
     hand: &Hand<M::Out, W, H>,
     reader: &mut S,
+    watch: &Watch,
 )
 where
     R: Wait,
@@ -141,10 +156,11 @@ where
 {
     let _ = hand.write_plain(rt, &shared.bell, Status::ServiceUnavailable, None);
     let _ = shared.book.lock(rt).hangup(conn);
+    watch.close();
     close_behind_text(&hand.wire, reader, LAST_READS, AFTER_TEXT);
 }
 
-impl<R, M, V, G, W, H> Connection<R, M, V, G, W, H>
+impl<R, M, V, G, W, H, N> Connection<R, M, V, G, W, H, N>
 where
     R: Threads + Wait + Clock + Copy + Send + 'static,
     M: Maker + Drop,
@@ -153,6 +169,7 @@ where
     G: Gate + Drop,
     W: Sink + Drop + Send + 'static,
     H: HangUp + Drop + Send + Sync + 'static,
+    N: Moments + Drop,
 {
     /// Serves from the first request to the hang-up.
     fn run<S: Source + Drop>(&mut self, reader: S) -> ConnectionEnd {
@@ -185,7 +202,7 @@ where
         match self.next_message(intake) {
             InStop::Message(request) => self.answer(&request),
             InStop::End => Err(ConnectionEnd::Done),
-            InStop::ReadFailed => Err(ConnectionEnd::ReadFailed),
+            InStop::ReadFailed => Err(self.read_failure()),
             InStop::Fault(fault) => {
                 self.write_last(status_of(fault));
                 Err(ConnectionEnd::StreamFault(fault))
@@ -200,7 +217,10 @@ where
     /// Answers a request, and does what the answer asks for.
     fn answer(&mut self, request: &Request) -> Result<(), ConnectionEnd> {
         self.torn_down = false;
-        match self.ask(request) {
+        let now = self.hearing.now();
+        self.expire(now)?;
+        self.hearing.watch().heard.note();
+        match self.ask(request, now) {
             Ok((answer, feed)) => {
                 self.torn_down = answer.reply.status == Status::Ok
                     && read_method(request.method.as_slice()) == Some(Method::Teardown);
@@ -246,10 +266,12 @@ where
         if !has_last_text {
             self.hand.wire.hang_up();
         }
-        if act == Act::End {
+        // It may have ended with its session before.
+        if act == Act::End || end == ConnectionEnd::Expired {
             self.end_mount();
         }
         if has_last_text {
+            self.hearing.watch().close();
             close_behind_text(&self.hand.wire, source, LAST_READS, AFTER_TEXT);
         }
         end_of(end, sent, self.is_over)

@@ -2,7 +2,7 @@
 use crate::gate::Gate;
 use crate::server::Server;
 use log::Log;
-use session_state::Words;
+use session_state::{Moments, Words};
 use std::alloc::{AllocError, Global};
 use std::io::Eprint;
 use std::sync::{Arc, Wait};
@@ -24,16 +24,17 @@ pub(crate) struct Helpers {
 
 impl Helpers {
     /// Starts them. Packets gather for so many milliseconds.
-    pub(crate) fn start<R, V, G>(
+    pub(crate) fn start<R, V, G, N>(
         rt: R,
         alloc: Global,
-        server: &Server<R, V, G>,
+        server: &Server<R, V, G, N>,
         gather: u64,
     ) -> Result<Helpers, AllocError>
     where
         R: Threads + Wait + Clock + Log + Eprint + Copy + Send + Sync + 'static,
         V: Words + Drop + Send + 'static,
         G: Gate + Drop + Send + Sync + 'static,
+        N: Moments,
     {
         let shared = Arc::try_clone(&server.shared)?;
         let refusing = Arc::try_clone(&server.refusing)?;
@@ -58,7 +59,11 @@ impl Helpers {
     }
 
     /// Ends them, after the last connection.
-    pub(crate) fn end<R: Threads + Wait + Clock, V, G>(self, rt: &R, server: &Server<R, V, G>) {
+    pub(crate) fn end<R: Threads + Wait + Clock, V, G, N>(
+        self,
+        rt: &R,
+        server: &Server<R, V, G, N>,
+    ) {
         let Helpers {
             waking,
             closing,

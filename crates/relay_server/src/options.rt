@@ -13,6 +13,11 @@ pub struct Options {
     /// A write to a peer fails, and ends its connection, where for so many milliseconds no byte of it could be written; at
     /// least 1.
     pub write_wait: u64,
+    /// A peer that says nothing is looked at after so many milliseconds, and again after as many: at least 1.
+    pub read_wait: u64,
+    /// A connection without a session is hung up where for so many milliseconds no whole message or frame came of it. `None` lets
+    /// it stay.
+    pub idle: Option<u64>,
     /// So many threads send the frames of all players; 0 gives each player a thread of its own.
     pub writers: usize,
     /// Whether lines tell of each mount and each player as they come and go.

@@ -3,18 +3,20 @@ use crate::accepts::Accepts;
 use crate::connection::{Outgoing, run_connection};
 use crate::events::Events;
 use crate::gate::Gate;
+use crate::hearing::Hearing;
 use crate::helpers::Helpers;
 use crate::lines::Lines;
 use crate::options::Options;
 use crate::refusal::Refusal;
 use crate::refusing::{Refusing, tell_unavailable};
 use crate::shared::{Shared, SharedBook};
+use crate::watched::{Silence, Watched};
 use interleaved::{Reading, Writing};
 use log::{Log, info, warn};
 use packet_ring::{Pass, Subscriber};
 use relay_accounts::{ConnectionEnd, Outcome};
 use relay_fanout::{Line, Maker, RingMaker, Seat, Socket, Writers, low_half};
-use session_state::Words;
+use session_state::{Moments, Words};
 use std::alloc::{AllocError, Global};
 use std::io::Eprint;
 use std::net::{SocketAddr, TcpStream};
@@ -41,7 +43,8 @@ const MOST_LIVE: u64 = 1_088;
 /// Serves connections of a listener: each is read by a thread of its own. Returns once as many as `options.accept` says
 /// were accepted and have ended, else never; or with an error where there is no memory or no thread for what all
 /// connections share. The book and the maker are of one number of seats; where they aren't, each ANNOUNCE is answered 503.
-pub fn run_server<R, L, V, G>(
+/// Sessions expire by these moments, and each connection has them for itself.
+pub fn run_server<R, L, V, G, N>(
     rt: R,
     alloc: Global,
     listener: &L,
@@ -50,12 +53,14 @@ pub fn run_server<R, L, V, G>(
     book: SharedBook<Seat<Pass>>,
     words: V,
     gate: G,
+    moments: N,
 ) -> Result<(), AllocError>
 where
     R: Threads + Wait + Clock + Log + Eprint + Copy + Send + Sync + 'static,
     L: Accepts,
     V: Words + Drop + Send + 'static,
     G: Gate + Drop + Send + Sync + 'static,
+    N: Moments + Copy + Send + Sync + 'static,
 {
     let after_end = options.after_end.map(Duration::from_millis);
     let shared = Shared::new(alloc, maker, book, words, gate, after_end)?;
@@ -68,6 +73,11 @@ where
         writers,
         lines,
         refusing,
+        moments,
+        silence: Silence {
+            looks: options.read_wait,
+            idle: options.idle,
+        },
         is_verbose: options.is_verbose,
     };
     let helpers = Helpers::start(rt, alloc, &server, options.gather)?;
@@ -79,12 +89,15 @@ where
 
 /// What connections share, and where is told what becomes of them.
 #[derive(Drop)]
-pub(crate) struct Server<R, V, G> {
+pub(crate) struct Server<R, V, G, N> {
     pub(crate) shared: Arc<RingShared<V, G>, Global>,
     /// `None` where each player has a thread of its own.
     pub(crate) writers: Option<Arc<SocketWriters, Global>>,
     pub(crate) lines: Arc<Lines<R>, Global>,
     pub(crate) refusing: Arc<Refusing, Global>,
+    /// What tells each connection the time.
+    moments: N,
+    silence: Silence,
     /// Whether lines tell of each mount and each player.
     is_verbose: bool,
 }
@@ -104,18 +117,19 @@ fn writers_of<V, G>(
 }
 
 /// Accepts connections, for good or as many as are to be accepted.
-fn accept_all<R, L, V, G>(
+fn accept_all<R, L, V, G, N>(
     rt: R,
     alloc: Global,
     listener: &L,
     options: Options,
-    server: &Server<R, V, G>,
+    server: &Server<R, V, G, N>,
 )
 where
     R: Threads + Wait + Clock + Log + Copy + Send + Sync + 'static,
     L: Accepts,
     V: Words + Drop + Send + 'static,
     G: Gate + Drop + Send + Sync + 'static,
+    N: Moments + Copy + Send + Sync + 'static,
 {
     let mut accepted = 0u64;
     for _ in rt.forever() {
@@ -125,7 +139,7 @@ where
         match listener.accept() {
             Ok((stream, peer)) => {
                 accepted = accepted.saturating_add(1);
-                set_up(&stream, options.write_wait);
+                set_up(&stream, options);
                 welcome(rt, alloc, server, stream, peer);
             }
             Err(_) => {
@@ -136,20 +150,21 @@ where
     }
 }
 
-/// Sets a socket up: small writes leave at once, and one that moves nothing for so many milliseconds fails, so that a peer
-/// that reads nothing holds its threads no longer.
-fn set_up(stream: &TcpStream, write_wait: u64) {
-    // Without them frames would only leave later, and a stalled peer stay.
+/// Sets a socket up: small writes leave at once, one that moves nothing for `write_wait` fails, so that a peer that reads nothing
+/// holds its threads no longer, and a read to which nothing comes for `read_wait` ends, so that silence is seen.
+fn set_up(stream: &TcpStream, options: Options) {
+    // Without them frames would only leave later, a stalled peer stay, and a silent one too.
     let _ = stream.set_nodelay(true);
-    let _ = stream.set_write_timeout(Some(Duration::from_millis(write_wait)));
+    let _ = stream.set_write_timeout(Some(Duration::from_millis(options.write_wait)));
+    let _ = stream.set_read_timeout(Some(Duration::from_millis(options.read_wait)));
 }
 
 /// Lets a connection come and starts its thread. Where one or the other is refused, it is told 503 and closed, and that is
 /// counted.
-fn welcome<R, V, G>(
+fn welcome<R, V, G, N>(
     rt: R,
     alloc: Global,
-    server: &Server<R, V, G>,
+    server: &Server<R, V, G, N>,
     stream: TcpStream,
     peer: SocketAddr,
 )
@@ -157,6 +172,7 @@ where
     R: Threads + Wait + Clock + Log + Copy + Send + Sync + 'static,
     V: Words + Drop + Send + 'static,
     G: Gate + Drop + Send + Sync + 'static,
+    N: Moments + Copy + Send + Sync + 'static,
 {
     let stream = match Arc::new(alloc, stream) {
         Ok(stream) => stream,
@@ -172,10 +188,10 @@ where
 }
 
 /// Lets a connection come and starts its thread.
-fn take_in<R, V, G>(
+fn take_in<R, V, G, N>(
     rt: R,
     alloc: Global,
-    server: &Server<R, V, G>,
+    server: &Server<R, V, G, N>,
     stream: &Arc<TcpStream, Global>,
     peer: SocketAddr,
 ) -> Result<(), Refusal>
@@ -183,6 +199,7 @@ where
     R: Threads + Wait + Clock + Log + Copy + Send + Sync + 'static,
     V: Words + Drop + Send + 'static,
     G: Gate + Drop + Send + Sync + 'static,
+    N: Moments + Copy + Send + Sync + 'static,
 {
     if server.shared.live.load(Ordering::SeqCst) >= MOST_LIVE {
         return Err(Refusal::Full);
@@ -196,10 +213,10 @@ where
 }
 
 /// Starts the thread of a connection.
-fn start<R, V, G>(
+fn start<R, V, G, N>(
     rt: R,
     alloc: Global,
-    server: &Server<R, V, G>,
+    server: &Server<R, V, G, N>,
     conn: u64,
     stream: &Arc<TcpStream, Global>,
     peer: SocketAddr,
@@ -208,8 +225,19 @@ where
     R: Threads + Wait + Clock + Log + Copy + Send + Sync + 'static,
     V: Words + Drop + Send + 'static,
     G: Gate + Drop + Send + Sync + 'static,
+    N: Moments + Copy + Send + Sync + 'static,
 {
-    let reader = Reading::new(Socket::of(stream)?);
+    let hearing = Hearing::new(alloc, server.moments)?;
+    let book = &server.shared.book;
+    let watched = Watched::new(
+        rt,
+        Socket::of(stream)?,
+        book,
+        conn,
+        &hearing,
+        server.silence,
+    )?;
+    let reader = Reading::new(watched);
     let writer = Writing::new(Socket::of(stream)?);
     let wire = Socket::of(stream)?;
     let writers = match &server.writers {
@@ -229,7 +257,7 @@ where
             writers,
         };
         let events = Events::new(&lines, peer, is_verbose);
-        let outcome = run_connection(rt, alloc, theirs, conn, reader, outgoing, events);
+        let outcome = run_connection(rt, alloc, theirs, conn, reader, outgoing, events, hearing);
         tell_end(&lines, peer, &outcome);
         leave(&same);
     };

@@ -1,9 +1,11 @@
 -- Only ANNOUNCE begins a mount, and then with its ring.
-use Rattle.std.proofs.Common.{◌≡◌, ℕ, Bool, true, false, if◌then◌else◌, inl, inr, Option, None, Some, IsSomeAnd, refl, sym, ap, subst}
+use Rattle.std.proofs.Common.{◌≡◌, ℕ, Bool, true, false, if◌then◌else◌, ◌∷◌, inl, inr, Option, None, Some, IsSomeAnd, refl, sym, ap, subst}
+use Rattle.std.specs.Prelude.{unwrap_or}
 use Rattle.rtsp_message.specs.declared.request.Request as messages
 use Rattle.rtsp_message.specs.declared.reply.Reply.{Reply}
 use Rattle.session_state.specs.declared.act.Act.{Act}
 use Rattle.session_state.specs.declared.act.Act.TheVariants as acts
+use Rattle.session_state.specs.declared.entry.Entry.TheVariants as entries
 use Rattle.session_state.specs.declared.given.Given.{Given}
 use Rattle.session_state.specs.declared.method.Method.{Method}
 use Rattle.session_state.specs.declared.method.Method.TheVariants as methods
@@ -12,11 +14,12 @@ use Rattle.session_state.specs.declared.session.State.{State}
 use Rattle.session_state.specs.declared.session.State.TheVariants.{Ready, Playing, Recording}
 use Rattle.session_state.specs.Checks.{Asked, state_in}
 use Rattle.session_state.specs.History.{History}
-use Rattle.session_state.specs.Legal.{IsAnswered, IsReplyOf}
+use Rattle.session_state.specs.Legal.{IsAnswered, IsExpiry, IsReplyOf}
 use Rattle.session_state.specs.Methods.{method_of}
 use Rattle.session_state.specs.Replies.{IsAccepted, IsPlayAct, pause_act, record_act, stop_in, teardown_act}
 use Rattle.packet_ring.specs.Views.{Publishing}
-use Rattle.relay_talk.specs.Publishing.{ActsOn, IsNewRing, publishing_after}
+use Rattle.relay_talk.specs.Exchange.{IsExpired, IsSettled, heard_at}
+use Rattle.relay_talk.specs.Publishing.{ActsOn, ExpiresPublishing, IsNewRing, publishing_after}
 
 abbrev opens : Act → Bool
 opens acts.Open = true
@@ -73,6 +76,10 @@ pub opens_by_announce : (seats : ℕ) (history : History) (conn : ℕ) (request 
 opens_by_announce seats history conn request given reply is =
     answered (record { seats = seats; history = history; conn = conn; request = request; mounts = is.mounts; session = is.session }) given reply acts.Open is.answered refl
 
+-- no mount begins where a session expires
+pub expiry_opens_none : (seats : ℕ) (history : History) (conn heard now : ℕ) (act : Act) → IsExpiry seats history conn heard now act → act ≡ acts.Open → ⊥
+expiry_opens_none seats history conn heard now act is begins = not_open act (teardown_act (Some is.session)) is.does (tears_down (Some is.session)) (ap opens begins)
+
 -- what is published after an act is what the act does
 pub acts_on : (act : Act) (offered old new : Option Publishing) → (act ≡ acts.Open → IsSomeAnd offered IsNewRing) → new ≡ publishing_after act offered old → ActsOn act old new
 acts_on acts.Open offered old new ring is = subst (λ (o : Option Publishing). IsSomeAnd o IsNewRing) (sym is) (ring refl)
@@ -81,3 +88,31 @@ acts_on acts.None offered old new ring is = is
 acts_on acts.Record offered old new ring is = is
 acts_on (acts.Play mount seat) offered old new ring is = is
 acts_on (acts.Stop mount seat) offered old new ring is = is
+
+-- when a connection was last heard, as the code reckons it
+pub heard_is : (last : Option ℕ) (now : ℕ) → unwrap_or last now ≡ heard_at last now
+heard_is None now = refl
+heard_is (Some moment) now = refl
+
+module _ (seats : ℕ) (history : History) (last : Option ℕ) (heard now : ℕ) (one : seats ≡ 1) (is : heard ≡ heard_at last now) where
+  -- a session that has expired
+  pub has_expired : (after : History) (act : Act) → IsExpiry seats history 1 heard now act → IsSettled act (entries.Expire 1 heard now act ∷ history) after → IsExpired history (heard_at last now) now after
+  has_expired after act expiry settled =
+      subst (λ (h : ℕ). IsExpired history h now after) is (inl (act, subst (λ (s : ℕ). IsExpiry s history 1 heard now act) one expiry, settled))
+
+  -- what it published
+  pub has_ended : (act : Act) (old new : Option Publishing) → IsExpiry seats history 1 heard now act → new ≡ publishing_after act None old → ExpiresPublishing history (heard_at last now) now old new
+  has_ended act old new expiry after =
+      subst (λ (h : ℕ). ExpiresPublishing history h now old new) is
+      (inl (
+        act,
+        subst (λ (s : ℕ). IsExpiry s history 1 heard now act) one expiry,
+        acts_on act None old new (λ begins. absurd (expiry_opens_none seats history 1 heard now act expiry begins)) after,
+      ))
+
+  module _ (none : (act : Act) → IsExpiry seats history 1 heard now act → ⊥) where
+    -- none that has expired
+    pub lives_on : (act : Act) → IsExpiry 1 history 1 (heard_at last now) now act → ⊥
+    lives_on act expiry =
+        none act
+        (subst (λ (s : ℕ). IsExpiry s history 1 heard now act) (sym one) (subst (λ (h : ℕ). IsExpiry 1 history 1 h now act) (sym is) expiry))

@@ -1,5 +1,5 @@
 -- The frames that come before a message.
-use Rattle.std.proofs.Common.{◌≡◌, ℕ, Bool, List, [], ◌∷◌, ◌++◌, Option, map, refl, ap, subst}
+use Rattle.std.proofs.Common.{◌≡◌, ℕ, Bool, List, [], ◌<◌, ◌∷◌, ◌++◌, Option, None, length, map, refl, sym, ap, subst, arith}
 use Rattle.std.specs.Prelude.{Result}
 use Rattle.interleaved.specs.declared.frame.Frame.{Frame}
 use Rattle.rtsp_message.specs.declared.unit.Unit.{Unit as StreamUnit}
@@ -11,8 +11,9 @@ use Rattle.transport_header.specs.declared.point.Point.{Point}
 use Rattle.cursor.specs.declared.packets.Packet.{Packet}
 use Rattle.cursor.specs.declared.refusals.Refused.{Refused as Refusal}
 use Rattle.publisher.specs.declared.report.InReport.{InReport}
-use Rattle.publisher.specs.Fates.{Handling}
+use Rattle.publisher.specs.Fates.{Handling, total}
 use Rattle.publisher.specs.FramesIn.{RelaysIn, answer_of, frames_of}
+use Rattle.relay_talk.specs.Exchange.{heard_after}
 use Rattle.relay_talk.specs.Publishing.{Fetches, units_of}
 
 -- the frames of these, whatever became of them
@@ -25,27 +26,43 @@ units_of-push : (frames : List Frame) (frame : Frame) (us : List StreamUnit) →
 units_of-push [] frame us = refl
 units_of-push (one ∷ frames) frame us = ap (λ (l : List StreamUnit). content.Frame one ∷ l) (units_of-push frames frame us)
 
+-- behind a frame no moment of a message stands
+pub heard_push : (frames : List Frame) (frame : Frame) (heard : Option ℕ) → heard_after (frames ++ frame ∷ []) heard ≡ None
+heard_push [] frame heard = refl
+heard_push (one ∷ frames) frame heard = refl
+
 module _ {S : Type 0} (incoming : S → Option (List ℕ)) where
-  -- Frames were handed out: what comes then comes after them.
-  pub record Skips (old now : IntakeState S) : Type 0 where
+  -- Frames were handed out: what comes then comes after them, and they after what was heard.
+  pub record Skips (old now : IntakeState S) (heard left : Option ℕ) : Type 0 where
     pub frames : List Frame
+    pub heard_is : left ≡ heard_after frames heard
     pub then : (new : IntakeState S) (us : List StreamUnit) → HandsOut incoming now new us → HandsOut incoming old new (units_of frames ++ us)
 
-  pub skips_nothing : (old : IntakeState S) → Skips old old
-  skips_nothing old = record { frames = []; then = λ new us out. out }
+  pub skips_nothing : (old : IntakeState S) (heard : Option ℕ) → Skips old old heard heard
+  skips_nothing old heard = record { frames = []; heard_is = refl; then = λ new us out. out }
 
-  pub skips_more : (old now next : IntakeState S) (frame : Frame) → Skips old now → HandsOut incoming now next (content.Frame frame ∷ []) → Skips old next
-  skips_more old now next frame p out = record {
+  pub skips_more : (old now next : IntakeState S) (heard left : Option ℕ) (frame : Frame) → Skips old now heard left → HandsOut incoming now next (content.Frame frame ∷ []) → Skips old next heard None
+  skips_more old now next heard left frame p out = record {
     frames = p.frames ++ frame ∷ [];
+    heard_is = sym (heard_push p.frames frame heard);
     then = λ new us rest. subst (HandsOut incoming old new) (units_of-push p.frames frame us) (p.then new (content.Frame frame ∷ us) (HandsOut-trans incoming now next new (content.Frame frame ∷ []) us out rest));
   }
 
+-- what was heard, where so many frames are counted
+abbrev pub HeardBy : (count : ℕ) → (heard then : Option ℕ) → Type 0
+HeardBy count heard then = (0 < count → then ≡ None) × (count ≡ 0 → then ≡ heard)
+
+heard_by : (handlings : List Handling) (count : ℕ) (heard then : Option ℕ) → count ≡ length handlings → HeardBy count heard then → then ≡ heard_after (map (λ (h : Handling). h.frame) handlings) heard
+heard_by [] count heard then all by = by.1 all
+heard_by (h ∷ handlings) count heard then all by = by.0 (omega (arith, all))
+
 -- frames that went through the engine were handed out
 pub fetches_of : {S F : Type 0} (incoming : S → Option (List ℕ)) (failed : S → Bool) (gives : F → Packet → Result ℕ Refusal → F → Type 0) (pairs : List (Option ChannelPair)) (room : ℕ) (may : Refusal → Type 0)
-    (old new : IntakeState S) (old_feed new_feed : F) (old_log new_log : Option (List Packet)) (old_points new_points : List (Option Point)) (report : InReport)
-    → RelaysIn incoming failed gives pairs room may old new old_feed new_feed old_log new_log old_points new_points report → Fetches incoming failed old new report.stop
-fetches_of incoming failed gives pairs room may old new old_feed new_feed old_log new_log old_points new_points report relays = record {
+    (old new : IntakeState S) (old_feed new_feed : F) (old_log new_log : Option (List Packet)) (old_points new_points : List (Option Point)) (report : InReport) (heard then : Option ℕ)
+    → RelaysIn incoming failed gives pairs room may old new old_feed new_feed old_log new_log old_points new_points report → HeardBy (total report) heard then → Fetches incoming failed old new heard then report.stop
+fetches_of incoming failed gives pairs room may old new old_feed new_feed old_log new_log old_points new_points report heard then relays by = record {
   frames = map (λ (h : Handling). h.frame) relays.handlings;
+  heard_is = heard_by relays.handlings (total report) heard then relays.counts.all by;
   hands_out = subst (λ (us : List StreamUnit). HandsOut incoming old new (us ++ handed (answer_of report.stop))) (frames_of-units relays.handlings) relays.hands_out;
   tells = relays.tells;
 }

@@ -1,5 +1,5 @@
 -- What a talk publishes: the frames that come in while its session records, in the ring of its mount.
-use Rattle.std.specs.Prelude.{◌≡◌, ◌++◌, ℕ, Bool, true, List, [], Option, None, Some, IsSomeAnd, map}
+use Rattle.std.specs.Prelude.{◌≡◌, ◌++◌, ◌⊎◌, ℕ, Bool, true, List, [], Option, None, Some, IsSomeAnd, map}
 use Rattle.interleaved.specs.declared.frame.Frame.{Frame}
 use Rattle.rtsp_message.specs.declared.request.Request.{Request}
 use Rattle.rtsp_message.specs.declared.reply.Reply.{Reply}
@@ -12,14 +12,15 @@ use Rattle.session_state.specs.declared.act.Act.TheVariants as acts
 use Rattle.session_state.specs.declared.session.Session.{Session}
 use Rattle.session_state.specs.declared.session.State.TheVariants.{Recording}
 use Rattle.session_state.specs.History.{History}
-use Rattle.session_state.specs.Legal.{IsReplyOf}
+use Rattle.session_state.specs.declared.given.Given.{Given}
+use Rattle.session_state.specs.Legal.{IsExpiry, IsReplyOf}
 use Rattle.session_state.specs.Lookups.{IsSession, has_session, session_part, state_of}
 use Rattle.packet_ring.specs.Calls.{PublishesNext, RingMayRefuse}
 use Rattle.packet_ring.specs.Views.{Publishing, keep_of, packet_bytes_of, seats_of}
 use Rattle.publisher.specs.declared.report.InReport.{InReport}
 use Rattle.publisher.specs.declared.report.InStop.{InStop}
 use Rattle.publisher.specs.FramesIn.{RelaysIn, answer_of}
-use Rattle.relay_talk.specs.Exchange.{with_word}
+use Rattle.relay_talk.specs.Exchange.{heard_after}
 
 -- a connection's session records (RFC 2326, A.2)
 pub record IsRecording (conn : ℕ) (history : History) : Type 0 where
@@ -30,9 +31,11 @@ pub record IsRecording (conn : ℕ) (history : History) : Type 0 where
 abbrev pub units_of : List Frame → List StreamUnit
 units_of frames = map (λ frame. content.Frame frame) frames
 
--- From the one state to the other an intake handed out these frames, and then gave the answer that ended them.
-pub record Fetches {S : Type 0} (incoming : S → Option (List ℕ)) (failed : S → Bool) (old new : IntakeState S) (stop : InStop) : Type 0 where
+-- From the one state to the other an intake handed out these frames, and then gave the answer that ended them. They come after
+-- what was heard.
+pub record Fetches {S : Type 0} (incoming : S → Option (List ℕ)) (failed : S → Bool) (old new : IntakeState S) (heard then : Option ℕ) (stop : InStop) : Type 0 where
   pub frames : List Frame
+  pub heard_is : then ≡ heard_after frames heard
   pub hands_out : HandsOut incoming old new (units_of frames ++ handed (answer_of stop))
   pub tells : Tells incoming failed new (answer_of stop)
 
@@ -74,5 +77,10 @@ ActsOn acts.End old new = new ≡ None
 ActsOn act old new = new ≡ old
 
 -- the act of the reply to a request was carried out on what is published
-abbrev pub DoesPublishing : History → Request → (word : ℕ) → Reply → (old new : Option Publishing) → Type 0
-DoesPublishing before request word reply old new = (act : Act) × IsReplyOf 1 before 1 request (with_word word) reply act × ActsOn act old new
+abbrev pub DoesPublishing : History → Request → Given → Reply → (old new : Option Publishing) → Type 0
+DoesPublishing before request given reply old new = (act : Act) × IsReplyOf 1 before 1 request given reply act × ActsOn act old new
+
+-- the act of a session that expires was carried out on what is published; nothing changes where none does
+abbrev pub ExpiresPublishing : History → (heard now : ℕ) → (old new : Option Publishing) → Type 0
+ExpiresPublishing before heard now old new =
+    ((act : Act) × IsExpiry 1 before 1 heard now act × ActsOn act old new) ⊎ (((act : Act) → IsExpiry 1 before 1 heard now act → ⊥) × (new ≡ old))

@@ -8,9 +8,9 @@ use Rattle.rtsp_message.specs.declared.fault.Fault.TheVariants.{BadLine, BadHead
 use Rattle.rtsp_message.specs.declared.unit.Unit.{Unit as StreamUnit}
 use Rattle.rtsp_message.specs.Stream.{Ending, Waits, Fails, Reads, fault_of, fault_number}
 use Rattle.rtsp_message.specs.Reply.{plain_text}
-use Rattle.session_state.specs.History.{History}
+use Rattle.session_state.specs.declared.given.Given.{Given}
 use Rattle.session_state.specs.Legal.{IsLegal}
-use Rattle.relay_talk.specs.Exchange.{AreAnswers, AreDrawn, opening}
+use Rattle.relay_talk.specs.Exchange.{AreAnswers, AreDrawn, Standing, beginning}
 use Rattle.relay_talk.specs.declared.talk.TalkEnd.{TalkEnd}
 use Rattle.relay_talk.specs.declared.talk.TalkEnd.TheVariants as ends
 
@@ -36,7 +36,8 @@ abbrev pub IsRefused : (read held : List ℕ) → Type 0
 IsRefused read held = (0 < length held) ⊎ (read ≡ [])
 
 -- What a talk was: the bytes that were read, of which some are held where memory was refused, their units, some of which
--- aren't answered after a failed write, and the words, the history and the whole text that go with those that are.
+-- aren't answered after a failed write, and the words and moments, how the talk stands and the whole text that go with those
+-- that are.
 pub record Talk : Type 0 where
   pub read : List ℕ
   pub taken : List ℕ
@@ -44,23 +45,23 @@ pub record Talk : Type 0 where
   pub units : List StreamUnit
   pub unanswered : List StreamUnit
   pub ending : Ending
-  pub words : List ℕ
-  pub history : History
+  pub given : List Given
+  pub standing : Standing
   pub answers : List ℕ
   pub closing : List ℕ
 
 -- From this reader, which is left as the last one, the bytes were read that the units stand in. The answers are those of
--- a legal history of one connection, with the words that were drawn.
-pub record IsTalk {R V : Type 0} (incoming : R → Option (List ℕ)) (gives : V → ℕ → V → Type 0) (reader last : R) (words drawn : V) (talk : Talk) : Type 0 where
-  pub given : Consumes (incoming reader) (incoming last) talk.read
+-- a legal history of one connection, with the words and at the moments that were drawn.
+pub record IsTalk {R D : Type 0} (incoming : R → Option (List ℕ)) (gives : D → Given → D → Type 0) (reader last : R) (draws drawn : D) (talk : Talk) : Type 0 where
+  pub consumed : Consumes (incoming reader) (incoming last) talk.read
   pub parts : talk.read ≡ talk.taken ++ talk.held
   pub reads : Reads talk.taken (talk.units ++ talk.unanswered) talk.ending
-  pub are_drawn : AreDrawn gives words talk.words drawn
-  pub are_answers : AreAnswers opening talk.units talk.words talk.history talk.answers
-  pub legal : IsLegal 1 talk.history
+  pub are_drawn : AreDrawn gives draws talk.given drawn
+  pub are_answers : AreAnswers beginning talk.units talk.given talk.standing talk.answers
+  pub legal : IsLegal 1 talk.standing.history
   pub closing_is : (talk.closing ≡ []) ⊎ ((talk.unanswered ≡ []) × ((talk.closing ≡ closing_of talk.ending) ⊎ ((talk.closing ≡ refusal) × IsRefused talk.read talk.held)))
 
-module _ {R W V : Type 0} (incoming : R → Option (List ℕ)) (read_failed : R → Bool) (written : W → Option (List ℕ)) (write_failed : W → Bool) (gives : V → ℕ → V → Type 0) where
+module _ {R W D : Type 0} (incoming : R → Option (List ℕ)) (read_failed : R → Bool) (written : W → Option (List ℕ)) (write_failed : W → Bool) (gives : D → Given → D → Type 0) where
   -- each message was answered, and all that is due was written
   abbrev pub WritesAll : Talk → W → W → Type 0
   WritesAll talk old new = (talk.unanswered ≡ []) × Appends (written old) (written new) (talk.answers ++ talk.closing)
@@ -77,9 +78,9 @@ module _ {R W V : Type 0} (incoming : R → Option (List ℕ)) (read_failed : R 
       (write_failed new ≡ true) × (n : ℕ) × (n < length (talk.answers ++ talk.closing)) × Appends (written old) (written new) (take n (talk.answers ++ talk.closing))
 
   -- What is written is, for each message of the stream read, its answer, then the fixed text of the fault if there is
-  -- one. The reader is left as the last one, and the words as those drawn leave them.
-  abbrev pub Talks : (reader last : R) → (words drawn : V) → W → W → TalkEnd → Type 0
-  Talks reader last words drawn old new end = (talk : Talk) × IsTalk incoming gives reader last words drawn talk × EndsSo last talk old new end
+  -- one. The reader is left as the last one, and the words and moments as those drawn leave them.
+  abbrev pub Talks : (reader last : R) → (draws drawn : D) → W → W → TalkEnd → Type 0
+  Talks reader last draws drawn old new end = (talk : Talk) × IsTalk incoming gives reader last draws drawn talk × EndsSo last talk old new end
 
 -- the exit status of a talk
 abbrev pub exit_status : TalkEnd → ℕ
@@ -97,12 +98,12 @@ exit_line ends.ReadFailed = codes "relay: read failed"
 exit_line ends.WriteFailed = codes "relay: write failed"
 exit_line ends.OutOfMemory = codes "relay: out of memory"
 
-module _ {R W V : Type 0} (incoming : R → Option (List ℕ)) (read_failed : R → Bool) (written : W → Option (List ℕ)) (write_failed : W → Bool) (gives : V → ℕ → V → Type 0) where
+module _ {R W D : Type 0} (incoming : R → Option (List ℕ)) (read_failed : R → Bool) (written : W → Option (List ℕ)) (write_failed : W → Bool) (gives : D → Given → D → Type 0) where
   -- one connection is answered, and this status and this line tell how it ended
-  abbrev pub DoesTalk : R → (words drawn : V) → W → W → ℕ → List ℕ → Type 0
-  DoesTalk reader words drawn old new status line =
-      (last : R) × (end : TalkEnd) × Talks incoming read_failed written write_failed gives reader last words drawn old new end × (status ≡ exit_status end) × (line ≡ exit_line end)
+  abbrev pub DoesTalk : R → (draws drawn : D) → W → W → ℕ → List ℕ → Type 0
+  DoesTalk reader draws drawn old new status line =
+      (last : R) × (end : TalkEnd) × Talks incoming read_failed written write_failed gives reader last draws drawn old new end × (status ≡ exit_status end) × (line ≡ exit_line end)
 
   -- one connection is answered, however it ended
-  abbrev pub IsTalked : R → (words drawn : V) → W → W → Type 0
-  IsTalked reader words drawn old new = (last : R) × (end : TalkEnd) × Talks incoming read_failed written write_failed gives reader last words drawn old new end
+  abbrev pub IsTalked : R → (draws drawn : D) → W → W → Type 0
+  IsTalked reader draws drawn old new = (last : R) × (end : TalkEnd) × Talks incoming read_failed written write_failed gives reader last draws drawn old new end

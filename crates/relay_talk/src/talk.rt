@@ -1,17 +1,17 @@
 //! One connection, from its first byte to its end.
-ghost use Rattle.std.specs.Prelude.{◌≡◌, ◌<◌, ℕ, List, true, length, take, IfOk, IfErr, OnErr, OnOk, string_bytes};
+ghost use Rattle.std.specs.Prelude.{◌≡◌, ◌<◌, ℕ, List, None, true, length, take, IfOk, IfErr, OnErr, OnOk, string_bytes};
 ghost use Rattle.std.specs.Io.KnownBytes.{Appends};
 ghost use Rattle.rtsp_message.specs.Intakes.{fresh};
 ghost use Rattle.rtsp_message.specs.Reply.{plain_text};
 ghost use Rattle.session_state.specs.Lookups.{is_open};
-ghost use Rattle.relay_talk.specs.Exchange.{AnswersWith, IsAnswer, opening};
+ghost use Rattle.relay_talk.specs.Exchange.{Draws, IsAnswer, MeetsWith, given_with, opening, standing_of};
 ghost use Rattle.relay_talk.specs.Talk.{DoesTalk, IsTalked, Talks, exit_status, exit_line, status_of as fixed_status};
 
 use crate::talker::Talker;
 use interleaved::{Sink, Source, WriteCut, write_all};
 use publisher::InStop;
 use rtsp_message::{Fault, Intake, Request, Status, put_plain};
-use session_state::Words;
+use session_state::{Moments, Words};
 use std::alloc::{AllocError, Global};
 use std::collections::hash_map::RandomState;
 
@@ -29,18 +29,20 @@ pub enum TalkEnd {
 
 /// Answers the requests of one connection, in order, to its end.
 ///
-/// Its history stands in a book of its own, whose mounts have one seat and a ring each. A word is asked for once a message.
-/// What comes in while the session records is published; other frames are dropped. A fault of the stream, a failed device,
+/// Its history stands in a book of its own, whose mounts have one seat and a ring each. A word and a moment are asked for once a
+/// message; where the session has expired by then, it ends first. What comes in while the session records is published; other
+/// frames are dropped. A fault of the stream, a failed device,
 /// and memory that runs out in the reader or at the connection's coming, end it. Where memory is refused for a ring or a reply,
 /// 503 stands in the reply's place. The reader is given back, as far as it was read.
-pub fn run_talk<R: Source + Drop, W: Sink, V: Words>(
+pub fn run_talk<R: Source + Drop, W: Sink, V: Words, N: Moments>(
     alloc: Global,
     hasher: RandomState,
     reader: R,
     writer: &mut W,
     words: &mut V,
+    moments: &mut N,
 ) -> (TalkEnd, R)
-    ensures { Talks R.incoming R.failed W.written W.failed V.gives reader result.1 words.old words.new writer.old writer.new result.0 }
+    ensures { Talks R.incoming R.failed W.written W.failed (Draws V.gives N.gives) reader result.1 (words.old, moments.old) (words.new, moments.new) writer.old writer.new result.0 }
 {
     let Ok(mut talker) = Talker::connect(alloc, hasher) else {
         if let Err(_) = write_plain(writer, Status::ServiceUnavailable, None) {
@@ -49,28 +51,30 @@ pub fn run_talk<R: Source + Drop, W: Sink, V: Words>(
         return (TalkEnd::OutOfMemory, reader);
     };
     let mut intake = Intake::new(alloc, reader);
-    let end = answer_all(&mut talker, &mut intake, writer, words);
+    let end = answer_all(&mut talker, &mut intake, writer, words, moments);
     talker.leave();
     (end, intake.into_source())
 }
 
 /// Answers the messages of an intake, one after another. Each answer is written before more is read.
-fn answer_all<R: Source + Drop, W: Sink, V: Words>(
+fn answer_all<R: Source + Drop, W: Sink, V: Words, N: Moments>(
     talker: &mut Talker,
     intake: &mut Intake<R>,
     writer: &mut W,
     words: &mut V,
+    moments: &mut N,
 ) -> TalkEnd
     requires begins { talker.old.book.history ≡ opening }
+    requires unheard { talker.old.heard ≡ None }
     requires seats { talker.old.book.seats ≡ 1 }
-    ensures talks { (reader : _) → intake.old ≡ fresh reader → Talks R.incoming R.failed W.written W.failed V.gives reader intake.new.source words.old words.new writer.old writer.new result }
+    ensures talks { (reader : _) → intake.old ≡ fresh reader → Talks R.incoming R.failed W.written W.failed (Draws V.gives N.gives) reader intake.new.source (words.old, moments.old) (words.new, moments.new) writer.old writer.new result }
     ensures seats { talker.new.book.seats ≡ 1 }
     ensures open { is_open 1 talker.new.book.history ≡ true }
 {
     loop {
         match talker.next_message(intake) {
             InStop::Message(request) => {
-                if let Err(_) = answer_message(talker, words, writer, &request) {
+                if let Err(_) = answer_message(talker, words, moments, writer, &request) {
                     return TalkEnd::WriteFailed;
                 }
             }
@@ -92,39 +96,44 @@ fn answer_all<R: Source + Drop, W: Sink, V: Words>(
     }
 }
 
-/// Answers a message, with a word of its own.
-fn answer_message<W: Sink, V: Words>(
+/// Answers a message, with a word and at a moment of its own, by which its session may have expired.
+fn answer_message<W: Sink, V: Words, N: Moments>(
     talker: &mut Talker,
     words: &mut V,
+    moments: &mut N,
     writer: &mut W,
     request: &Request,
 ) -> Result<(), WriteCut>
     requires seats { talker.old.book.seats ≡ 1 }
     requires open { is_open 1 talker.old.book.history ≡ true }
-    ensures ok { OnOk result ((text : List ℕ) × AnswersWith V.gives words.old words.new talker.old.book.history request.now talker.new.book.history text × Appends (W.written writer.old) (W.written writer.new) text) }
-    ensures cut { IfErr result (λ cut. (text : List ℕ) × AnswersWith V.gives words.old words.new talker.old.book.history request.now talker.new.book.history text × (cut.written < length text) × Appends (W.written writer.old) (W.written writer.new) (take cut.written text)) }
+    ensures ok { OnOk result ((text : List ℕ) × MeetsWith (Draws V.gives N.gives) (words.old, moments.old) (words.new, moments.new) (standing_of talker.old) request.now (standing_of talker.new) text × Appends (W.written writer.old) (W.written writer.new) text) }
+    ensures cut { IfErr result (λ cut. (text : List ℕ) × MeetsWith (Draws V.gives N.gives) (words.old, moments.old) (words.new, moments.new) (standing_of talker.old) request.now (standing_of talker.new) text × (cut.written < length text) × Appends (W.written writer.old) (W.written writer.new) (take cut.written text)) }
     ensures failed { IfErr result (λ _. W.failed writer.new ≡ true) }
     ensures kept { talker.new.book.seats ≡ 1 }
 {
     let word = words.word();
-    answer(talker, word, writer, request)
+    let now = moments.now();
+    talker.hear(now);
+    answer(talker, word, now, writer, request)
 }
 
 /// Writes the reply to a request, or 503 where memory is refused for it.
 fn answer<W: Sink>(
     talker: &mut Talker,
     word: u32,
+    now: u64,
     writer: &mut W,
     request: &Request,
 ) -> Result<(), WriteCut>
     requires seats { talker.old.book.seats ≡ 1 }
     requires open { is_open 1 talker.old.book.history ≡ true }
-    ensures ok { OnOk result ((text : List ℕ) × IsAnswer talker.old.book.history request.now word talker.new.book.history text × Appends (W.written writer.old) (W.written writer.new) text) }
-    ensures cut { IfErr result (λ cut. (text : List ℕ) × IsAnswer talker.old.book.history request.now word talker.new.book.history text × (cut.written < length text) × Appends (W.written writer.old) (W.written writer.new) (take cut.written text)) }
+    ensures ok { OnOk result ((text : List ℕ) × IsAnswer talker.old.book.history request.now (given_with word now) talker.new.book.history text × Appends (W.written writer.old) (W.written writer.new) text) }
+    ensures cut { IfErr result (λ cut. (text : List ℕ) × IsAnswer talker.old.book.history request.now (given_with word now) talker.new.book.history text × (cut.written < length text) × Appends (W.written writer.old) (W.written writer.new) (take cut.written text)) }
     ensures failed { IfErr result (λ _. W.failed writer.new ≡ true) }
     ensures kept { talker.new.book.seats ≡ 1 }
+    ensures heard { talker.new.heard ≡ talker.old.heard }
 {
-    match talker.reply_bytes(word, request) {
+    match talker.reply_bytes(word, now, request) {
         Some(text) => write_all(writer, text.as_slice()),
         None => write_plain(writer, Status::ServiceUnavailable, request.cseq),
     }
@@ -177,17 +186,18 @@ pub struct Ended {
 
 /// Answers one connection, and tells how that ended. The only error is that memory runs out for the line, with the connection
 /// answered.
-pub fn do_talk<R: Source + Drop, W: Sink, V: Words>(
+pub fn do_talk<R: Source + Drop, W: Sink, V: Words, N: Moments>(
     alloc: Global,
     hasher: RandomState,
     reader: R,
     writer: &mut W,
     words: &mut V,
+    moments: &mut N,
 ) -> Result<Ended, AllocError>
-    ensures ok { IfOk result (λ ended. DoesTalk R.incoming R.failed W.written W.failed V.gives reader words.old words.new writer.old writer.new ended.status (string_bytes ended.line)) }
-    ensures err { OnErr result (IsTalked R.incoming R.failed W.written W.failed V.gives reader words.old words.new writer.old writer.new) }
+    ensures ok { IfOk result (λ ended. DoesTalk R.incoming R.failed W.written W.failed (Draws V.gives N.gives) reader (words.old, moments.old) (words.new, moments.new) writer.old writer.new ended.status (string_bytes ended.line)) }
+    ensures err { OnErr result (IsTalked R.incoming R.failed W.written W.failed (Draws V.gives N.gives) reader (words.old, moments.old) (words.new, moments.new) writer.old writer.new) }
 {
-    let (end, _last) = run_talk(alloc, hasher, reader, writer, words);
+    let (end, _last) = run_talk(alloc, hasher, reader, writer, words, moments);
     let (status, line) = talk_end(alloc, &end)?;
     Ok(Ended { status, line })
 }

@@ -1,5 +1,5 @@
 //! One connection with its book: what it is answered, and what it publishes.
-ghost use Rattle.std.specs.Prelude.{◌≡◌, ◌≤◌, ◌+◌, true, None, Some, length, IfOk, IfSome, IfNone, IsSomeAnd};
+ghost use Rattle.std.specs.Prelude.{◌≡◌, ◌≤◌, ◌<◌, ◌+◌, true, None, Some, length, IfOk, IfSome, IfNone, IsSomeAnd, MatchBool};
 ghost use Rattle.std.specs.Option.{option_flatten, option_map};
 ghost use Rattle.rtsp_message.specs.Intakes.{handed, weight};
 ghost use Rattle.rtsp_message.specs.Reply.{reply_text};
@@ -7,14 +7,15 @@ ghost use Rattle.session_state.specs.Lookups.{is_open};
 ghost use Rattle.session_state.specs.Methods.{method_of};
 ghost use Rattle.session_state.specs.declared.method.Method.TheVariants.{Announce};
 ghost use Rattle.session_lock.specs.Books.{IsOffer};
+ghost use Rattle.publisher.specs.Fates.{total};
 ghost use Rattle.publisher.specs.FramesIn.{answer_of};
-ghost use Rattle.relay_talk.specs.Exchange.{IsAnswer, IsAnswered, IsLeft, IsSettled, busy, opening};
-ghost use Rattle.relay_talk.specs.Publishing.{DoesPublishing, Fetches, IsNewRing, IsRecording, PublishesFrames, publishing_after, seat_after};
+ghost use Rattle.relay_talk.specs.Exchange.{IsAnswer, IsAnswered, IsExpired, IsLeft, IsSettled, busy, given_with, heard_at, opening};
+ghost use Rattle.relay_talk.specs.Publishing.{DoesPublishing, ExpiresPublishing, Fetches, IsNewRing, IsRecording, PublishesFrames, publishing_after, seat_after};
 
 use base_syntax::Items;
 use interleaved::Source;
 use packet_ring::{Pass, Publisher};
-use publisher::{InStop, relay_in};
+use publisher::{InReport, InStop, relay_in};
 use rtsp_message::{Intake, Next, Reply, Request, Unit, put_reply};
 use session_lock::{Answer, Book};
 use session_state::{Act, ConnectFault, Given, Method, State, read_method};
@@ -50,6 +51,8 @@ pub struct Talker {
     pub publishing: Option<Publisher>,
     /// The pass of the seat that it plays from.
     pub seat: Option<Pass>,
+    /// The moment of its last message, where no frame has come since.
+    pub heard: Option<u64>,
 }
 
 impl Talker {
@@ -58,6 +61,7 @@ impl Talker {
         ensures seats { IfOk result (λ talker. talker.book.seats ≡ 1) }
         ensures opens { IfOk result (λ talker. talker.book.history ≡ opening) }
         ensures publishing { IfOk result (λ talker. talker.publishing ≡ None) }
+        ensures unheard { IfOk result (λ talker. talker.heard ≡ None) }
     {
         let mut book = Book::new(alloc, SEATS, hasher);
         book.connect()?;
@@ -66,6 +70,7 @@ impl Talker {
             book,
             publishing: None,
             seat: None,
+            heard: None,
         })
     }
 
@@ -74,9 +79,9 @@ impl Talker {
     pub fn next_message<S: Source + Drop>(&mut self, intake: &mut Intake<S>) -> InStop
         requires open { is_open 1 self.old.book.history ≡ true }
         requires seats { self.old.book.seats ≡ 1 }
-        ensures fetches { Fetches S.incoming S.failed intake.old intake.new result }
+        ensures fetches { Fetches S.incoming S.failed intake.old intake.new self.old.heard self.new.heard result }
         ensures published { IsRecording 1 self.old.book.history → IfSome self.old.publishing (λ feed. PublishesFrames S.incoming S.failed self.old.book.history intake.old intake.new feed self.new.publishing result) }
-        ensures dropped { ¬ IsRecording 1 self.old.book.history → self.new ≡ self.old }
+        ensures dropped { ¬ IsRecording 1 self.old.book.history → self.new.publishing ≡ self.old.publishing }
         ensures book { self.new.book ≡ self.old.book }
         ensures seat { self.new.seat ≡ self.old.seat }
         ensures ends { weight S.bound intake.new + length (handed (answer_of result)) ≤ weight S.bound intake.old }
@@ -85,33 +90,57 @@ impl Talker {
             if session.state == State::Recording {
                 if let Some(feed) = &mut self.publishing {
                     let mut points = [None; MOST_TRACKS];
-                    return relay_in(intake, feed, &session.channels, &mut points).stop;
+                    let report = relay_in(intake, feed, &session.channels, &mut points);
+                    self.heard = heard_after(&report, self.heard);
+                    return report.stop;
                 }
             }
         }
-        skip_frames(intake)
+        skip_frames(intake, &mut self.heard)
     }
 
-    /// The text of the reply to a request, with the reply's act carried out. `None` where memory was refused.
-    pub fn reply_bytes(&mut self, word: u32, request: &Request) -> Option<Vec<u8>>
+    /// A message comes at this moment. Where the session has expired it ends, and its act is carried out. The connection was last
+    /// heard by the message before, and now where there was none or a frame has come since.
+    pub fn hear(&mut self, now: u64)
         requires seats { self.old.book.seats ≡ 1 }
         requires open { is_open 1 self.old.book.history ≡ true }
-        ensures text { IfSome result (λ text. IsAnswer self.old.book.history request.now word self.new.book.history text.items) }
-        ensures refused { IfNone result (IsAnswer self.old.book.history request.now word self.new.book.history (busy request.now)) }
+        ensures expired { IsExpired self.old.book.history (heard_at self.old.heard now) now self.new.book.history }
+        ensures publishing { ExpiresPublishing self.old.book.history (heard_at self.old.heard now) now self.old.publishing self.new.publishing }
+        ensures heard { self.new.heard ≡ Some now }
+        ensures open { is_open 1 self.new.book.history ≡ true }
         ensures kept { self.new.book.seats ≡ 1 }
     {
-        let reply = self.reply_to(word, request)?;
+        let heard = self.heard.unwrap_or(now);
+        self.heard = Some(now);
+        let Some(act) = self.book.expire(TALKER, heard, now) else {
+            return;
+        };
+        self.carry_out(act, None, None);
+    }
+
+    /// The text of the reply to a request that comes at this moment, with the reply's act carried out. `None` where memory was
+    /// refused.
+    pub fn reply_bytes(&mut self, word: u32, now: u64, request: &Request) -> Option<Vec<u8>>
+        requires seats { self.old.book.seats ≡ 1 }
+        requires open { is_open 1 self.old.book.history ≡ true }
+        ensures text { IfSome result (λ text. IsAnswer self.old.book.history request.now (given_with word now) self.new.book.history text.items) }
+        ensures refused { IfNone result (IsAnswer self.old.book.history request.now (given_with word now) self.new.book.history (busy request.now)) }
+        ensures kept { self.new.book.seats ≡ 1 }
+        ensures heard { self.new.heard ≡ self.old.heard }
+    {
+        let reply = self.reply_to(word, now, request)?;
         text_of(self.alloc, &reply).ok()
     }
 
     /// The reply to a request, with its act carried out. `None` where memory was refused; then nothing is written down.
-    fn reply_to(&mut self, word: u32, request: &Request) -> Option<Reply>
+    fn reply_to(&mut self, word: u32, now: u64, request: &Request) -> Option<Reply>
         requires seats { self.old.book.seats ≡ 1 }
         requires open { is_open 1 self.old.book.history ≡ true }
-        ensures reply { IfSome result (IsAnswered self.old.book.history request.now word self.new.book.history) }
-        ensures publishing { IfSome result (λ reply. DoesPublishing self.old.book.history request.now word reply self.old.publishing self.new.publishing) }
+        ensures reply { IfSome result (IsAnswered self.old.book.history request.now (given_with word now) self.new.book.history) }
+        ensures publishing { IfSome result (λ reply. DoesPublishing self.old.book.history request.now (given_with word now) reply self.old.publishing self.new.publishing) }
         ensures refused { IfNone result (self.new ≡ self.old) }
         ensures kept { self.new.book.seats ≡ 1 }
+        ensures heard { self.new.heard ≡ self.old.heard }
     {
         let Ok(offer) = offer_for(self.alloc, request) else {
             return None;
@@ -120,7 +149,7 @@ impl Talker {
         let given = Given {
             word,
             points: Items::empty(self.alloc),
-            now: 0,
+            now,
         };
         let Ok(answer) = self.book.call(TALKER, request, &given, passes) else {
             return None;
@@ -142,6 +171,7 @@ impl Talker {
         ensures seats { self.new.book.seats ≡ self.old.book.seats }
         ensures publishing { self.new.publishing ≡ publishing_after act feed self.old.publishing }
         ensures seat { self.new.seat ≡ seat_after act (option_flatten pass) self.old.seat }
+        ensures heard { self.new.heard ≡ self.old.heard }
     {
         match act {
             Act::None | Act::Record => {}
@@ -177,14 +207,38 @@ impl Talker {
     }
 }
 
-/// Drops frames until a message comes, or none can.
-fn skip_frames<S: Source + Drop>(intake: &mut Intake<S>) -> InStop
-    ensures fetches { Fetches S.incoming S.failed intake.old intake.new result }
+/// Whether any frame is counted.
+fn has_frames(report: &InReport) -> bool
+    ensures { MatchBool result (0 < total report.now) (total report.now ≡ 0) }
+{
+    report.published > 0
+        || report.pinned > 0
+        || report.oversize > 0
+        || report.worn > 0
+        || report.unkept > 0
+        || report.bad_rtp > 0
+        || report.strangers > 0
+}
+
+/// What was heard, where these frames have come since: no moment of a message stands behind one.
+fn heard_after(report: &InReport, heard: Option<u64>) -> Option<u64>
+    ensures none { 0 < total report.now → result ≡ None }
+    ensures same { total report.now ≡ 0 → result ≡ heard }
+{
+    if has_frames(report) {
+        return None;
+    }
+    heard
+}
+
+/// Drops frames until a message comes, or none can. No moment of a message stands behind them.
+fn skip_frames<S: Source + Drop>(intake: &mut Intake<S>, heard: &mut Option<u64>) -> InStop
+    ensures fetches { Fetches S.incoming S.failed intake.old intake.new heard.old heard.new result }
     ensures ends { weight S.bound intake.new + length (handed (answer_of result)) ≤ weight S.bound intake.old }
 {
     loop {
         match intake.next() {
-            Next::Unit(Unit::Frame(_)) => {}
+            Next::Unit(Unit::Frame(_)) => *heard = None,
             Next::Unit(Unit::Message(request)) => return InStop::Message(request),
             Next::End => return InStop::End,
             Next::Fault(fault) => return InStop::Fault(fault),

@@ -3,12 +3,13 @@ use crate::connection_tests::{
     ANNOUNCE, ANNOUNCED, IN_SESSION, NO_RING, OTHER, PAUSE, RECORD, SET_UP, SETUP,
 };
 use crate::devices::{has_come, joined};
+use crate::moments::Still;
 use crate::packets::FRAME;
 use crate::rings::Rings;
 use crate::serving::{Serving, SharedRings, book_of, line_to, sent_on, serve_camera, shared_over};
 use crate::words::OneWord;
 use interleaved::ListSource;
-use relay_server::{ConnectionEnd, Events, run_connection};
+use relay_server::{ConnectionEnd, Events, Hearing, run_connection};
 use std::alloc::Global;
 use std::process::Abort;
 use std::sync::atomic::Ordering;
@@ -19,7 +20,7 @@ use std::time::Clock;
 const PAUSED: &[u8] = b"RTSP/1.0 200 OK\r\nCSeq: 4\r\nSession: 000000010000abcd\r\n\r\n";
 
 /// Connection 1 has recorded a packet. Once it is let on, another one comes and a PAUSE.
-fn recording<R>(rt: R, alloc: Global, shared: &SharedRings<OneWord>) -> Serving
+pub(crate) fn recording<R>(rt: R, alloc: Global, shared: &SharedRings<OneWord>) -> Serving
 where
     R: Threads + Wait + Clock + Abort + Copy + Drop + Send + 'static,
 {
@@ -38,7 +39,17 @@ where
     let told = Arc::new(alloc, Mutex::new(Vec::new(alloc))).expect(&rt, "memory");
     let line = line_to(rt, alloc, &told, 1000);
     let other = ListSource::new(said, 7, None);
-    let outcome = run_connection(rt, alloc, shared, 2, other, sent_on(line), Events::none());
+    let hearing = Hearing::new(alloc, Still).expect(&rt, "memory");
+    let outcome = run_connection(
+        rt,
+        alloc,
+        shared,
+        2,
+        other,
+        sent_on(line),
+        Events::none(),
+        hearing,
+    );
     assert!(rt; outcome.end == ConnectionEnd::Done);
     assert!(rt; told.lock(&rt).as_slice() == text);
 }

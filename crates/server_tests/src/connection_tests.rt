@@ -1,10 +1,11 @@
 //! A connection over devices in memory.
 use crate::devices::joined;
+use crate::moments::Still;
 use crate::rings::Rings;
 use crate::serving::{book_of, line_to, sent_on, shared_over};
 use crate::words::OneWord;
 use interleaved::ListSource;
-use relay_server::{ConnectionEnd, Counts, Events, run_connection};
+use relay_server::{ConnectionEnd, Counts, Events, Hearing, run_connection};
 use rtsp_message::Fault;
 use std::alloc::Global;
 use std::process::Abort;
@@ -53,7 +54,17 @@ where
         None
     };
     let source = ListSource::new(peer.said, 7, fail_at);
-    let outcome = run_connection(rt, alloc, shared, 1, source, sent_on(line), Events::none());
+    let hearing = Hearing::new(alloc, Still).expect(&rt, "memory");
+    let outcome = run_connection(
+        rt,
+        alloc,
+        shared,
+        1,
+        source,
+        sent_on(line),
+        Events::none(),
+        hearing,
+    );
     let written = Vec::from_slice(alloc, bytes.lock(&rt).as_slice()).expect(&rt, "memory");
     let book = book.lock(&rt);
     Served {

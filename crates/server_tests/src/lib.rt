@@ -12,6 +12,10 @@ mod connection_tests;
 #[cfg(test)]
 mod devices;
 #[cfg(test)]
+mod expiry_tests;
+#[cfg(test)]
+mod moments;
+#[cfg(test)]
 mod pacing_tests;
 #[cfg(test)]
 mod packets;

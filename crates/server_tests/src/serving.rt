@@ -1,11 +1,12 @@
 //! Connections over devices in memory, for tests.
 use crate::devices::{Bytes, Flag, Manner, Open, Staged, Written, flag};
+use crate::moments::Still;
 use crate::rings::{Owned, Rings};
 use interleaved::{Reading, Sink, Writing};
 use packet_ring::Pass;
 use relay_server::{
-    ConnectionEnd, Counts, Events, Line, OpenGate, Outcome, Outgoing, Seat, Shared, SharedBook,
-    run_connection,
+    ConnectionEnd, Counts, Events, Hearing, Line, OpenGate, Outcome, Outgoing, Seat, Shared,
+    SharedBook, run_connection,
 };
 use session_lock::Book;
 use session_state::Words;
@@ -128,6 +129,7 @@ where
     V: Words + Drop + Send + 'static,
 {
     let theirs = Arc::try_clone(shared).expect(&rt, "a count of its users");
+    let hearing = Hearing::new(alloc, Still).expect(&rt, "memory");
     thread::spawn(&rt, move || {
         run_connection(
             rt,
@@ -137,6 +139,7 @@ where
             Reading::new(source),
             sent_on(line),
             Events::none(),
+            hearing,
         )
     })
     .expect(&rt, "a thread")

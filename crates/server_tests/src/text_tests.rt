@@ -11,7 +11,7 @@ use std::process::Abort;
 use std::time::Duration;
 
 /// Each end, and its text. All but the first are warned of.
-const ENDS: [(ConnectionEnd, &str); 10] = [
+const ENDS: [(ConnectionEnd, &str); 12] = [
     (ConnectionEnd::Done, "done"),
     (
         ConnectionEnd::StreamFault(Fault::BadLine),
@@ -37,6 +37,8 @@ const ENDS: [(ConnectionEnd, &str); 10] = [
     (ConnectionEnd::WriteFailed, "write failed"),
     (ConnectionEnd::OutOfMemory, "out of memory"),
     (ConnectionEnd::NoThread, "no thread for its frames"),
+    (ConnectionEnd::Expired, "session expired"),
+    (ConnectionEnd::Idle, "silent without a session"),
 ];
 
 /// Whether a value is printed so.

@@ -1,5 +1,5 @@
 //! Worked exchanges, byte for byte.
-use crate::devices::{Devices, Host, expect_talk, in_pieces, made_host};
+use crate::devices::{Devices, Host, Still, expect_talk, in_pieces, made_host};
 use interleaved::{ListSink, ListSource};
 use relay_talk::{FixedWord, TalkEnd, do_talk, talk_end};
 use rtsp_message::Fault;
@@ -248,6 +248,7 @@ fn told(host: Host, input: &[u8], devices: Devices) -> Result<String, Fail> {
         source,
         &mut sink,
         &mut FixedWord(host.word),
+        &mut Still,
     )?;
     let output = String::from_utf8_lossy(host.alloc, sink.bytes())?;
     Ok(format!(in host.alloc; "{} {}|{output}", ended.status, ended.line)?)

@@ -16,6 +16,7 @@ const DEFAULTS: Settings = Settings {
     gather: 5,
     back: 0,
     hang_up_ended: false,
+    idle: Some(300),
     writers: None,
     is_verbose: false,
 };
@@ -40,10 +41,10 @@ fn settings(alloc: Global, line: &str) -> Result<Option<Settings>, Fail> {
 }
 
 /// Lines of `serve`, and what they ask for.
-const ACCEPTED: [(&str, Settings); 9] = [
+const ACCEPTED: [(&str, Settings); 10] = [
     ("relay serve 127.0.0.1:8554", DEFAULTS),
     (
-        "relay serve a --keep 1 --seats 1 --packet-bytes 12 --accept 1 --gather 0 --back 0 --writers 0",
+        "relay serve a --keep 1 --seats 1 --packet-bytes 12 --accept 1 --gather 0 --back 0 --idle 0 --writers 0",
         Settings {
             keep: 1,
             seats: 1,
@@ -52,12 +53,13 @@ const ACCEPTED: [(&str, Settings); 9] = [
             gather: 0,
             back: 0,
             hang_up_ended: false,
+            idle: None,
             writers: Some(0),
             is_verbose: false,
         },
     ),
     (
-        "relay serve --keep 4095 --seats 1024 --packet-bytes 65535 --accept 18446744073709551615 --gather 100 --back 4095 --hang-up-ended --writers 64 --verbose a",
+        "relay serve --keep 4095 --seats 1024 --packet-bytes 65535 --accept 18446744073709551615 --gather 100 --back 4095 --hang-up-ended --idle 65535 --writers 64 --verbose a",
         Settings {
             keep: 4095,
             seats: 1024,
@@ -66,6 +68,7 @@ const ACCEPTED: [(&str, Settings); 9] = [
             gather: 100,
             back: 4095,
             hang_up_ended: true,
+            idle: Some(65_535),
             writers: Some(64),
             is_verbose: true,
         },
@@ -106,6 +109,13 @@ const ACCEPTED: [(&str, Settings); 9] = [
         },
     ),
     (
+        "relay serve a --idle 7",
+        Settings {
+            idle: Some(7),
+            ..DEFAULTS
+        },
+    ),
+    (
         "relay serve a --verbose",
         Settings {
             is_verbose: true,
@@ -123,7 +133,7 @@ fn a_server_does_what_its_line_says(rt: HostRuntime) -> Result<(), Fail> {
 }
 
 /// Lines of `serve` that are refused: no address, two of them, a number that is out of its range or none.
-const REFUSED: [&str; 19] = [
+const REFUSED: [&str; 21] = [
     "relay serve",
     "relay serve a b",
     "relay serve a --keep 0",
@@ -140,6 +150,8 @@ const REFUSED: [&str; 19] = [
     "relay serve a --hang-up-ended yes",
     "relay serve a --back 4096",
     "relay serve a --writers 65",
+    "relay serve a --idle 65536",
+    "relay serve a --idle -1",
     "relay serve a --verbose yes",
     "relay serve a --keep 1 --keep 2",
     "relay serve a --unknown",
@@ -282,6 +294,7 @@ Options:
       --gather <MS>       For how long packets gather before players are woken, 0 to 100 milliseconds [default: 5]
       --back <N>          How many of the kept packets a new player is given at once, 0 to 4095; above 0 without RTP-Info; near --keep a fast publisher makes it lose some, and has packets refused while it copies [default: 0]
       --hang-up-ended     Hang a player up once the last packet of its mount was written
+      --idle <SECONDS>    Hang up who says nothing for so long without a session, 0 to 65535, where 0 is never [default: 300]
       --writers <N>       How many threads send frames, 0 to 64, where 0 gives each player its own [default: one a processor]
       --verbose           Tell of each mount and each player on standard error
   -h, --help              Print help

@@ -1,7 +1,9 @@
 //! Talks over devices in memory.
+ghost use Rattle.std.specs.Prelude.{◌≡◌};
+
 use interleaved::{ListSink, ListSource, Source};
 use relay_talk::{FixedWord, TalkEnd, run_talk};
-use session_state::Words;
+use session_state::{Moments, Words};
 use std::alloc::Global;
 use std::collections::hash_map::RandomState;
 use std::process::Abort;
@@ -22,6 +24,18 @@ pub(crate) fn made_host(rt: &HostRuntime, word: u32) -> Result<Host, Fail> {
         hasher: RandomState::new(rt)?,
         word,
     })
+}
+
+/// A clock that stands at 0.
+#[derive(Drop)]
+pub(crate) struct Still;
+
+impl Moments for Still {
+    ghost gives = { λ _ moment _. moment ≡ 0 };
+
+    fn now(&mut self) -> u64 {
+        0
+    }
 }
 
 /// How the bytes of a talk come and go: at most so many a read, up to a place at which the source fails, into a sink
@@ -52,17 +66,28 @@ pub(crate) struct Outcome {
     pub left: u64,
 }
 
-/// What a talk of this input comes to, with these words.
+/// What a talk of this input comes to, with these words, by a clock that stands.
 pub(crate) fn outcome_of<V: Words>(
     host: Host,
     input: &[u8],
     devices: Devices,
     words: &mut V,
 ) -> Result<Outcome, Fail> {
+    outcome_at(host, input, devices, words, &mut Still)
+}
+
+/// What a talk of this input comes to, with these words and at these moments.
+pub(crate) fn outcome_at<V: Words, N: Moments>(
+    host: Host,
+    input: &[u8],
+    devices: Devices,
+    words: &mut V,
+    moments: &mut N,
+) -> Result<Outcome, Fail> {
     let bytes = Vec::from_slice(host.alloc, input)?;
     let source = ListSource::new(bytes, devices.piece.max(1), devices.fail_at);
     let mut sink = ListSink::new(host.alloc, devices.room)?;
-    let (end, last) = run_talk(host.alloc, host.hasher, source, &mut sink, words);
+    let (end, last) = run_talk(host.alloc, host.hasher, source, &mut sink, words, moments);
     Ok(Outcome {
         end,
         written: sink.into_vec(),

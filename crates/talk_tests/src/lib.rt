@@ -13,6 +13,8 @@ mod devices;
 #[cfg(test)]
 mod exchange_tests;
 #[cfg(test)]
+mod expiry_tests;
+#[cfg(test)]
 mod memory_tests;
 #[cfg(test)]
 mod prompt_tests;

@@ -1,5 +1,5 @@
 //! Each answer is written before more is read. No contract says this of the two devices of a talk, so it is tried.
-use crate::devices::{Devices, Host, in_pieces, made_host, outcome_of};
+use crate::devices::{Devices, Host, Still, in_pieces, made_host, outcome_of};
 use interleaved::{Reading, Writing};
 use relay_talk::{FixedWord, TalkEnd, run_talk};
 use rtsp_message::Fault;
@@ -111,6 +111,7 @@ fn end_over<'a>(host: Host, wire: &'a Wire<'a>) -> TalkEnd {
         reader,
         &mut writer,
         &mut FixedWord(0),
+        &mut Still,
     );
     end
 }
@@ -170,6 +171,7 @@ fn is_answered<R: Read + Drop>(host: Host, reader: R) -> bool {
         Reading::new(reader),
         &mut writer,
         &mut FixedWord(0),
+        &mut Still,
     );
     end == TalkEnd::Done && out.starts_with(b"RTSP/1.0 200 OK\r\nCSeq: 1\r\nPublic: ")
 }

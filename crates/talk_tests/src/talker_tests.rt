@@ -32,7 +32,7 @@ fn is_accepted(talker: &mut Talker, request: &Request) -> bool
     requires seats { talker.old.book.seats ≡ 1 }
     ensures { talker.new.book.seats ≡ 1 }
 {
-    match talker.reply_bytes(0xabcd, request) {
+    match talker.reply_bytes(0xabcd, 0, request) {
         Some(text) => text.starts_with(b"RTSP/1.0 200 "),
         None => false,
     }

@@ -2,13 +2,14 @@
 use super::Connection;
 use super::told::Told;
 use crate::gate::Gate;
+use crate::heard_feed::HeardFeed;
 use base_syntax::{Bytes, Items};
 use interleaved::Sink;
 use relay_accounts::Part;
 use relay_fanout::{Bell, Busy, HangUp, Maker, Notice, Offer, Posting, Seat};
 use rtsp_message::Request;
 use session_lock::{Answer, AskFault};
-use session_state::{Given, Method, Session, Words, read_method};
+use session_state::{Given, Method, Moments, Session, Words, read_method};
 use std::alloc::{AllocError, Global};
 use std::sync::{Arc, Wait};
 use std::thread::Threads;
@@ -43,10 +44,10 @@ impl From<Busy> for NoAnswer {
 /// An answer, and with an ANNOUNCE the feed of the mount that it has opened.
 pub(super) type Asked<R, M> = (
     Answer<Seat<<M as Maker>::Pass>>,
-    Option<Posting<R, <M as Maker>::In>>,
+    Option<HeardFeed<Posting<R, <M as Maker>::In>>>,
 );
 
-impl<R, M, V, G, W, H> Connection<R, M, V, G, W, H>
+impl<R, M, V, G, W, H, N> Connection<R, M, V, G, W, H, N>
 where
     R: Threads + Wait + Clock + Copy + Send + 'static,
     M: Maker + Drop,
@@ -55,64 +56,68 @@ where
     G: Gate + Drop,
     W: Sink + Drop + Send + 'static,
     H: HangUp + Drop + Send + Sync + 'static,
+    N: Moments + Drop,
 {
-    /// Has the book decide a request. With an ANNOUNCE that is accepted comes the feed of its mount.
-    pub(super) fn ask(&mut self, request: &Request) -> Result<Asked<R, M>, NoAnswer> {
+    /// Has the book decide a request that comes at this moment. With an ANNOUNCE that is accepted comes the feed of its mount.
+    pub(super) fn ask(&mut self, request: &Request, now: u64) -> Result<Asked<R, M>, NoAnswer> {
         let rt = self.rt;
         self.shared.gate.pass(self.conn, self.turns);
         self.turns = self.turns.saturating_add(1);
-        let word = self.shared.words.lock(&rt).word();
+        let mut given = Given {
+            word: self.shared.words.lock(&rt).word(),
+            points: Items::empty(self.alloc),
+            now,
+        };
         match read_method(request.method.as_slice()) {
-            Some(Method::Announce) => self.ask_to_publish(request, word),
+            Some(Method::Announce) => self.ask_to_publish(request, &given),
             Some(Method::Play) => {
                 if self.writers.is_some() && !self.hand.line.gathers() {
                     return Err(NoAnswer);
                 }
-                let points = self.points()?;
-                self.ask_plainly(request, word, points)
+                given.points = self.points()?;
+                self.ask_plainly(request, &given)
             }
-            _ => self.ask_plainly(request, word, Items::empty(self.alloc)),
+            _ => self.ask_plainly(request, &given),
         }
     }
 
     /// Asks with nothing offered.
-    fn ask_plainly(
-        &mut self,
-        request: &Request,
-        word: u32,
-        points: Items<Option<Point>>,
-    ) -> Result<Asked<R, M>, NoAnswer> {
-        match self.ask_book(request, word, points, None) {
+    fn ask_plainly(&mut self, request: &Request, given: &Given) -> Result<Asked<R, M>, NoAnswer> {
+        match self.ask_book(request, given, None) {
             Ok(answer) => Ok((answer, None)),
             Err(_) => Err(NoAnswer),
         }
     }
 
     /// Asks with an offer. What opened no mount of it is the next one's.
-    fn ask_to_publish(&mut self, request: &Request, word: u32) -> Result<Asked<R, M>, NoAnswer> {
+    fn ask_to_publish(
+        &mut self,
+        request: &Request,
+        given: &Given,
+    ) -> Result<Asked<R, M>, NoAnswer> {
         let bell = Arc::try_clone(&self.shared.bell)?;
+        let watch = Arc::try_clone(self.hearing.watch())?;
         let Offer {
             feed,
             notice,
             seats,
         } = self.offer()?;
-        let (answer, back) = self.ask_with_seats(request, word, seats);
+        let (answer, back) = self.ask_with_seats(request, given, seats);
         let posting = self.settle(feed, notice, back, bell);
-        Ok((answer?, posting))
+        Ok((answer?, posting.map(|feed| HeardFeed { feed, watch })))
     }
 
     /// Asks with these seats. What isn't used of them comes back.
     fn ask_with_seats(
         &mut self,
         request: &Request,
-        word: u32,
+        given: &Given,
         seats: Vec<Seat<M::Pass>>,
     ) -> (
         Result<Answer<Seat<M::Pass>>, NoAnswer>,
         Option<Vec<Seat<M::Pass>>>,
     ) {
-        let points = Items::empty(self.alloc);
-        match self.ask_book(request, word, points, Some(seats)) {
+        match self.ask_book(request, given, Some(seats)) {
             Ok(mut answer) => {
                 let back = answer.back.take();
                 (Ok(answer), back)
@@ -161,17 +166,11 @@ where
     fn ask_book(
         &mut self,
         request: &Request,
-        word: u32,
-        points: Items<Option<Point>>,
+        given: &Given,
         offer: Option<Vec<Seat<M::Pass>>>,
     ) -> Result<Answer<Seat<M::Pass>>, Option<Vec<Seat<M::Pass>>>> {
-        let given = Given {
-            word,
-            points,
-            now: 0,
-        };
         let mut book = self.shared.book.lock(&self.rt);
-        let asked = book.ask(self.conn, request, &given, offer);
+        let asked = book.ask(self.conn, request, given, offer);
         let session = book.session_of(self.conn);
         if let (None, Some(session)) = (&self.session, session) {
             self.part = part_of(self.alloc, session);

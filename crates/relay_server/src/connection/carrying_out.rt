@@ -1,19 +1,20 @@
 //! What is done for an answer, and how it is written.
 use super::Connection;
 use crate::gate::Gate;
+use crate::heard_feed::HeardFeed;
 use cursor::Left;
 use interleaved::Sink;
 use relay_accounts::{ConnectionEnd, FrameEnd};
 use relay_fanout::{Frames, HangUp, Maker, Posting, Seat, TapPlace};
 use rtsp_message::{Reply, Status, put_reply};
 use session_lock::Answer;
-use session_state::{Act, Words};
+use session_state::{Act, Moments, Words};
 use std::alloc::AllocError;
 use std::sync::{Arc, Wait};
 use std::thread::Threads;
 use std::time::{Clock, Duration};
 
-impl<R, M, V, G, W, H> Connection<R, M, V, G, W, H>
+impl<R, M, V, G, W, H, N> Connection<R, M, V, G, W, H, N>
 where
     R: Threads + Wait + Clock + Copy + Send + 'static,
     M: Maker + Drop,
@@ -22,20 +23,26 @@ where
     G: Gate + Drop,
     W: Sink + Drop + Send + 'static,
     H: HangUp + Drop + Send + Sync + 'static,
+    N: Moments + Drop,
 {
     /// Does what an answer asks for, and writes its reply. Frames come after the reply to their PLAY, and have stopped
     /// before the reply to a PAUSE or TEARDOWN.
     pub(super) fn carry_out(
         &mut self,
         answer: Answer<Seat<M::Pass>>,
-        feed: Option<Posting<R, M::In>>,
+        feed: Option<HeardFeed<Posting<R, M::In>>>,
     ) -> Result<(), ConnectionEnd> {
         self.take_up(answer.act, answer.pass, feed);
         self.reply_to(answer.act, &answer.reply)
     }
 
     /// Takes up the mount that was opened, or the seat that was taken.
-    fn take_up(&mut self, act: Act, pass: Option<Seat<M::Pass>>, feed: Option<Posting<R, M::In>>) {
+    fn take_up(
+        &mut self,
+        act: Act,
+        pass: Option<Seat<M::Pass>>,
+        feed: Option<HeardFeed<Posting<R, M::In>>>,
+    ) {
         match act {
             Act::Open => self.publishing = feed,
             Act::Play { mount, seat } => self.attach(mount, seat, pass),
@@ -59,7 +66,7 @@ where
     }
 
     /// Stops the frames and gives the seat back, so that the reply can be written.
-    fn stop_playing(&mut self) -> Result<(), ConnectionEnd> {
+    pub(super) fn stop_playing(&mut self) -> Result<(), ConnectionEnd> {
         self.stop_frames(Duration::from_millis(STALLED));
         match self.detach() {
             // The thread has hung up: no reply can be written any more.
@@ -70,12 +77,13 @@ where
 
     /// The board knows of the mount from its first RECORD on.
     fn record(&mut self) {
-        let (Some(feed), Some(session)) = (&mut self.publishing, &self.session) else {
+        let (Some(publishing), Some(session)) = (&mut self.publishing, &self.session) else {
             return;
         };
         if self.mount.is_none() {
             self.events.recorded(&self.rt);
         }
+        let feed = &mut publishing.feed;
         if !feed.is_posted() {
             let added = self
                 .shared
@@ -173,8 +181,8 @@ where
 
     /// The mount has ended: no packet comes any more.
     pub(super) fn end_mount(&mut self) {
-        if let Some(feed) = self.publishing.take() {
-            self.counts.add_wait(feed.end());
+        if let Some(publishing) = self.publishing.take() {
+            self.counts.add_wait(publishing.feed.end());
             self.events.ended(&self.rt, &self.counts);
         }
         if let Some(mount) = self.mount.take() {

@@ -10,12 +10,12 @@ use publisher::InStop;
 use relay_accounts::{publish_frames, skip_frames};
 use relay_fanout::{HangUp, Maker};
 use rtsp_message::Intake;
-use session_state::Words;
+use session_state::{Moments, Words};
 use std::sync::Wait;
 use std::thread::Threads;
 use std::time::Clock;
 
-impl<R, M, V, G, W, H> Connection<R, M, V, G, W, H>
+impl<R, M, V, G, W, H, N> Connection<R, M, V, G, W, H, N>
 where
     R: Threads + Wait + Clock + Copy + Send + 'static,
     M: Maker + Drop,
@@ -24,6 +24,7 @@ where
     G: Gate + Drop,
     W: Sink + Drop + Send + 'static,
     H: HangUp + Drop + Send + Sync + 'static,
+    N: Moments + Drop,
 {
     /// The next request. Frames before it are published while the session records, and else dropped.
     pub(super) fn next_message<S: Source + Drop>(&mut self, intake: &mut Intake<S>) -> InStop
@@ -34,9 +35,13 @@ where
             (Some(feed), Some(session)) if session.recording => {
                 let report = publish_frames(intake, feed, &session.channels);
                 self.counts.add_in(&report);
+                // Nobody saw these but `relay_in`.
+                if report.strangers > 0 || report.bad_rtp > 0 {
+                    self.hearing.note();
+                }
                 report.stop
             }
-            _ => skip_frames(intake, &mut self.counts),
+            _ => skip_frames(intake, &mut self.counts, &self.hearing.watch().heard),
         }
     }
 }

@@ -1,0 +1,274 @@
+//! Sessions that expire over loopback, by a clock that the test moves.
+use crate::dial::Dial;
+use crate::kept::Kept;
+use crate::leaving_tests::{plays_at_last, stalled};
+use crate::loopback::{ANNOUNCE, Client, MODES, OPTIONS, Set, listening, start, start_on};
+use crate::scripted::{FRAME, Peers, passes_on, play, player, publisher, status_in};
+use log::Log;
+use relay_server::OpenGate;
+use std::alloc::Global;
+use std::io::Eprint;
+use std::net::{Net, SocketAddr, TcpListener, TcpStream};
+use std::process::Abort;
+use std::random::RandomSource;
+use std::sync::Wait;
+use std::thread;
+use std::thread::Threads;
+use std::time::{Clock, Duration};
+
+/// An RTCP packet as a frame on the channel of a player.
+const REPORT: &[u8] = b"\x24\x05\x00\x08\x80\xc9\x00\x01\x00\x00\x00\x00";
+
+/// The first moment at which a session has expired that was heard at 0, and the one before.
+const EXPIRED: u64 = 60_000;
+
+const ALIVE: u64 = 59_999;
+
+/// Announces the mount until its name is free, up to a thousand times. The status that is answered last.
+fn announces_at_last<R: Clock + Abort>(rt: &R, client: &mut Client) -> u16 {
+    let mut answered = 0;
+    for _ in 0..1000 {
+        answered = client.status_of(rt, ANNOUNCE.as_bytes());
+        if answered != 403 {
+            break;
+        }
+        thread::sleep(rt, Duration::from_millis(10));
+    }
+    answered
+}
+
+/// A camera vanishes without closing: another one has its name once its time is over, and not before.
+fn camera_vanishes<R: Net<Stream = TcpStream> + Clock + Abort>(
+    rt: &R,
+    alloc: Global,
+    addr: SocketAddr,
+    dial: Dial,
+) -> SocketAddr {
+    let mut camera = publisher(rt, alloc, addr);
+    let mut other = Client::connect(rt, alloc, addr);
+    dial.pass(rt, ALIVE);
+    assert!(rt; other.status_of(rt, ANNOUNCE.as_bytes()) == 403);
+    dial.set(EXPIRED);
+    assert!(rt; announces_at_last(rt, &mut other) == 200);
+    assert!(rt; camera.is_hung_up(rt));
+    camera.addr(rt)
+}
+
+/// It vanishes from a server that has this runtime, which then ends. Tells who it was.
+fn vanishes_from<R, S>(rt: &R, served: S, alloc: Global, writers: usize) -> SocketAddr
+where
+    R: Threads
+        + Wait
+        + Clock
+        + RandomSource
+        + Abort
+        + Net<Listener = TcpListener, Stream = TcpStream>,
+    S: Threads + Wait + Clock + Log + Eprint + Copy + Send + Sync + 'static,
+{
+    let (listener, addr) = listening(rt);
+    let dial = Dial::new(rt, alloc);
+    let set = Set::of(2, 1).by(writers).timed(dial);
+    let server = start_on(rt, served, alloc, listener, addr, set, OpenGate);
+    let camera = camera_vanishes(rt, alloc, addr, dial);
+    server.end(rt);
+    camera
+}
+
+#[test]
+fn a_vanished_publishers_name_is_free_and_one_line_tells_it(rt: HostRuntime) {
+    let alloc = rt.alloc();
+    for writers in MODES {
+        let served = Kept::new(rt, alloc);
+        let camera = vanishes_from(&rt, served, alloc, writers);
+        let want = format!(in alloc;
+            "[WARN  relay_server::server] {camera}: session expired"
+        ).expect(&rt, "memory");
+        let lines = served.lines().expect(&rt, "memory");
+        assert!(rt; lines.len() == 1);
+        assert!(rt; lines.iter().all(|line| line.as_str() == want.as_str()));
+    }
+}
+
+/// A camera sends frames and no request, and a player RTCP and no request: both stay, as long as they do so.
+fn frames_keep_sessions<R: Net<Stream = TcpStream> + Clock + Abort>(
+    rt: &R,
+    alloc: Global,
+    addr: SocketAddr,
+    dial: Dial,
+) {
+    let mut camera = publisher(rt, alloc, addr);
+    let mut player = player(rt, alloc, addr, 2);
+    for turn in 1..4u64 {
+        dial.pass(rt, ALIVE * turn);
+        assert!(rt; passes_on(rt, &mut camera, &mut player));
+        player.say(rt, REPORT);
+        dial.pass(rt, ALIVE * turn);
+    }
+    // Part of a frame is none.
+    player.say(rt, &REPORT[..11]);
+    dial.pass(rt, ALIVE * 3 + ALIVE);
+    assert!(rt; passes_on(rt, &mut camera, &mut player));
+    dial.set(ALIVE * 3 + EXPIRED);
+    assert!(rt; player.is_hung_up(rt));
+    camera.say(rt, FRAME);
+    assert!(rt; camera.status_of(rt, OPTIONS) == 200);
+}
+
+#[test]
+fn frames_keep_the_sessions_of_a_publisher_and_a_player(rt: HostRuntime) {
+    let alloc = rt.alloc();
+    for writers in MODES {
+        let dial = Dial::new(&rt, alloc);
+        let server = start(rt, alloc, Set::of(2, 1).by(writers).timed(dial), OpenGate);
+        frames_keep_sessions(&rt, alloc, server.addr, dial);
+        server.end(&rt);
+    }
+}
+
+/// The first player, which says nothing, loses its seat to the second one, which is refused a seat and stays for that.
+fn silent_player_loses_its_seat<R: Net<Stream = TcpStream> + Clock + Abort>(
+    rt: &R,
+    alloc: Global,
+    addr: SocketAddr,
+    dial: Dial,
+) {
+    let Peers {
+        mut camera,
+        mut first,
+        mut second,
+    } = Peers::connect(rt, alloc, addr);
+    dial.pass(rt, ALIVE);
+    assert!(rt; passes_on(rt, &mut camera, &mut first));
+    assert!(rt; second.status_of(rt, &play(3)) == 453);
+    dial.set(EXPIRED);
+    assert!(rt; first.is_hung_up(rt));
+    dial.pass(rt, ALIVE + ALIVE);
+    assert!(rt; plays_at_last(rt, &mut second, 3) == 200);
+    assert!(rt; passes_on(rt, &mut camera, &mut second));
+}
+
+#[test]
+fn a_silent_player_loses_its_seat_at_sixty_seconds(rt: HostRuntime) {
+    let alloc = rt.alloc();
+    for writers in MODES {
+        let dial = Dial::new(&rt, alloc);
+        let server = start(rt, alloc, Set::of(3, 1).by(writers).timed(dial), OpenGate);
+        silent_player_loses_its_seat(&rt, alloc, server.addr, dial);
+        server.end(&rt);
+    }
+}
+
+/// A player asks for nothing in its session, and another one for what it is refused.
+fn requests_keep_sessions<R: Net<Stream = TcpStream> + Clock + Abort>(
+    rt: &R,
+    alloc: Global,
+    addr: SocketAddr,
+    dial: Dial,
+) {
+    let mut peers = Peers::connect(rt, alloc, addr);
+    for turn in 1..4u64 {
+        dial.pass(rt, ALIVE * turn);
+        assert!(rt; passes_on(rt, &mut peers.camera, &mut peers.first));
+        assert!(rt; status_in(rt, alloc, &mut peers.first, "GET_PARAMETER", 2) == 200);
+        assert!(rt; status_in(rt, alloc, &mut peers.second, "RECORD", 3) == 403);
+    }
+    assert!(rt; status_in(rt, alloc, &mut peers.second, "TEARDOWN", 3) == 200);
+}
+
+#[test]
+fn requests_keep_a_session_also_where_they_are_refused(rt: HostRuntime) {
+    let alloc = rt.alloc();
+    for writers in MODES {
+        let dial = Dial::new(&rt, alloc);
+        let server = start(rt, alloc, Set::of(3, 1).by(writers).timed(dial), OpenGate);
+        requests_keep_sessions(&rt, alloc, server.addr, dial);
+        server.end(&rt);
+    }
+}
+
+/// The first player has stopped reading, so that a reply and frames wait for it.
+fn stalled_player_expires<R: Net<Stream = TcpStream> + Clock + Abort>(
+    rt: &R,
+    alloc: Global,
+    addr: SocketAddr,
+    dial: Dial,
+) {
+    let mut peers = stalled(rt, alloc, addr);
+    dial.set(ALIVE);
+    assert!(rt; peers.camera.status_of(rt, OPTIONS) == 200);
+    assert!(rt; peers.second.status_of(rt, &play(3)) == 453);
+    dial.set(EXPIRED);
+    assert!(rt; plays_at_last(rt, &mut peers.second, 3) == 200);
+}
+
+#[test]
+fn a_stalled_player_loses_its_seat_too(rt: HostRuntime) {
+    let alloc = rt.alloc();
+    for writers in MODES {
+        let dial = Dial::new(&rt, alloc);
+        let server = start(rt, alloc, Set::of(3, 1).by(writers).timed(dial), OpenGate);
+        stalled_player_expires(&rt, alloc, server.addr, dial);
+        server.end(&rt);
+    }
+}
+
+/// A player's session expires without a seat: it stays, and sets up anew.
+fn set_up_anew<R: Net<Stream = TcpStream> + Clock + Abort>(
+    rt: &R,
+    alloc: Global,
+    addr: SocketAddr,
+    dial: Dial,
+) {
+    let mut camera = publisher(rt, alloc, addr);
+    let mut player = player(rt, alloc, addr, 2);
+    assert!(rt; status_in(rt, alloc, &mut player, "PAUSE", 2) == 200);
+    dial.pass(rt, ALIVE);
+    camera.say(rt, FRAME);
+    dial.pass(rt, EXPIRED);
+    assert!(rt; player.status_of(rt, &play(2)) == 454);
+    assert!(rt; player.status_of(rt, crate::scripted::SETUP_OUT) == 200);
+    assert!(rt; player.status_of(rt, &play(3)) == 200);
+    assert!(rt; passes_on(rt, &mut camera, &mut player));
+}
+
+#[test]
+fn a_player_whose_session_expired_while_it_paused_sets_up_anew(rt: HostRuntime) {
+    let alloc = rt.alloc();
+    for writers in MODES {
+        let dial = Dial::new(&rt, alloc);
+        let server = start(rt, alloc, Set::of(2, 1).by(writers).timed(dial), OpenGate);
+        set_up_anew(&rt, alloc, server.addr, dial);
+        server.end(&rt);
+    }
+}
+
+/// The clock jumps while the mount ends, and as far as it can: whoever has a part in the mount is hung up, and the name is
+/// free.
+fn clock_jumps<R: Net<Stream = TcpStream> + Clock + Abort>(
+    rt: &R,
+    alloc: Global,
+    addr: SocketAddr,
+    dial: Dial,
+    moment: u64,
+) {
+    let camera = publisher(rt, alloc, addr);
+    let mut first = player(rt, alloc, addr, 2);
+    dial.set(moment);
+    drop(camera);
+    assert!(rt; first.is_hung_up(rt));
+    let mut other = Client::connect(rt, alloc, addr);
+    assert!(rt; announces_at_last(rt, &mut other) == 200);
+}
+
+#[test]
+fn a_clock_that_jumps_ends_what_was_silent(rt: HostRuntime) {
+    let alloc = rt.alloc();
+    for writers in MODES {
+        for moment in [86_400_000, u64::MAX] {
+            let dial = Dial::new(&rt, alloc);
+            let server = start(rt, alloc, Set::of(3, 1).by(writers).timed(dial), OpenGate);
+            clock_jumps(&rt, alloc, server.addr, dial, moment);
+            server.end(&rt);
+        }
+    }
+}

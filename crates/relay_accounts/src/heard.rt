@@ -1,0 +1,42 @@
+//! When a connection was last heard.
+use std::sync::atomic::{AtomicU64, Ordering};
+
+/// When a connection was last heard: the moment of its last whole message or frame, in milliseconds of a clock that doesn't go
+/// back. Bytes that make neither count for nothing.
+///
+/// Who reads for the connection says what moment it is; who is handed a message or a frame notes it.
+#[derive(Drop)]
+pub struct Heard {
+    now: AtomicU64,
+    last: AtomicU64,
+}
+
+impl Heard {
+    /// The connection comes at this moment.
+    pub fn new(now: u64) -> Heard {
+        Heard {
+            now: AtomicU64::new(now),
+            last: AtomicU64::new(now),
+        }
+    }
+
+    /// It is this moment.
+    pub fn pass(&self, now: u64) {
+        self.now.store(now, Ordering::SeqCst);
+    }
+
+    /// Which moment it is.
+    pub fn now(&self) -> u64 {
+        self.now.load(Ordering::SeqCst)
+    }
+
+    /// A whole message or frame has come by now.
+    pub fn note(&self) {
+        self.last.store(self.now(), Ordering::SeqCst);
+    }
+
+    /// The moment of the last whole message or frame.
+    pub fn last(&self) -> u64 {
+        self.last.load(Ordering::SeqCst)
+    }
+}

@@ -1,0 +1,51 @@
+//! What is done where a session has expired, or its connection was silent for too long.
+use super::Connection;
+use crate::gate::Gate;
+use interleaved::Sink;
+use relay_accounts::ConnectionEnd;
+use relay_fanout::{HangUp, Maker};
+use session_state::{Act, Moments, Words};
+use std::sync::Wait;
+use std::thread::Threads;
+use std::time::Clock;
+
+impl<R, M, V, G, W, H, N> Connection<R, M, V, G, W, H, N>
+where
+    R: Threads + Wait + Clock + Copy + Send + 'static,
+    M: Maker + Drop,
+    M::Out: 'static,
+    V: Words + Drop,
+    G: Gate + Drop,
+    W: Sink + Drop + Send + 'static,
+    H: HangUp + Drop + Send + Sync + 'static,
+    N: Moments + Drop,
+{
+    /// Ends the session where it has expired by this moment, and stops its frames or ends its mount. The connection goes on.
+    pub(super) fn expire(&mut self, now: u64) -> Result<(), ConnectionEnd> {
+        let last = self.hearing.watch().heard.last();
+        let mut book = self.shared.book.lock(&self.rt);
+        let act = book.expire(self.conn, last, now);
+        // It may have expired before, while the peer was silent.
+        let has_session = book.session_of(self.conn).is_some();
+        drop(book);
+        if !has_session {
+            self.session = None;
+        }
+        match act {
+            Some(Act::Stop { .. }) => self.stop_playing(),
+            Some(Act::End) => {
+                self.end_mount();
+                Ok(())
+            }
+            Some(Act::None | Act::Open | Act::Play { .. } | Act::Record) | None => Ok(()),
+        }
+    }
+
+    /// How the connection ends whose reads have failed: by its silence, where that made them fail.
+    pub(super) fn read_failure(&self) -> ConnectionEnd {
+        self.hearing
+            .watch()
+            .end(&self.rt)
+            .unwrap_or(ConnectionEnd::ReadFailed)
+    }
+}
