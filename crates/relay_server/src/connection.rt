@@ -199,7 +199,12 @@ where
         &mut self,
         intake: &mut Intake<S>,
     ) -> Result<(), ConnectionEnd> {
-        match self.next_message(intake) {
+        let before = self.unoffered();
+        let stop = self.next_message(intake);
+        if self.unoffered() != before {
+            self.hearing.note();
+        }
+        match stop {
             InStop::Message(request) => self.answer(&request),
             InStop::End => Err(ConnectionEnd::Done),
             InStop::ReadFailed => Err(self.read_failure()),
@@ -212,6 +217,11 @@ where
                 Err(ConnectionEnd::OutOfMemory)
             }
         }
+    }
+
+    /// How many frames were offered to no feed, and so are heard when all that came with them was looked at, at the latest.
+    fn unoffered(&self) -> u64 {
+        self.counts.bad_rtp.saturating_add(self.counts.strangers)
     }
 
     /// Answers a request, and does what the answer asks for.

@@ -35,10 +35,6 @@ where
             (Some(feed), Some(session)) if session.recording => {
                 let report = publish_frames(intake, feed, &session.channels);
                 self.counts.add_in(&report);
-                // Nobody saw these but `relay_in`.
-                if report.strangers > 0 || report.bad_rtp > 0 {
-                    self.hearing.note();
-                }
                 report.stop
             }
             _ => skip_frames(intake, &mut self.counts, &self.hearing.watch().heard),
