@@ -128,6 +128,9 @@ impl TrySink for ShortOnce {
     ghost takes = { λ _ bytes n _. n ≤ length bytes };
 
     fn try_write(&mut self, bytes: &[u8]) -> Result<usize, Failed> {
+        if self.sink.has_failed() {
+            return Err(Failed);
+        }
         let is_short = self.tries == self.place;
         self.tries = self.tries.saturating_add(1);
         let most = match self.short {
