@@ -39,9 +39,8 @@ fn are_silent<R: Net<Stream = TcpStream> + Clock + Abort>(
     assert!(rt; asking.status_of(rt, OPTIONS) == 200);
     assert!(rt; asking.status_of(rt, ANNOUNCE.as_bytes()) == 403);
     dial.set(IDLE);
-    for client in [&mut silent, &mut slow, &mut half, &mut owner] {
-        assert!(rt; client.is_hung_up(rt));
-    }
+    assert!(rt; silent.is_hung_up(rt) && slow.is_hung_up(rt));
+    assert!(rt; half.is_hung_up(rt) && owner.is_hung_up(rt));
     assert!(rt; asking.status_of(rt, OPTIONS) == 200);
     assert!(rt; asking.status_of(rt, ANNOUNCE.as_bytes()) == 200);
 }
