@@ -66,14 +66,16 @@ where
 
 const PAUSED: &[u8] = b"RTSP/1.0 200 OK\r\nCSeq: 4\r\nSession: 000000010000abcd\r\n\r\n";
 
-const FORBIDDEN: &[u8] = b"RTSP/1.0 403 Forbidden\r\nCSeq: 1\r\n\r\n";
+/// An ANNOUNCE in a session: the state comes before whose name it is.
+const IN_READY: &[u8] =
+    b"RTSP/1.0 455 Method Not Valid in This State\r\nCSeq: 1\r\nAllow: OPTIONS, DESCRIBE, GET_PARAMETER, SETUP, PLAY, RECORD, TEARDOWN\r\n\r\n";
 
 const NO_SESSION: &[u8] = b"RTSP/1.0 454 Session Not Found\r\nCSeq: 4\r\n\r\n";
 
 #[test]
 fn a_cameras_mount_has_ended_with_its_session(rt: HostRuntime) {
     let alloc = rt.alloc();
-    camera_is_told(rt, alloc, 59_999, &[PAUSED, FORBIDDEN]);
+    camera_is_told(rt, alloc, 59_999, &[PAUSED, IN_READY]);
     camera_is_told(rt, alloc, 60_000, &[NO_SESSION, ANNOUNCED]);
     camera_is_told(rt, alloc, u64::MAX, &[NO_SESSION, ANNOUNCED]);
 }
