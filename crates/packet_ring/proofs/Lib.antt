@@ -1,4 +1,5 @@
-pub mod Rights
+pub mod Blocks
+pub mod Grounds
 pub mod Fields
 pub mod Cells
 pub mod OneCell

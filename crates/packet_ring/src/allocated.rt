@@ -1,13 +1,10 @@
 //! The block with the right to free it.
-ghost use Rattle.std.specs.Prelude.{◌≡◌, ◌+◌, ◌*◌, ◌≤◌, length, IfOk};
-ghost use Rattle.core.specs.Mem.Slots.{slots_items, slots_ptr, slots_len, lease_ptr, lease_len, lease_heap, IsFull};
+ghost use Rattle.std.specs.Prelude.{◌≡◌, ◌+◌, ◌-◌, ◌*◌, ◌≤◌, Some, None, length, replicate, IfOk};
 ghost use Rattle.packet_ring.specs.Rule.{fresh_views};
 ghost use Rattle.packet_ring.specs.Views.{HasSizes};
 
 use crate::block::{Shared, Spares};
-use crate::send_lease::SendLease;
-use crate::strip::Strip;
-use core::slots::{Slots, release, reserve};
+use crate::places::{Base, Deed, Places, allocate, deallocate};
 use std::alloc::{AllocError, Global};
 
 /// The ring's one block of memory. It is freed when the last of its owners is gone.
@@ -20,27 +17,27 @@ pub(crate) struct Block {
     /// The longest packet that the ring takes, in bytes.
     pub(crate) packet_bytes: usize,
     words: usize,
-    lease: SendLease<u64, Global>,
+    deed: Deed<u64, Global>,
     heap: Global,
     pub(crate) ghost sizes: { HasSizes shared.id keep width packet_bytes },
     ghost counted: { words ≡ shared.id.units * (shared.id.width + 1) },
-    ghost leased: { (lease_ptr lease.lease ≡ shared.base) × (lease_len lease.lease ≡ words) × (lease_heap lease.lease ≡ heap) },
+    ghost owed: { (deed.at ≡ shared.base) × (deed.len ≡ words) × (deed.alloc ≡ heap) },
 }
 
-// Each place gets its word.
-fn fill(row: &mut Slots<u64>, words: &[u64])
-    requires { slots_len row.old ≡ length words.now }
-    ensures { IsFull row.new × (slots_items row.new ≡ words.now) × (slots_ptr row.new ≡ slots_ptr row.old) × (slots_len row.new ≡ slots_len row.old) }
+// Each of the places, which are empty, gets a 0.
+fn fill(places: &mut Places<u64>, start: Base<u64>, words: usize)
+    requires { (places.old.at ≡ start.ptr) × (places.old.slots ≡ replicate words None) }
+    ensures { (places.new.at ≡ places.old.at) × (places.new.slots ≡ replicate words (Some 0)) }
 {
     let mut i = 0;
-    while i < words.len() {
-        row.put(i, words[i]);
+    while i < words {
+        places.write(start, i, 0);
         i += 1;
     }
 }
 
 impl Block {
-    #[tactic(auto, using(crate::proofs::Rule::fresh_flat))]
+    #[tactic(auto, using(crate::proofs::Rule::fresh_places))]
     /// A block for a ring that keeps `keep` packets, with a token for its publisher and one for each
     /// seat. A slot has `width` cells, and a packet at most `packet_bytes` bytes.
     pub(crate) fn new(
@@ -56,17 +53,16 @@ impl Block {
         ensures spares { IfOk result (λ r. (r.1.id ≡ r.0.shared.id) × (r.1.next ≡ 0) × (r.1.views ≡ fresh_views seats)) }
     {
         let words = (keep + 2) * (width + 1);
-        let zeros = Vec::from_elem(alloc, 0u64, words)?;
-        let (mut row, lease) = (unsafe { reserve(&alloc, zeros.as_slice()) })?;
-        fill(&mut row, zeros.as_slice());
-        let (shared, spares) = Shared::deal(Strip::of(row), keep, seats, width, packet_bytes + 1);
+        let (start, mut places, deed) = allocate(&alloc, words)?;
+        fill(&mut places, start, words);
+        let (shared, spares) = Shared::deal(start, places, keep, seats, width, packet_bytes + 1);
         let block = Block {
             shared,
             keep,
             width,
             packet_bytes,
             words,
-            lease: SendLease::new(lease),
+            deed,
             heap: alloc,
         };
         Ok((block, spares))
@@ -81,10 +77,10 @@ impl Drop for Block {
             width: _,
             packet_bytes: _,
             words,
-            lease,
+            deed,
             heap,
         } = self;
-        let row = shared.gather().into_slots(words);
-        release(&heap, row, lease.into_lease());
+        let (start, places) = shared.gather();
+        deallocate(&heap, start, words, places, deed);
     }
 }

@@ -1,5 +1,5 @@
 //! The block of raw memory as threads share it, and the tokens that step on it.
-ghost use Rattle.core.specs.Prelude.{◌≡◌, ◌+◌, ◌-◌, ◌*◌, ◌%◌, ◌^◌, ◌==◌, ◌<◌, ◌≤◌, ℕ, List, [], ◌∷◌, length, slice_index};
+ghost use Rattle.std.specs.Prelude.{◌≡◌, ◌+◌, ◌-◌, ◌*◌, ◌%◌, ◌^◌, ◌==◌, ◌<◌, ◌≤◌, ℕ, List, [], ◌∷◌, Some, None, map, length, replicate, slice_index};
 ghost use base.Stored.{coded_list};
 ghost use prog.Atomic.{either};
 ghost use Rattle.packet_ring.specs.Table.{no_right, flat, Allows, cells_of, renewed, settled, written};
@@ -8,7 +8,7 @@ ghost use Rattle.packet_ring.specs.Rule.{Knows, View, knows_coded, view_coded, p
 ghost use Rattle.packet_ring.specs.Operation.{Operation};
 ghost use Rattle.packet_ring.specs.Steps.{MayRead, MayWrite, Step, step};
 
-use crate::strip::Strip;
+use crate::places::{Base, Places};
 use atomic_table::exchange;
 use std::marker::{Brand, Model, PhantomData};
 use std::sync::atomic::Ordering::SeqCst;
@@ -59,20 +59,22 @@ impl Model for Spares {
 impl Shared {
     /// A block of fresh units, and all its tokens.
     pub(crate) fn deal(
-        words: Strip<u64>,
+        start: Base<u64>,
+        places: Places<u64>,
         keep: usize,
         seats: usize,
         width: usize,
         most: usize,
     ) -> (Shared, Spares)
         requires sizes { (1 ≤ keep) × (seats ≤ 1024) }
-        requires zeros { words.items ≡ flat (fresh_units keep width) }
-        ensures block { (result.0.base ≡ words.ptr) × (result.0.id.units ≡ keep + 2) × (result.0.id.width ≡ width) × (result.0.id.limits ≡ (seats, most)) }
+        requires zeros { (places.at ≡ start.ptr) × (places.slots ≡ map Some (flat (fresh_units keep width))) }
+        ensures block { (result.0.base ≡ start.ptr) × (result.0.id.units ≡ keep + 2) × (result.0.id.width ≡ width) × (result.0.id.limits ≡ (seats, most)) }
         ensures spares { (result.1.id ≡ result.0.id) × (result.1.next ≡ 0) × (result.1.views ≡ fresh_views seats) }
     {
-        let Strip { ptr } = words;
+        let Places { mark: _ } = places;
+        let base = start.ptr;
         (
-            Shared { base: ptr },
+            Shared { base },
             Spares {
                 marker: PhantomData,
             },
@@ -80,11 +82,11 @@ impl Shared {
     }
 
     /// The memory comes back once nobody shares the block.
-    pub(crate) fn gather(self) -> Strip<u64>
-        ensures { (result.ptr ≡ self.base) × (length result.items ≡ self.id.units * (self.id.width + 1)) }
+    pub(crate) fn gather(self) -> (Base<u64>, Places<u64>)
+        ensures { (result.0.ptr ≡ self.base) × (result.1.at ≡ self.base) × (result.1.slots ≡ replicate (self.id.units * (self.id.width + 1)) None) }
     {
         let Shared { base } = self;
-        Strip { ptr: base }
+        (Base { ptr: base }, Places { mark: PhantomData })
     }
 }
 
