@@ -1,5 +1,5 @@
--- A unit's cells: a round begins and ends, and its parts go out and come back. Assumes `Logic`.
-use Rattle.std.proofs.Common.{◌≡◌, ℕ, suc, ◌+◌, ◌-◌, ◌^◌, ◌<◌, List, [], ◌∷◌, refl, arith, w64}
+-- A unit's contents: a round begins and ends, and its parts go out and come back. Assumes `Logic`.
+use Rattle.std.proofs.Common.{◌≡◌, ℕ, suc, ◌+◌, ◌-◌, ◌^◌, ◌<◌, ◌≤◌, List, [], ◌∷◌, length, take, drop, refl, arith, w8, w64}
 use seplogic.Ra.Ura.{Ura}
 use base.Fraction.{full_share}
 use base.FractionLaws.{Counts-all}
@@ -11,22 +11,34 @@ use types.Logic.{Logic, sem, lfts}
 use types.Kit.{‵, raw, ◌⊛◌, given, later, ◌$◌, ◌∵◌, !, qed, move, keep, use1, use2, split, split3, group, join, fsplit, fsplit3, fjoin, fjoin3, fpick, fpack, learn, assume, suffices, settle, rewrite, frame, await, updating, now, done}
 use types.Tokens.{lft_new, lft_end, lent_back, obor_alter}
 use types.Mut.{open_ref}
+use types.SemTy.{cells}
 use denote.RattleType.{RattleType, RowLaws}
 use denote.Array.{Array-row_laws}
-use denote.Builtin.{u64}
+use denote.Builtin.{u8, u64}
 use denote.Memory.{part_at, shared_of, mem}
+use denote.Sharing.{ShrLaws}
+use denote.Slice.{elements_shared, elements_shr_laws}
+use denote.Struct.Lending.{Lends, Lends-both, Lends-first, Lends-nothing}
 use denote.Shares.{Shares, Shares-Array}
 use denote.Param.Shared.{copy_shared}
-use denote.Struct.Field.{u64-field}
-use denote.Struct.Laws.{u64-copy}
+use denote.Struct.Field.{u8-field, u64-field}
+use denote.Struct.Laws.{u8-copy, u64-copy}
 use denote.Plain.{uint_row_laws}
-use denote.SharingLaws.{contraction}
+use denote.SharingLaws.{contraction, beside_shr_laws}
 use denote.Steps.{nothing}
 use Rattle.core.proofs.cell.Borrows.{by_one}
 use Rattle.counted_slot.specs.Counting.{tag, share, parts}
 use Rattle.counted_slot.proofs.Parts.{parts_in, parts_cut, parts_glue, parts_whole, parts_agree, renames}
 use Rattle.packet_ring.specs.Table.{exclusive, readable}
-use Rattle.packet_ring.specs.Lent.{Spot, cells_row, held, tracked, shown, waits, lasting, round, reader, access_at}
+use Rattle.packet_ring.specs.Lent.{Spot, cells_row, blank, bytes_lie, contents, held, tracked, sight, shown, waits, lasting, round, reader, access_at}
+use Rattle.atomic_table.specs.Seated.{fact}
+
+row_laws : (t : Spot) → RowLaws (cells_row t)
+row_laws t = Array-row_laws u64 (uint_row_laws w64) t.width
+
+pub sight_laws : (t : Spot) (x : List ℕ) → ShrLaws (sight t x)
+sight_laws t x = let b : ℕ = t.block in let y : List ℕ = take t.width x in let bs : List ℕ = drop t.width x in
+    beside_shr_laws (shared_of (cells_row t) y b t.offset) (elements_shared u8 bs b t.bytes) (row_laws t y b t.offset) (elements_shr_laws u8 (uint_row_laws w8) bs b t.bytes)
 
 module _ {M : Type 1} {𝓤 : Ura M} (𝓛 : Logic 𝓤) (t : Spot) where
   open 𝓛 use {H, A}
@@ -52,19 +64,28 @@ module _ {M : Type 1} {𝓤 : Ura M} (𝓛 : Logic 𝓤) (t : Spot) where
   α = t.life
 
   abbrev obs : List ℕ → Fml
-  obs x = fobs t.value_name (R.coded.code x)
+  obs x = fobs t.value_name ((contents t).coded.code x)
 
   abbrev auth : List ℕ → Fml
-  auth x = fauth t.value_name (R.coded.code x)
+  auth x = fauth t.value_name ((contents t).coded.code x)
 
   abbrev at : List ℕ → Fml
-  at x = part_at R full_share x t.block t.offset
+  at x = (contents t).own_at x t.block t.offset
 
-  pub row_laws : RowLaws R
-  row_laws = Array-row_laws u64 (uint_row_laws w64) t.width
+  cells_lend : Shares 𝓛 R []
+  cells_lend = Shares-Array 𝓛 u64 tt t.width [] ((copy_shared u64-field u64-copy).shares M 𝓤 𝓛)
 
-  whole_shared : Shares 𝓛 R []
-  whole_shared = Shares-Array 𝓛 u64 tt t.width [] ((copy_shared u64-field u64-copy).shares M 𝓤 𝓛)
+  byte_lends : Shares 𝓛 u8 []
+  byte_lends = (copy_shared u8-field u8-copy).shares M 𝓤 𝓛
+
+  bytes_lend : (bs : List ℕ) (b o : ℕ) → Lends 𝓛 (cells (mem u8) bs b o) (elements_shared u8 bs b o) []
+  bytes_lend [] b o = Lends-nothing 𝓛 ftrue []
+  bytes_lend (y ∷ bs) b o = Lends-both 𝓛 (part_at u8 full_share y b o) (cells (mem u8) bs b (o + 1)) (shared_of u8 y b o) (elements_shared u8 bs b (o + 1)) [] (λ κ ts. byte_lends y κ ts b o) (bytes_lend bs b (o + 1))
+
+  whole_lends : (x : List ℕ) → Lends 𝓛 (at x) (sight t x) []
+  whole_lends x = let bs : List ℕ = drop t.width x in let b : ℕ = t.block in let rest : Fml = fsep (blank (t.room - length bs) b (t.bytes + length bs)) (fact (length bs ≤ t.room)) in
+      Lends-both 𝓛 (part_at R full_share (take t.width x) b t.offset) (bytes_lie t bs) (shared_of R (take t.width x) b t.offset) (elements_shared u8 bs b t.bytes) [] (λ κ ts. cells_lend (take t.width x) κ ts b t.offset)
+      (Lends-first 𝓛 (cells (mem u8) bs b t.bytes) rest (elements_shared u8 bs b t.bytes) [] (bytes_lend bs b t.bytes))
 
   packs : (κ : Lft) (x : List ℕ) → ⟦ auth x ⟧ ⊢ ⟦ fwand (fsep (fdead κ) (fseps (at x ∷ []))) (fupd (held t)) ⟧
   unfolding fseps
@@ -77,7 +98,7 @@ module _ {M : Type 1} {𝓤 : Ura M} (𝓛 : Logic 𝓤) (t : Spot) where
   -- a borrow of the cells is one of just this value
   value_at : (κ : Lft) (x : List ℕ) (q : Share) → (⟦ obs x ⟧ ∗ A.bor κ (held t)) ∗ A.lft κ q ⊢ H.⇛ (fixed κ x ∗ A.lft κ q)
   unfolding fseps
-  value_at κ x q = qed 𝓛 ((‵ (obs x) ⊛ ‵ (fbor κ (held t))) ∷ ‵ (flft κ q) ∷ []) ∵ updating ! $ split ! $ open_ref ! tt (mem R) $ move ! (3 ∷ []) $
+  value_at κ x q = qed 𝓛 ((‵ (obs x) ⊛ ‵ (fbor κ (held t))) ∷ ‵ (flft κ q) ∷ []) ∵ updating ! $ split ! $ open_ref ! tt (contents t) $ move ! (3 ∷ []) $
       use1 𝓛 (‵ (fwand (fsep (fdead κ) (fseps (at x ∷ []))) (fupd (held t)))) (packs κ x) $ nothing ! $ move ! (2 ∷ 0 ∷ []) $ fjoin ! $ move ! (2 ∷ 0 ∷ 1 ∷ []) $ obor_alter ! tt (at x ∷ []) $
       use1 𝓛 (‵ (fbor κ (at x)) ⊛ ‵ ftrue) (id⊢ 𝓤 _) $ split ! $ now ! $ move ! (3 ∷ 0 ∷ []) $ join ! $ keep ! (0 ∷ 2 ∷ []) $ done !
 
@@ -90,7 +111,7 @@ module _ {M : Type 1} {𝓤 : Ura M} (𝓛 : Logic 𝓤) (t : Spot) where
       move ! (2 ∷ []) $ use1 𝓛 (later (‵ (fbor (a ∷ α) (held t)) ⊛ ‵ (waits t a))) (𝓛.more.bor_reborrow α (a ∷ α) (held t) (meet_⊑_right (a ∷ []) α)) $ await ! tt $ split ! $
       move ! (2 ∷ 4 ∷ []) $ group ! 2 $ move ! (3 ∷ 1 ∷ []) $ join ! $ move ! (0 ∷ 1 ∷ []) $
       use2 𝓛 (later ((‵ (obs x) ⊛ ‵ (fbor (a ∷ α) (at x))) ⊛ raw (lfts 𝓛 ts))) (by_one 𝓛 (a ∷ α) ts sp (⟦ obs x ⟧ ∗ A.bor (a ∷ α) (held t)) (fixed (a ∷ α) x) (value_at (a ∷ α) x)) $ await ! tt $ split ! $ split ! $
-      move ! (1 ∷ 2 ∷ []) $ use2 𝓛 (later (‵ (shown t a x) ⊛ ‵ (flft (a ∷ []) full_share) ⊛ ‵ (flft α s))) (whole_shared x (a ∷ α) ts t.block t.offset (⊑_static (span ts)) sp) $ await ! tt $ split3 ! $
+      move ! (1 ∷ 2 ∷ []) $ use2 𝓛 (later (‵ (shown t a x) ⊛ ‵ (flft (a ∷ []) full_share) ⊛ ‵ (flft α s))) (whole_lends x (a ∷ α) ts (⊑_static (span ts)) sp) $ await ! tt $ split3 ! $
       move ! (0 ∷ 4 ∷ 3 ∷ []) $ fjoin3 ! $ move ! (1 ∷ 0 ∷ []) $ fjoin ! $ fpack ! ℕ (λ b. fsep (flft (b ∷ []) full_share) (lasting t b x)) a $ now ! $ done !)
 
   -- and ends
@@ -105,7 +126,7 @@ module _ {M : Type 1} {𝓤 : Ura M} (𝓛 : Logic 𝓤) (t : Spot) where
   pub pinned : (m : ℕ) (x : List ℕ) → suc m < 2 ^ 63 → ⟦ access_at t (readable m x) ⟧ ⊢ ⟦ access_at t (readable (suc m) x) ⟧ ∗ ⟦ reader t x ⟧
   pinned m x small = qed 𝓛 (‵ (access_at t (readable m x)) ∷ []) ∵ fpick ! (λ a. fsplit ! $
       use1 𝓛 (‵ (parts t.round_name a 1) ⊛ ‵ (parts t.round_name a (2 ^ 63 - suc m))) (parts_cut 𝓛 t.round_name a (2 ^ 63 - m) 1 (2 ^ 63 - suc m) (omega arith) (omega arith) (omega arith) (omega arith)) $ split ! $
-      move ! (2 ∷ []) $ fsplit ! $ use1 𝓛 (‵ (shown t a x) ⊛ ‵ (shown t a x)) (contraction 𝓛 (shared_of R x t.block t.offset) (row_laws x t.block t.offset) (a ∷ α)) $ split ! $
+      move ! (2 ∷ []) $ fsplit ! $ use1 𝓛 (‵ (shown t a x) ⊛ ‵ (shown t a x)) (contraction 𝓛 (sight t x) (sight_laws t x) (a ∷ α)) $ split ! $
       move ! (0 ∷ 2 ∷ []) $ fjoin ! $ move ! (3 ∷ 0 ∷ []) $ fjoin ! $ fpack ! ℕ (with_parts (suc m) x) a $ move ! (0 ∷ 2 ∷ 1 ∷ []) $ frame ! $ fjoin ! $
       fpack ! ℕ (λ b. fsep (parts t.round_name b 1) (shown t b x)) a $ done !)
 

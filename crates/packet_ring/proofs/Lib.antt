@@ -1,8 +1,11 @@
 pub mod Blocks
 pub mod Grounds
 pub mod Fields
+pub mod Contents
 pub mod Cells
 pub mod OneCell
+pub mod Bytes
+pub mod Seen
 pub mod Units
 pub mod Moves
 pub mod Dealing
@@ -17,9 +20,8 @@ pub mod Pinned
 pub mod Begun
 pub mod Finished
 pub mod Settling
-pub mod Unpacking
 pub mod Putting
-pub mod Getting
+pub mod Showing
 pub mod Telling
 pub mod Looks
 pub mod Seeing

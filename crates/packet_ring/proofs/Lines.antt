@@ -11,5 +11,5 @@ own_lines z whole address i j before = let d : ℕ = stride z in let x : ℕ = i
     let apart : address + (x + z.offset) + 64 ≤ address + (y + z.offset) = omega arith in omega arith
 
 -- so many units, each of so many bytes at most
-pub few_bytes : (z : RingId) → {n m : ℕ} → z.units ≡ n → 8 * (z.width + 1) ≤ m → block_bytes z ≤ n * m
+pub few_bytes : (z : RingId) → {n m : ℕ} → z.units ≡ n → 8 * (z.width + 1 + z.room) ≤ m → block_bytes z ≤ n * m
 few_bytes z {n} {m} many narrow = let few : z.units ≤ n = omega arith in mul-le-mul few narrow

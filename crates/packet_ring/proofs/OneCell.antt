@@ -1,5 +1,5 @@
 -- One cell of a unit, as a reader looks into it and as a writer changes it. Assumes `Logic`.
-use Rattle.std.proofs.Common.{◌≡◌, ℕ, zero, suc, ◌+◌, ◌*◌, ◌<◌, List, [], ◌∷◌, length, get_or, set, sym, refl, ◌∙◌, subst, w64, length-set}
+use Rattle.std.proofs.Common.{◌≡◌, ℕ, zero, suc, ◌+◌, ◌*◌, ◌<◌, ◌≤◌, List, [], ◌∷◌, length, get_or, set, take, sym, refl, ◌∙◌, subst, arith, w64, length-set, length-take, get_or-take}
 use native.Mathlib.Nat.{le_of_suc-le-suc, not-suc-le-zero}
 use seplogic.Ra.Ura.{Ura}
 use mir.Syntax.{ty_int}
@@ -9,7 +9,7 @@ use base.FractionLaws.{common}
 use base.Logic.{SProp, ent, sep, wand, ex, guard, apply∗}
 use base.Fml.{Lft, Share, Fml, fsep, flft, fat}
 use types.Logic.{Logic, sem}
-use types.Kit.{‵, raw, ◌⊛◌, ◌$◌, ◌∵◌, !, qed, by, move, keep, drop, use1, use2, split, fsplit, fjoin, fpick, fpack, feq_l, feq_i, rewrite, frame, assume, show, check, done}
+use types.Kit.{‵, raw, ◌⊛◌, ◌$◌, ◌∵◌, !, qed, by, move, keep, drop as drop_one, use1, use2, split, fsplit, fjoin, fpick, fpack, feq_l, feq_i, rewrite, frame, assume, show, check, done}
 use types.Tokens.{lft-common}
 use types.Share.{arr_parts}
 use denote.ArrayMemory.{Array-apart, Array-whole}
@@ -22,8 +22,8 @@ use denote.Plain.{uint_out, uint_in}
 use denote.SharingLaws.{contraction}
 use Rattle.counted_slot.specs.Counting.{parts}
 use Rattle.counted_slot.proofs.Parts.{parts_in}
-use Rattle.packet_ring.specs.Lent.{Spot, cells_row, shown, reader}
-use Rattle.packet_ring.proofs.Cells.{row_laws}
+use Rattle.packet_ring.specs.Lent.{Spot, cells_row, sight, shown, reader}
+use Rattle.packet_ring.proofs.Cells.{sight_laws}
 
 module _ {M : Type 1} {𝓤 : Ura M} (𝓛 : Logic 𝓤) where
   open 𝓛 use {H, A}
@@ -49,7 +49,7 @@ module _ {M : Type 1} {𝓤 : Ura M} (𝓛 : Logic 𝓤) where
   one_shown : (κ : Lft) (xs : List ℕ) (i b o : ℕ) → i < length xs → ⟦ each_shared xs (shared_of u64) 8 b o κ ⟧ ⊢ ⟦ shared_of u64 (get_or xs i 0) b (place 8 o i) κ ⟧
   one_shown κ [] i b o l = absurd (not-suc-le-zero l)
   one_shown κ (x ∷ xs) zero b o l = qed 𝓛 (‵ (shared_of u64 x b o κ) ∷ ‵ (each_shared xs (shared_of u64) 8 b (o + 8) κ) ∷ []) ∵ keep ! (0 ∷ []) $ done !
-  one_shown κ (x ∷ xs) (suc i) b o l = qed 𝓛 (‵ (shared_of u64 x b o κ) ∷ ‵ (each_shared xs (shared_of u64) 8 b (o + 8) κ) ∷ []) ∵ drop ! $ by ! (one_shown κ xs i b (o + 8) (le_of_suc-le-suc l))
+  one_shown κ (x ∷ xs) (suc i) b o l = qed 𝓛 (‵ (shared_of u64 x b o κ) ∷ ‵ (each_shared xs (shared_of u64) 8 b (o + 8) κ) ∷ []) ∵ drop_one ! $ by ! (one_shown κ xs i b (o + 8) (le_of_suc-le-suc l))
 
   module _ (t : Spot) (x : List ℕ) (i : ℕ) where
     abbrev α : Lft
@@ -69,11 +69,13 @@ module _ {M : Type 1} {𝓤 : Ura M} (𝓛 : Logic 𝓤) where
       Sight u = ⟦ hidden_shr u64 (u.0 ∷ α) n t.block e ⟧ ∗ (A.lft (u.0 ∷ α) u.1 ∗ wand 𝓤 (A.lft (u.0 ∷ α) u.1) Whole)
 
       -- a reader looks into a cell while the block is there
-      pub sighted : i < t.width → Whole ⊢ guard 𝓤 (length x ≡ t.width) (ex 𝓤 Sight)
-      sighted inside = qed 𝓛 (‵ (reader t x) ∷ ‵ (flft α s) ∷ []) ∵ fpick ! (λ a. fsplit ! $ move ! (1 ∷ []) $
-          use1 𝓛 (‵ (shown t a x) ⊛ ‵ (shown t a x)) (contraction 𝓛 (shared_of (cells_row t) x t.block t.offset) (row_laws 𝓛 t x t.block t.offset) (a ∷ α)) $ split ! $
-          fsplit ! $ feq_l ! (λ long. check ! long $ use1 𝓛 (‵ (shared_of u64 n t.block (place 8 t.offset i) (a ∷ α))) (one_shown (a ∷ α) x i t.block t.offset (subst (λ (m : ℕ). i < m) (sym long) inside)) $
-          rewrite ! 0 (λ (k : ℕ). ‵ (shared_of u64 n t.block k (a ∷ α))) (place_is 8 t.offset i) refl $ move ! (2 ∷ []) $
+      pub sighted : i < t.width → Whole ⊢ guard 𝓤 (t.width ≤ length x) (ex 𝓤 Sight)
+      sighted inside = let y : List ℕ = take t.width x in let same : get_or y i 0 ≡ n = get_or-take t.width x i 0 inside in
+          qed 𝓛 (‵ (reader t x) ∷ ‵ (flft α s) ∷ []) ∵ fpick ! (λ a. fsplit ! $ move ! (1 ∷ []) $
+          use1 𝓛 (‵ (shown t a x) ⊛ ‵ (shown t a x)) (contraction 𝓛 (sight t x) (sight_laws t x) (a ∷ α)) $ split ! $
+          fsplit ! $ move ! (1 ∷ []) $ drop_one ! $ fsplit ! $ feq_l ! (λ long. let m = length-take t.width x in check ! (omega arith) $
+          use1 𝓛 (‵ (shared_of u64 (get_or y i 0) t.block (place 8 t.offset i) (a ∷ α))) (one_shown (a ∷ α) y i t.block t.offset (subst (λ (m : ℕ). i < m) (sym long) inside)) $
+          rewrite ! 0 (λ (k : ℕ × ℕ). ‵ (shared_of u64 k.0 t.block k.1 (a ∷ α))) (λ j. (same j, place_is 8 t.offset i j)) refl $ move ! (2 ∷ []) $
           fpick ! (λ f. fpick ! (λ c. fsplit ! $ move ! (0 ∷ 4 ∷ []) $ let r : Share = (common f s).0 in let Both : Pr = A.lft (a ∷ []) f ∗ A.lft α s in
           use2 𝓛 (‵ (flft (a ∷ α) r) ⊛ raw (wand 𝓤 (A.lft (a ∷ α) r) Both)) (lft-common 𝓛 (a ∷ []) α f s) $ split ! $ show ! Sight (a, r) $
           move ! (3 ∷ []) $ hide ! $ frame ! $ frame ! $ assume ! (‵ (flft (a ∷ α) r)) $ use2 𝓛 (‵ (flft (a ∷ []) f) ⊛ ‵ (flft α s)) (apply∗ 𝓤 (A.lft (a ∷ α) r) Both) $ split ! $

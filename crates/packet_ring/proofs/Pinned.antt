@@ -75,7 +75,7 @@ slot_kept s t fits i j y b v r a sound bits accesses = record {
 }
 
 same_cells : (cells : List ℕ) (a b : Slot) → b.len ≡ a.len → b.bytes ≡ a.bytes → HasCells cells a → HasCells cells b
-same_cells cells a b len bytes has = (len ∙ has.0, ap (λ (u : ℕ × List ℕ). lib.ListN.take u.0 u.1) {x = (b.len, b.bytes)} {y = (a.len, a.bytes)} (λ i. (len i, bytes i)) ∙ has.1 ∙ ap (λ (n : ℕ). lib.ListN.take n (Rattle.packet_ring.specs.Rule.bytes_of (lib.ListN.drop 1 cells))) (sym len))
+same_cells cells a b len bytes has = (len ∙ has.0, ap (λ (u : ℕ × List ℕ). lib.ListN.take u.0 u.1) {x = (b.len, b.bytes)} {y = (a.len, a.bytes)} (λ i. (len i, bytes i)) ∙ has.1 ∙ ap (λ (n : ℕ). lib.ListN.take n (Rattle.packet_ring.specs.Rule.bytes_of cells)) (sym len))
 
 module _ (s : Ring.State) (i j n : ℕ) (x y : Seat) (there : slice_get s.seats i ≡ Some x) where
   -- the state after the slot at place j has n pins, and the seat this view
@@ -229,7 +229,7 @@ module _ (i : ℕ) (x : Seat) (seen : List (List ℕ)) where
           | inl e ↦ let same : k ≡ j = let f = e.0 in omega arith in subst (AccessFits s' k) (sym e.1) (subst (λ (l : ℕ). AccessFits s' l (readable (suc m) c)) (sym same) (access_moved s i j m' x y there j m (suc m) c (let z = was_idle j in let o = own_hold j in omega arith) H.fits))
           | inr e ↦ let other : j ≢ k = λ f. e.0 (ap suc (sym f)) in subst (AccessFits s' k) (sym e.1) (access_kept s i j m' x y there k (sym (was_idle k) ∙ other_hold j k other) (get_or t.accesses (suc k) exclusive) (fits.accesses k low))
         ] in
-        let own = own_packet s' i y sound (read_place s.seats i x y there) tt in let has = cells_kept s i j m' x y there j c H.fits.2 in let B : List ℕ = bytes_of (drop 1 c) in
+        let own = own_packet s' i y sound (read_place s.seats i x y there) tt in let has = cells_kept s i j m' x y there j c H.fits.2 in let B : List ℕ = bytes_of c in
         let kept = slot_kept s t fits i j y b ((get_or t.words (suc j) 0 + 1) % 2 ^ 64) no_right (pins (suc j) m c) sound (bits_now y sound) accesses' in
         goes_by (suc i) (suc j) me (λ m. (m + 1) % 2 ^ 64) (Pins L.1 (suc j) x me) (inr y) (pins (suc j) m c) t.log (elem, omega arith) (prefix_refl t.log) fits kept (pin_step true is) (record {
           word = word s j;

@@ -1,5 +1,5 @@
 -- The block's rule holds at the start.
-use Rattle.std.proofs.Common.{◌≡◌, ℕ, zero, suc, ◌+◌, ◌*◌, ◌≤◌, List, ◌∷◌, map, length, replicate, get_or, Some, sym, refl, ap, ◌∙◌, subst, suc-mul, zero-mul, ◌++◌, arith}
+use Rattle.std.proofs.Common.{◌≡◌, ℕ, zero, suc, ◌+◌, ◌*◌, ◌≤◌, List, ◌∷◌, map, length, replicate, get_or, Option, Some, None, ◌-◌, sym, refl, ap, ◌∙◌, subst, suc-mul, zero-mul, ◌++◌, arith}
 use lib.ListN.{length-replicate, get_or-replicate}
 use Rattle.ring_steps.specs.declared.words.Slot.{Slot}
 use Rattle.ring_steps.specs.Ring.{empty_ring, new_seat, fresh_slot}
@@ -68,6 +68,8 @@ zeros_flat (suc n) width = ap (λ (xs : List ℕ). 0 ∷ (zeros width ++ xs)) (z
 fresh_flat : (keep width : ℕ) → zeros ((keep + 2) * (width + 1)) ≡ flat (fresh_units keep width)
 fresh_flat keep width = sym (zeros_flat (suc (keep + 1)) width ∙ ap (λ (k : ℕ). zeros (k * (width + 1))) (let r : suc (keep + 1) ≡ keep + 2 = omega arith in r))
 
--- and so many places that hold a 0 each
-pub fresh_places : (keep width : ℕ) → replicate ((keep + 2) * (width + 1)) (Some 0) ≡ map Some (flat (fresh_units keep width))
-fresh_places keep width = sym (map_same Some ((keep + 2) * (width + 1)) 0) ∙ ap (map Some) (fresh_flat keep width)
+-- and so many places that hold a 0 each, before those that are empty
+pub fresh_places : (keep width room : ℕ) → let words : ℕ = (keep + 2) * (width + 1) in let none : Option ℕ = None in
+    replicate words (Some 0) ++ replicate (words + (keep + 2) * room - words) none ≡ map Some (flat (fresh_units keep width)) ++ replicate ((keep + 2) * room) none
+fresh_places keep width room = let words : ℕ = (keep + 2) * (width + 1) in let m : ℕ = (keep + 2) * room in let none : Option ℕ = None in let left : words + m - words ≡ m = omega arith in
+    λ i. (sym (map_same Some words 0) ∙ ap (map Some) (fresh_flat keep width)) i ++ replicate (left i) none

@@ -5,9 +5,10 @@ use Rattle.std.proofs.lemmas.List.{take-append-le, map-append, length-map, lengt
 use mathlib.Core.Logic.{inl, inr}
 use mathlib.Core.List.{IsPrefix}
 use Rattle.cursor.specs.declared.takes.Account.{Account}
+use Rattle.cursor.specs.declared.takes.Delivery.{Delivery}
 use Rattle.cursor.specs.declared.takes.Delivery.TheVariants.{Got, Lost, Empty, Ended}
-use Rattle.cursor.specs.Account.{cursor_of}
-use Rattle.cursor.specs.Log.{packet_of}
+use Rattle.cursor.specs.Account.{counted, cursor_of}
+use Rattle.cursor.specs.declared.packets.Packet.{Packet}
 use Rattle.ring_steps.specs.declared.words.Head.{Head}
 use Rattle.ring_steps.specs.declared.views.Seat.{Seat}
 use Rattle.ring_steps.specs.declared.views.SeatPhase.{SeatPhase}
@@ -15,7 +16,7 @@ use Rattle.ring_steps.specs.declared.views.SeatPhase.TheVariants as seating
 use Rattle.ring_steps.specs.Ring.{cursor}
 use Rattle.packet_ring.specs.Rule.{Knows, View}
 use Rattle.packet_ring.specs.Steps.{HasSeen, ends_at, lost_to, seat_of}
-use Rattle.packet_ring.specs.Tokens.{FirstKept, FoundNone, GotPacket, Looked, LostSome}
+use Rattle.packet_ring.specs.Tokens.{FirstKept, FoundNone, GotPacket, Looked, LostSome, Takes}
 use Rattle.packet_ring.specs.Views.{RingId, IsReceipted, IsSeated, IsSubscribed, found_by, keep_of, packet_from, packets_from, seen_by, subscribing_of}
 use Rattle.packet_ring.specs.Calls.{LoadsFor, SeesOn, TakesNext, WasKept, head_of, log_with}
 use Rattle.packet_ring.specs.declared.block.Token.{Token}
@@ -73,9 +74,8 @@ module _ (z : RingId) (t t' : Token) (known seen keep : ℕ) (a : Account) (is :
   at_cursor = ap cursor_of is.account
 
   -- a take that gave a packet
-  pub takes_packet : (n tag len : ℕ) (buf : List ℕ) → n ≡ cursor x → GotPacket keep seen x (tag ∷ take len buf) t.me t'.me
-      → TakesNext (subscribing_of t known a) (Got n (packet_of tag (take len buf))) (subscribing_of t' seen (record a { taken = a.taken + 1 }))
-  takes_packet n tag len buf at got = let p : List ℕ = tag ∷ take len buf in let c = at_cursor in let many : length (seen_by t' seen) ≡ seen = seen_size t'.me.seen seen got.looked_at.has.within in let kept = got.kept in
+  pub takes_packet : (n : ℕ) (q : Packet) → n ≡ cursor x → GotPacket keep seen x (q.tag ∷ q.bytes) t.me t'.me → TakesNext (subscribing_of t known a) (Got n q) (subscribing_of t' seen (record a { taken = a.taken + 1 }))
+  takes_packet n q at got = let p : List ℕ = q.tag ∷ q.bytes in let c = at_cursor in let many : length (seen_by t' seen) ≡ seen = seen_size t'.me.seen seen got.looked_at.has.within in let kept = got.kept in
       let next : cursor_of (record a { taken = a.taken + 1 }) ≡ n + 1 = omega arith in record {
         event = (
           ap (λ (k : ℕ). Some (Some k)) (sym c ∙ sym at),
@@ -161,3 +161,11 @@ closed_receipt log count told all has few is = record {
   few = few;
   mark = (λ i. ends_at (is i) (all i)) ∙ ends_with true log;
 }
+
+-- a take leads to the account that counts what it gave
+pub takes_any : (z : RingId) (t t' : Token) (known seen keep : ℕ) (a : Account) → IsSubscribed z t known a → t'.id ≡ t.id → keep_of t.id ≡ keep
+    → (d : Delivery) → Takes keep seen t.me d t'.me → TakesNext (subscribing_of t known a) d (subscribing_of t' seen (counted d a))
+takes_any z t t' known seen keep a is same sized (Got n q) h = takes_packet z t t' known seen keep a is same sized n q h.0 h.1
+takes_any z t t' known seen keep a is same sized (Lost k) h = takes_lost z t t' known seen keep a is same sized k h
+takes_any z t t' known seen keep a is same sized Empty h = takes_empty z t t' known seen a is same h
+takes_any z t t' known seen keep a is same sized Ended h = takes_ended z t t' known seen a is same h

@@ -1,12 +1,15 @@
 -- A block may be shared, and a token may go to another thread.
-use Rattle.std.proofs.Common.{ℕ, zero, suc, ◌+◌, List, [], ◌∷◌}
+use Rattle.std.proofs.Common.{ℕ, zero, suc, ◌+◌, List, [], ◌∷◌, take, drop}
 use base.Fraction.{full_share}
 use base.Growing.{latest, at_least, prefixes}
 use base.Stored.{Gv, Coded}
 use base.Fml.{Lft, Share}
 use base.Shift.{Keyless}
 use denote.RawPtr.{Ptr}
-use denote.Builtin.{u64}
+use denote.Builtin.{u8, u64}
+use denote.Memory.{mem}
+use denote.Slice.{elements_shared}
+use types.SemTy.{cells}
 use denote.Param.Send.{IsSend, IsSync, sendable, part_keyless, array_send, array_sync}
 use types.Keyed.{entry_keyless}
 use Rattle.atomic_table.specs.Seated.{halved}
@@ -18,6 +21,20 @@ row_Keyless : (d b o : ℕ) (ns : List ℕ) → Keyless (row d b o ns)
 row_Keyless d b o [] = tt
 row_Keyless d b o (n ∷ ns) = (tt, row_Keyless d b (o + d) ns)
 
+byte_sent : IsSend u8
+byte_sent = search sendable depth 20
+
+byte_seen : IsSync u8
+byte_seen = search sendable depth 20
+
+bytes_keyless : (bs : List ℕ) (b o : ℕ) → Keyless (cells (mem u8) bs b o)
+bytes_keyless [] b o = tt
+bytes_keyless (x ∷ bs) b o = (part_keyless u8 byte_sent full_share x b o, bytes_keyless bs b (o + 1))
+
+shares_keyless : (bs : List ℕ) (b o : ℕ) (κ : Lft) → Keyless (elements_shared u8 bs b o κ)
+shares_keyless [] b o κ = tt
+shares_keyless (x ∷ bs) b o κ = (byte_seen.shared x b o κ, shares_keyless bs b (o + 1) κ)
+
 module _ (t : Spot) where
   sent : IsSend (cells_row t)
   sent = array_send u64 t.width (search sendable depth 20)
@@ -26,10 +43,10 @@ module _ (t : Spot) where
   seen = array_sync u64 t.width (search sendable depth 20)
 
   held_keyless : Keyless (held t)
-  held_keyless = λ x. (part_keyless (cells_row t) sent full_share x t.block t.offset, tt)
+  held_keyless = λ x. ((part_keyless (cells_row t) sent full_share (take t.width x) t.block t.offset, (bytes_keyless (drop t.width x) t.block t.bytes, (tt, λ _. tt))), tt)
 
   shown_keyless : (a : ℕ) (x : List ℕ) → Keyless (shown t a x)
-  shown_keyless a x = seen.shared x t.block t.offset (a ∷ t.life)
+  shown_keyless a x = (seen.shared (take t.width x) t.block t.offset (a ∷ t.life), shares_keyless (drop t.width x) t.block t.bytes (a ∷ t.life))
 
   lasting_keyless : (a : ℕ) (x : List ℕ) → Keyless (lasting t a x)
   lasting_keyless a x = (shown_keyless a x, (held_keyless, tt))
@@ -75,8 +92,8 @@ module _ (z : BlockId) where
 
       pub owns_keyless : Keyless (block_owns c e holds p z)
       unfolding Rattle.packet_ring.specs.Lent.seal
-      owns_keyless = (tt, (((λ _. tt), inner_keyless), (inner_keyless, owed_keyless 0 z.units)))
+      owns_keyless = (tt, (((λ _. tt), inner_keyless), (inner_keyless, (owed_keyless 0 z.units, (tt, tt)))))
 
-      pub shares_keyless : (ν : Lft) → Keyless (block_shares c e holds p z ν)
+      pub block_keyless : (ν : Lft) → Keyless (block_shares c e holds p z ν)
       unfolding Rattle.packet_ring.specs.Lent.seal
-      shares_keyless ν = ((λ _. tt), ((λ _. tt), inner_keyless))
+      block_keyless ν = ((λ _. tt), ((λ _. tt), inner_keyless))

@@ -3,7 +3,6 @@ pub mod Lent
 pub mod Rule
 pub mod Operation
 pub mod Steps
-pub mod Packing
 pub mod Tokens
 pub mod Views
 pub mod Calls

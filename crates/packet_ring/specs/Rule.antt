@@ -1,6 +1,6 @@
 -- What holds of the block between any two steps: its words, and the views of its tokens, are those of a
 -- state of the ring that has the invariant.
-use Rattle.std.specs.Prelude.{◌≡◌, ◌⊎◌, ℕ, ◌+◌, ◌/◌, ◌%◌, ◌^◌, ◌==◌, ◌<◌, ◌≤◌, Bool, true, false, List, [], ◌∷◌, ◌++◌, map, length, take, drop, slice_index_or, replicate, if◌then◌else◌}
+use Rattle.std.specs.Prelude.{◌≡◌, ◌⊎◌, ℕ, ◌+◌, ◌%◌, ◌^◌, ◌==◌, ◌<◌, ◌≤◌, Bool, true, false, List, [], ◌∷◌, ◌++◌, map, length, take, drop, slice_index_or, replicate, if◌then◌else◌}
 use mathlib.Core.Logic.{inl, inr}
 use base.Stored.{Coded, coded×, coded⊎, coded_ℕ, coded_list, coded_via}
 use Rattle.ring_steps.specs.declared.views.Publisher.{Publisher}
@@ -48,18 +48,18 @@ views_of s = publisher_view s ∷ map seat_view s.seats
 abbrev pub words_of : Ring.State → List ℕ
 words_of s = head_bits s.head ∷ map (λ x. word_bits x.word) s.slots
 
--- the eight bytes of a cell, the least first
-abbrev pub digits : (count : ℕ) → ℕ → List ℕ
-digits Prim.Native.Nat.zero n = []
-digits (Prim.Native.Nat.suc k) n = n % 256 ∷ digits k (n / 256)
+-- how many cells a unit has
+abbrev pub head_cells : ℕ
+head_cells = 7
 
+-- the bytes of a packet that a unit's contents have: the tag, which is a byte of the second cell, and those behind
+-- the cells
 abbrev pub bytes_of : List ℕ → List ℕ
-bytes_of [] = []
-bytes_of (n ∷ ns) = digits 8 n ++ bytes_of ns
+bytes_of x = slice_index_or x 1 0 % 256 ∷ drop head_cells x
 
--- a unit's first cell is the slot's length cell, and the others have its bytes, eight in each
+-- a unit's first cell is the slot's length cell, and its bytes are the slot's
 abbrev pub HasCells : List ℕ → Slot → Type 0
-HasCells x t = (t.len ≡ slice_index_or x 0 0) × (take t.len t.bytes ≡ take t.len (bytes_of (drop 1 x)))
+HasCells x t = (t.len ≡ slice_index_or x 0 0) × (take t.len t.bytes ≡ take t.len (bytes_of x))
 
 -- 1 where a seat in this phase, whose cursor's slot is at `at`, holds its packet at j
 abbrev pub hold_of : SeatPhase → (at j : ℕ) → ℕ

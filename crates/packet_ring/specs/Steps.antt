@@ -1,5 +1,5 @@
 -- What each kind of atomic step tells the token that makes it.
-use Rattle.std.specs.Prelude.{◌≡◌, ◌≢◌, ℕ, ◌≤◌, ◌<◌, ◌+◌, ◌-◌, ◌^◌, ◌==◌, Bool, false, true, nat_lt, List, [], ◌∷◌, ◌++◌, length, take, drop, Some, slice_get, slice_index_or, if◌then◌else◌}
+use Rattle.std.specs.Prelude.{◌≡◌, ◌≢◌, ℕ, ◌≤◌, ◌<◌, ◌+◌, ◌-◌, ◌^◌, ◌==◌, Bool, false, true, nat_lt, List, [], ◌∷◌, ◌++◌, length, take, Some, slice_get, slice_index_or, if◌then◌else◌}
 use mathlib.Core.Logic.{inl, inr}
 use mathlib.Core.List.{IsPrefix}
 use Rattle.cursor.specs.Log.{back_from}
@@ -75,10 +75,10 @@ ends_at ([] ∷ xs) Prim.Native.Nat.zero = true
 ends_at ((b ∷ p) ∷ xs) Prim.Native.Nat.zero = false
 ends_at (x ∷ xs) (Prim.Native.Nat.suc k) = ends_at xs k
 
--- the cells hold a packet: its length, and its bytes
+-- the contents hold a packet: its length, and its bytes
 pub record HasPacket (cells packet : List ℕ) : Type 0 where
   pub size : slice_index_or cells 0 0 ≡ length packet
-  pub bytes : take (length packet) (bytes_of (drop 1 cells)) ≡ packet
+  pub bytes : take (length packet) (bytes_of cells) ≡ packet
 
 -- a pin by a seat: it saw this word, and where its pin holds it may read the cells, which hold the packet
 -- at its cursor
@@ -175,6 +175,10 @@ MayRead r u = (cells : List ℕ) × (r ≡ may_read u cells)
 -- and it may write them
 abbrev pub MayWrite : Right → (unit : ℕ) → Type 0
 MayWrite r u = (cells : List ℕ) × (r ≡ may_write u cells)
+
+-- a token may write the contents of this unit, which hold the packet
+abbrev pub MayWritePacket : Right → (unit : ℕ) → (packet : List ℕ) → Type 0
+MayWritePacket r u p = (cells : List ℕ) × (r ≡ may_write u cells) × HasPacket cells p
 
 -- the packet at a seat's cursor, in the log that its token has seen
 abbrev pub next_packet : Knows → List ℕ

@@ -1,7 +1,7 @@
 -- The block as plain data, and what one atomic step does to it. A block has units, each with a word,
 -- which changes in single steps, and cells, which many may read or one may write; tokens, each with a view, which
 -- its own steps alone change; and a log, which only grows.
-use Rattle.std.specs.Prelude.{◌≡◌, ℕ, suc, ◌<◌, ◌^◌, List, [], ◌∷◌, ◌++◌, map, length, slice_index, slice_set}
+use Rattle.std.specs.Prelude.{◌≡◌, ℕ, suc, ◌<◌, ◌^◌, List, [], ◌∷◌, ◌++◌, map, length, take, slice_index, slice_set}
 use mathlib.Core.Option.{some}
 use mathlib.Core.List.{IsPrefix}
 use lib.ListN.{get_elem?}
@@ -118,7 +118,7 @@ renewed_right r = r
 abbrev pub renewed : {V E : Type 0} → Me V E → Me V E
 renewed me = record me { right = renewed_right me.right }
 
--- the cells that a right is to, as they stand
+-- the contents that a right is to, as they stand
 abbrev pub cells_of : Right → List ℕ
 cells_of no_right = []
 cells_of (may_read k x) = x
@@ -132,6 +132,14 @@ written_right r i n = r
 
 abbrev pub written : {V E : Type 0} → Me V E → (i n : ℕ) → Me V E
 written me i n = record me { right = written_right me.right i n }
+
+-- the right to write, once the contents end with n at the place i
+abbrev pub grown_right : Right → (i n : ℕ) → Right
+grown_right (may_write k x) i n = may_write k (take i x ++ n ∷ [])
+grown_right r i n = r
+
+abbrev pub grown : {V E : Type 0} → Me V E → (i n : ℕ) → Me V E
+grown me i n = record me { right = grown_right me.right i n }
 
 -- rights as numbers
 abbrev pub right_code : Right → ℕ × (ℕ × List ℕ)

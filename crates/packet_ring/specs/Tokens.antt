@@ -1,9 +1,9 @@
 -- What a call leaves its token with.
-use Rattle.std.specs.Prelude.{◌≡◌, ◌⊎◌, ℕ, ◌+◌, ◌-◌, ◌^◌, ◌<◌, ◌≤◌, Bool, true, false, List, [], ◌∷◌, ◌++◌, length, take, Some, slice_get}
+use Rattle.std.specs.Prelude.{◌≡◌, ◌⊎◌, ℕ, ◌+◌, ◌-◌, ◌^◌, ◌<◌, ◌≤◌, Bool, true, false, List, [], ◌∷◌, ◌++◌, length, Some, slice_get}
 use mathlib.Core.Logic.{inl, inr}
 use mathlib.Core.List.{IsPrefix}
-use Rattle.cursor.specs.declared.takes.Taken.{Taken}
-use Rattle.cursor.specs.declared.takes.Taken.TheVariants as taken
+use Rattle.cursor.specs.declared.takes.Delivery.{Delivery}
+use Rattle.cursor.specs.declared.takes.Delivery.TheVariants.{Got, Lost, Empty, Ended}
 use Rattle.ring_steps.specs.declared.words.Head.{Head}
 use Rattle.ring_steps.specs.declared.views.Seat.{Seat}
 use Rattle.ring_steps.specs.Ring.{cursor}
@@ -74,10 +74,9 @@ pub record LostSome (keep count seen : ℕ) (x : Seat) (me next : Knows) : Type 
   pub view : (next.view ≡ inr (lost_to head x count)) ⊎ ((next.view ≡ inr (lost_to head (record x { loads = x.loads + 1 }) count)) × FirstKept keep (cursor x) seen me)
   pub right : next.right ≡ no_right
 
--- what a take answers, with the packet's bytes in front of the buffer, where the last of its loads saw a log
--- of so many packets
-abbrev pub Takes : (keep : ℕ) → Taken → (seen : ℕ) → (buf : List ℕ) → (me next : Knows) → Type 0
-Takes keep (taken.Packet n tag len) seen buf me next = (n ≡ cursor (seat_of me.view)) × GotPacket keep seen (seat_of me.view) (tag ∷ take len buf) me next
-Takes keep (taken.Lost k) seen buf me next = LostSome keep k seen (seat_of me.view) me next
-Takes keep taken.Empty seen buf me next = FoundNone false seen (seat_of me.view) me next
-Takes keep taken.Ended seen buf me next = FoundNone true seen (seat_of me.view) me next
+-- what a take gives, where the last of its loads saw a log of so many packets
+abbrev pub Takes : (keep seen : ℕ) → (me : Knows) → Delivery → (next : Knows) → Type 0
+Takes keep seen me (Got n p) next = (n ≡ cursor (seat_of me.view)) × GotPacket keep seen (seat_of me.view) (p.tag ∷ p.bytes) me next
+Takes keep seen me (Lost k) next = LostSome keep k seen (seat_of me.view) me next
+Takes keep seen me Empty next = FoundNone false seen (seat_of me.view) me next
+Takes keep seen me Ended next = FoundNone true seen (seat_of me.view) me next

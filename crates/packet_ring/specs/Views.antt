@@ -27,9 +27,9 @@ seats_of z = z.limits.0
 abbrev pub packet_bytes_of : RingId → ℕ
 packet_bytes_of z = z.limits.1 - 1
 
--- how many bytes a ring's block has: each unit is a word and its cells, of eight bytes each
+-- how many bytes a ring's block has: each unit is a word, its cells and its places for bytes, in eights of bytes
 abbrev pub block_bytes : RingId → ℕ
-block_bytes z = z.units * (8 * (z.width + 1))
+block_bytes z = z.units * (8 * (z.width + 1 + z.room))
 
 -- no two of a ring's words, the head's and the slots', share a cache line of 64 bytes, at whatever address its memory
 -- begins
@@ -144,13 +144,14 @@ pub record IsReceipted (log : List (List ℕ)) (count : ℕ) (closed : Bool) : T
   pub few : count ≤ 2 ^ 46
   pub mark : ends_at log count ≡ closed
 
--- a block's sizes: what it keeps, how many cells a unit has, and how many bytes a packet at most
-pub record HasSizes (z : RingId) (keep width packet_bytes : ℕ) : Type 0 where
+-- a block's sizes: what it keeps, how many places for bytes a unit has, in eights, and how many bytes a packet at most
+pub record HasSizes (z : RingId) (keep room packet_bytes : ℕ) : Type 0 where
   pub units : z.units ≡ keep + 2
-  pub wide : z.width ≡ width
+  pub wide : z.width ≡ 7
+  pub roomy : z.room ≡ room
   pub most : z.limits.1 ≡ packet_bytes + 1
   pub some : 1 ≤ keep
   pub few : keep ≤ 4095
-  pub narrow : width ≤ 16384
-  pub fits : packet_bytes + 9 ≤ 8 * width
+  pub narrow : room ≤ 8192
+  pub fits : packet_bytes ≤ 8 * room
   pub bound : packet_bytes ≤ 65535

@@ -1,9 +1,9 @@
 //! The block of raw memory as threads share it, and the tokens that step on it.
-ghost use Rattle.std.specs.Prelude.{◌≡◌, ◌+◌, ◌-◌, ◌*◌, ◌%◌, ◌^◌, ◌==◌, ◌<◌, ◌≤◌, ℕ, List, [], ◌∷◌, Some, None, map, length, replicate, slice_index};
+ghost use Rattle.std.specs.Prelude.{◌≡◌, ◌+◌, ◌-◌, ◌*◌, ◌%◌, ◌^◌, ◌==◌, ◌<◌, ◌≤◌, ℕ, List, [], ◌∷◌, ◌++◌, Some, None, map, length, take, drop, replicate, slice_index};
 ghost use base.Stored.{coded_list};
 ghost use prog.Atomic.{either};
-ghost use Rattle.packet_ring.specs.Table.{no_right, flat, Allows, cells_of, renewed, settled, written};
-ghost use Rattle.packet_ring.specs.Lent.{BlockId, block_id_coded, block_owns, block_shares, mine, waiting};
+ghost use Rattle.packet_ring.specs.Table.{no_right, flat, Allows, cells_of, grown, renewed, settled, written};
+ghost use Rattle.packet_ring.specs.Lent.{BlockId, block_id_coded, block_owns, block_shares, bytes_from, carried_shows, mine, waiting};
 ghost use Rattle.packet_ring.specs.Rule.{Knows, View, knows_coded, view_coded, packet_coded, Holds, fresh_units, fresh_views};
 ghost use Rattle.packet_ring.specs.Operation.{Operation};
 ghost use Rattle.packet_ring.specs.Steps.{MayRead, MayWrite, Step, step};
@@ -11,6 +11,7 @@ ghost use Rattle.packet_ring.specs.Steps.{MayRead, MayWrite, Step, step};
 use crate::places::{Base, Places};
 use atomic_table::exchange;
 use std::marker::{Brand, Model, PhantomData};
+use std::slice;
 use std::sync::atomic::Ordering::SeqCst;
 use std::sync::atomic::raw;
 
@@ -36,6 +37,8 @@ pub(crate) struct Token {
 
 impl Model for Token {
     ghost also_owns = { λ t. mine view_coded.code packet_coded t.id t.number t.me };
+
+    ghost also_shares = { λ t _ κ. carried_shows t.id t.me.right κ };
 }
 
 /// What a step tells its caller.
@@ -57,18 +60,19 @@ impl Model for Spares {
 }
 
 impl Shared {
-    /// A block of fresh units, and all its tokens.
+    /// A block of fresh units, the places for whose bytes are empty and lie behind them, and all its tokens.
     pub(crate) fn deal(
         start: Base<u64>,
         places: Places<u64>,
         keep: usize,
         seats: usize,
         width: usize,
+        room: usize,
         most: usize,
     ) -> (Shared, Spares)
         requires sizes { (1 ≤ keep) × (seats ≤ 1024) }
-        requires zeros { (places.at ≡ start.ptr) × (places.slots ≡ map Some (flat (fresh_units keep width))) }
-        ensures block { (result.0.base ≡ start.ptr) × (result.0.id.units ≡ keep + 2) × (result.0.id.width ≡ width) × (result.0.id.limits ≡ (seats, most)) }
+        requires zeros { (places.at ≡ start.ptr) × (places.slots ≡ map Some (flat (fresh_units keep width)) ++ replicate ((keep + 2) * room) None) }
+        ensures block { (result.0.base ≡ start.ptr) × (result.0.id.units ≡ keep + 2) × (result.0.id.width ≡ width) × (result.0.id.room ≡ room) × (result.0.id.limits ≡ (seats, most)) }
         ensures spares { (result.1.id ≡ result.0.id) × (result.1.next ≡ 0) × (result.1.views ≡ fresh_views seats) }
     {
         let Places { mark: _ } = places;
@@ -83,7 +87,7 @@ impl Shared {
 
     /// The memory comes back once nobody shares the block.
     pub(crate) fn gather(self) -> (Base<u64>, Places<u64>)
-        ensures { (result.0.ptr ≡ self.base) × (result.1.at ≡ self.base) × (result.1.slots ≡ replicate (self.id.units * (self.id.width + 1)) None) }
+        ensures { (result.0.ptr ≡ self.base) × (result.1.at ≡ self.base) × (result.1.slots ≡ replicate (self.id.units * (self.id.width + 1) + self.id.units * self.id.room) None) }
     {
         let Shared { base } = self;
         (Base { ptr: base }, Places { mark: PhantomData })
@@ -181,7 +185,7 @@ impl Shared {
     /// One cell of a unit that the token may read, which lies `at` words from the first.
     pub(crate) fn read(&self, token: &mut Token, unit: usize, at: usize, cell: usize) -> u64
         requires { (token.old.id ≡ self.now.id) × MayRead token.old.me.right unit × (cell < self.now.id.width) × (at ≡ unit * (self.now.id.width + 1) + 1 + cell) }
-        ensures { (token.new ≡ token.old) × (length (cells_of token.old.me.right) ≡ self.now.id.width) × (result ≡ slice_index (cells_of token.old.me.right) cell) }
+        ensures { (token.new ≡ token.old) × (self.now.id.width ≤ length (cells_of token.old.me.right)) × (result ≡ slice_index (cells_of token.old.me.right) cell) }
     {
         let _ = unit;
         let _ = cell;
@@ -191,7 +195,7 @@ impl Shared {
     /// Writes one cell of a unit that the token may write.
     pub(crate) fn write(&self, token: &mut Token, unit: usize, at: usize, cell: usize, value: u64)
         requires { (token.old.id ≡ self.now.id) × MayWrite token.old.me.right unit × (cell < self.now.id.width) × (at ≡ unit * (self.now.id.width + 1) + 1 + cell) }
-        ensures { (token.new.id ≡ token.old.id) × (token.new.number ≡ token.old.number) × (length (cells_of token.old.me.right) ≡ self.now.id.width) × (token.new.me ≡ written token.old.me cell value) }
+        ensures { (token.new.id ≡ token.old.id) × (token.new.number ≡ token.old.number) × (self.now.id.width ≤ length (cells_of token.old.me.right)) × (token.new.me ≡ written token.old.me cell value) }
     {
         let _ = unit;
         let _ = cell;
@@ -199,6 +203,37 @@ impl Shared {
             let place = self.base.add(at);
             *place = value;
         }
+    }
+
+    /// Writes the byte at `place` of a unit that the token may write, which lies `at` bytes from the block's
+    /// start, behind those that were written before it. Those that lay there are given up.
+    pub(crate) fn put(&self, token: &mut Token, unit: usize, at: usize, place: usize, value: u8)
+        requires right { (token.old.id ≡ self.now.id) × MayWrite token.old.me.right unit }
+        requires place { (place < self.now.id.room * 8) × (self.now.id.width + place ≤ length (cells_of token.old.me.right)) × (at ≡ bytes_from self.now.id unit + place) }
+        ensures { (token.new.id ≡ token.old.id) × (token.new.number ≡ token.old.number) × (token.new.me ≡ grown token.old.me (self.now.id.width + place) value) }
+    {
+        let _ = unit;
+        let _ = place;
+        unsafe {
+            let to = (self.base as *mut u8).add(at);
+            to.write(value)
+        }
+    }
+
+    /// The first `len` bytes of a unit that the token may read, which lie `at` bytes from the block's start.
+    pub(crate) fn lend<'a>(
+        &'a self,
+        token: &'a Token,
+        unit: usize,
+        at: usize,
+        len: usize,
+    ) -> &'a [u8]
+        requires right { (token.now.id ≡ self.now.id) × MayRead token.now.me.right unit }
+        requires bytes { (unit < self.now.id.units) × (len ≤ self.now.id.room * 8) × (at ≡ bytes_from self.now.id unit) × (self.now.id.width + len ≤ length (cells_of token.now.me.right)) }
+        ensures { result.now ≡ take len (drop self.now.id.width (cells_of token.now.me.right)) }
+    {
+        let _ = unit;
+        unsafe { slice::from_raw_parts((self.base as *const u8).add(at), len) }
     }
 
     /// A new round of the cells begins, which the token may end: what it wrote may be shared.

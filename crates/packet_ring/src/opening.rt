@@ -26,11 +26,11 @@ pub fn new(
     requires packet_bytes { (1 ≤ packet_bytes) × (packet_bytes ≤ 65535) }
     ensures sizes { IfOk result (λ r. (keep_of r.0.ring ≡ keep) × (seats_of r.0.ring ≡ seats) × (packet_bytes_of r.0.ring ≡ packet_bytes)) }
     ensures lines { IfOk result (λ r. HasOwnLines r.0.ring) }
-    ensures room { IfOk result (λ r. block_bytes r.0.ring ≤ (keep + 2) * (packet_bytes + 80)) }
+    ensures room { IfOk result (λ r. block_bytes r.0.ring ≤ (keep + 2) * (packet_bytes + 71)) }
     ensures publisher { IfOk result (λ r. (r.0.log ≡ []) × (r.0.failed ≡ 0) × (r.0.pins ≡ 0)) }
     ensures passes { IfOk result (λ r. r.1.items ≡ replicate seats (new_pass r.0.ring)) }
 {
-    let (block, spares) = Block::new(alloc, keep, seats, width_for(packet_bytes), packet_bytes)?;
+    let (block, spares) = Block::new(alloc, keep, seats, room_for(packet_bytes), packet_bytes)?;
     let ring = Arc::new(alloc, block)?;
     let (token, spares) = spares.take();
     let passes = passes(alloc, &ring, spares, seats)?;
@@ -42,16 +42,14 @@ pub fn new(
     Ok((publisher, passes))
 }
 
-/// How many cells a slot has: one for a packet's length, and one for each eight bytes of its tag and its
-/// bytes. With its word a slot is a whole number of 64 bytes, so that no two words share a cache line.
-fn width_for(packet_bytes: usize) -> usize
+/// How many places for bytes a slot has, in eights.
+fn room_for(packet_bytes: usize) -> usize
     requires { packet_bytes ≤ 65535 }
-    ensures fits { packet_bytes + 9 ≤ 8 * result }
-    ensures narrow { result ≤ 16384 }
-    ensures lines { 8 * (result + 1) % 64 ≡ 0 }
-    ensures room { 8 * (result + 1) ≤ packet_bytes + 80 }
+    ensures fits { packet_bytes ≤ 8 * result }
+    ensures narrow { result ≤ 8192 }
+    ensures room { 8 * result ≤ packet_bytes + 7 }
 {
-    (packet_bytes / 8 + 10) / 8 * 8 - 1
+    packet_bytes.div_ceil(8)
 }
 
 /// A pass for each seat of a new ring.

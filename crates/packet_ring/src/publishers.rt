@@ -59,7 +59,7 @@ impl Publisher {
             &block.shared,
             &mut self.token,
             block.keep,
-            block.width,
+            block.room,
             self.count,
             tag,
             bytes,

@@ -9,7 +9,7 @@ use crate::block::{Shared, Token};
 use crate::head::append;
 use crate::packets::put;
 use crate::sending::{begin, finish};
-use crate::words::{NUMBER, WRITING};
+use crate::words::{CELLS, NUMBER, WRITING, start_of};
 use std::marker::Brand;
 
 /// Publishes a packet in a ring that keeps `keep` of them, after `count` others. It is refused where
@@ -18,13 +18,13 @@ pub(crate) fn publish(
     block: &Shared,
     token: &mut Token,
     keep: usize,
-    width: usize,
+    room: usize,
     count: u64,
     tag: u8,
     bytes: &[u8],
 ) -> Result<(), u64>
-    requires same { (token.old.id ≡ block.now.id) × (block.now.id.units ≡ keep + 2) × (block.now.id.width ≡ width) }
-    requires sizes { (keep ≤ 4095) × (width ≤ 16384) × (length bytes.now + 9 ≤ 8 * width) × (length bytes.now + 1 ≤ block.now.id.limits.1) }
+    requires same { (token.old.id ≡ block.now.id) × (block.now.id.units ≡ keep + 2) × (block.now.id.width ≡ 7) × (block.now.id.room ≡ room) }
+    requires sizes { (keep ≤ 4095) × (room ≤ 8192) × (length bytes.now ≤ 8 * room) × (length bytes.now + 1 ≤ block.now.id.limits.1) }
     requires publisher { IsPublisher token.old.number token.old.me publishing.Between × (token.old.me.right ≡ no_right) × ((publisher_of token.old.me.view).closed ≡ false) }
     requires count { (count ≡ length (log_of token.old.me.view)) × (count < 2 ^ 46) }
     ensures same { (token.new.id ≡ token.old.id) × (token.new.number ≡ token.old.number) }
@@ -32,7 +32,7 @@ pub(crate) fn publish(
     ensures pinned { IfErr result (λ pins. Pinned block.now.id.limits.0 pins token.old.me token.new.me) }
 {
     let unit = (count % (keep as u64 + 1)) as usize + 1;
-    let at = unit * (width + 1);
+    let at = unit * (CELLS + 1);
     let oldest = count.saturating_sub(keep as u64);
     let known = NUMBER * oldest;
     let found = begin::<Brand>(block, token, unit, at, known, tag, bytes);
@@ -40,7 +40,8 @@ pub(crate) fn publish(
         return Err(found % WRITING);
     }
     token.settle();
-    put(block, token, unit, at + 1, tag, bytes);
+    let start = start_of(keep, room, unit);
+    put(block, token, unit, at + 1, start, tag, bytes);
     block.renew(token);
     finish(
         block,

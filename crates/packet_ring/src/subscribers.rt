@@ -1,7 +1,10 @@
 //! Seats that are attached, and read from the ring.
-ghost use Rattle.std.specs.Prelude.{◌≡◌, ◌⊎◌, ◌+◌, ◌*◌, ◌^◌, ◌<◌, ◌≤◌, length};
+ghost use Rattle.std.specs.Prelude.{◌≡◌, ◌⊎◌, ◌+◌, ◌*◌, ◌^◌, ◌<◌, ◌≤◌, ℕ, length};
 ghost use Rattle.std.specs.Arc.{arc_value};
-ghost use Rattle.cursor.specs.Account.{cursor_of};
+ghost use Rattle.cursor.specs.Account.{counted as counted_by, cursor_of};
+ghost use Rattle.cursor.specs.Visits.{answer_of};
+ghost use Rattle.cursor.specs.declared.takes.Delivery.{Delivery};
+ghost use Rattle.cursor.specs.declared.takes.Taken.TheVariants as answers;
 ghost use Rattle.packet_ring.specs.Calls.{SeesOn, TakesNext, head_of};
 ghost use Rattle.packet_ring.specs.Views.{IsSubscribed, Subscribing, packet_bytes_of, subscribing_of};
 
@@ -10,8 +13,8 @@ use crate::block::Token;
 use crate::head::detach;
 use crate::passes::Pass;
 use crate::receipts::Receipt;
-use crate::taking::take;
-use cursor::{Account, Left, Taken, Tap};
+use crate::taking::take_with;
+use cursor::{Account, Copying, Left, Lend, Taken, Tap, Visit};
 use std::alloc::Global;
 use std::marker::Model;
 use std::sync::Arc;
@@ -112,22 +115,8 @@ impl Tap for Subscriber {
 
     /// Takes the next packet as the log was at this call's last load. Takes no memory and doesn't wait.
     fn take(&mut self, buf: &mut [u8]) -> Taken {
-        let block: &Block = &self.ring;
-        let (taken, known) = take(
-            &block.shared,
-            &mut self.token,
-            block.keep,
-            block.width,
-            self.account.cursor(),
-            buf,
-        );
-        self.known = known;
-        match taken {
-            Taken::Packet { .. } => self.account.taken += 1,
-            Taken::Lost(count) => self.account.lost += count,
-            Taken::Empty | Taken::Ended => {}
-        }
-        taken
+        let mut copying = Copying::new(buf);
+        self.take_with(&mut copying)
     }
 
     fn cursor(&self) -> u64 {
@@ -144,4 +133,38 @@ impl Tap for Subscriber {
     }
 
     ghost counts = { λ old d new h. h.counts };
+}
+
+impl Lend for Subscriber {
+    /// Shows the next packet where it lies, as the log was at this call's last load. No publish gets the
+    /// packet's place while the visitor looks, and nothing is held when the call returns. Takes no memory and
+    /// doesn't wait.
+    fn take_with<V: Visit>(&mut self, visitor: &mut V) -> Taken {
+        let block: &Block = &self.ring;
+        let (taken, known) = take_with(
+            &block.shared,
+            &mut self.token,
+            block.keep,
+            block.room,
+            self.account.cursor(),
+            visitor,
+        );
+        self.known = known;
+        self.account = counted(self.account, taken);
+        taken
+    }
+}
+
+/// The account after a take that answered so.
+fn counted(account: Account, taken: Taken) -> Account
+    requires { (cursor_of account ≤ 2 ^ 46) × ((count : ℕ) → taken ≡ answers.Lost count → count ≤ 2 ^ 46) }
+    ensures { (d : Delivery) → taken ≡ answer_of d → result ≡ counted_by d account }
+{
+    let mut after = account;
+    match taken {
+        Taken::Packet { .. } => after.taken += 1,
+        Taken::Lost(count) => after.lost += count,
+        Taken::Empty | Taken::Ended => {}
+    }
+    after
 }

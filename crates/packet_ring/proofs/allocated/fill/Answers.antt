@@ -3,7 +3,7 @@ use Rattle.packet_ring.proofs.Grounds.{one_changed}
 use Rattle.packet_ring.proofs.allocated.fill.Goals as goal
 
 pub loop-i-preserved : goal.loop-i-preserved
-loop-i-preserved c = let so = c.loop-i.invariant in let w = c.write.ensures in let i : ℕ = c.loop-i.i in let n : ℕ = c.args.words in let test : i < n = c.loop-i-test.true in let full : Option ℕ = Some 0 in let none : Option ℕ = None in
+loop-i-preserved c = let so = c.loop-i.invariant in let w = c.write.ensures in let i : ℕ = c.loop-i.i in let n : ℕ = c.args.all in let test : i < c.args.words = c.loop-i-test.true in let within = c.requires.2 in let full : Option ℕ = Some 0 in let none : Option ℕ = None in
     let left : n - i ≡ suc (n - (i + 1)) = omega arith in let next : suc i ≡ i + 1 = omega arith in (
       omega arith,
       w.0 ∙ so.1,

@@ -1,30 +1,31 @@
-use Rattle.std.proofs.Common.{◌≡◌, ◌+◌, ◌*◌, ◌<◌, ◌∷◌, length, ℕ, suc, List, ap, ◌∙◌, subst, arith}
-use Rattle.packet_ring.specs.Table.{written}
+use Rattle.std.proofs.Common.{◌≡◌, ℕ, suc, ◌+◌, ◌<◌, List, length, get_or, ap, ◌∙◌, subst, arith}
+use Rattle.packet_ring.specs.Table.{grown}
 use Rattle.packet_ring.specs.Rule.{Knows}
-use Rattle.packet_ring.specs.Packing.{word_at, AreBytes}
-use Rattle.packet_ring.proofs.Putting.{Put, started, one_more, all_put}
-use Rattle.packet_ring.proofs.Unpacking.{with_tag}
+use Rattle.packet_ring.proofs.Putting.{Put, may_on, started, one_more}
 use Rattle.packet_ring.proofs.packets.put.Goals as goal
 
-pub loop-cell-init : goal.loop-cell-init
-loop-cell-init c = let old : Knows = c.args.token.now.me in let bs : List ℕ = c.args.bytes.now in let w = c.write.ensures in let fits = c.requires.fits in let e : length bs + 1 ≡ suc (length bs) = omega arith in (
-  w.0,
-  w.1,
+pub write-requires-2 : goal.write-requires-2
+write-requires-2 c = let w = c.write.ensures in let seven = c.requires.fits.2 in (
+  w.0 ∙ c.requires.right.0,
+  may_on c.args.token.now.me c.write.new.token.me c.args.unit (length c.args.bytes.now + 1) c.requires.right.1 w.3,
   omega arith,
-  started old c.args.unit c.args.block.now.id.width (c.args.tag ∷ bs) (omega arith) c.requires.right.1 w.2 c.write.new.token.me (w.3 ∙ ap (λ (n : ℕ). written old 0 n) e),
+  ap (λ (n : ℕ). n + 1) c.requires.first.0,
 )
 
-pub loop-cell-preserved : goal.loop-cell-preserved
-loop-cell-preserved c = let old : Knows = c.args.token.now.me in let p : List ℕ = c.args.tag ∷ c.args.bytes.now in let n : ℕ = c.loop-cell.cell in let me : Knows = c.loop-cell.token.me in let next : Knows = c.write-in-loop-cell.new.token.me in
-    let so = c.loop-cell.invariant in let w = c.write-in-loop-cell.ensures in let fits = c.requires.fits in let test = c.loop-cell-test.true in let width : ℕ = c.args.block.now.id.width in
-    let e : 1 + n ≡ suc n = omega arith in let f : suc n ≡ n + 1 = omega arith in let near : suc n < width = omega arith in
-    let is : next ≡ written me (suc n) (word_at 8 p (8 * n)) = w.3 ∙ (λ i. written me (e i) (c.word.ensures i)) in (
-      w.0 ∙ so.0,
-      w.1 ∙ so.1,
-      omega arith,
-      subst (λ (k : ℕ). Put old c.args.unit width p k next) f (one_more old c.args.unit width p n me next so.3 near is),
-    )
+pub loop-copied-init : goal.loop-copied-init
+loop-copied-init c = let w = c.write.ensures in let v = c.write-2.ensures in let seven = c.requires.fits.2 in let wide = w.2 in (
+  v.0 ∙ w.0,
+  v.1 ∙ w.1,
+  omega arith,
+  started c.args.token.now.me c.args.unit c.args.tag c.args.bytes.now c.requires.right.1 (omega arith) c.write.new.token.me c.write-2.new.token.me w.3 v.3,
+)
 
-pub returns-clause-packet : goal.returns-clause-packet
-returns-clause-packet c = let p : List ℕ = c.args.tag ∷ c.args.bytes.now in let n : ℕ = c.loop-cell.cell in let test = c.loop-cell-test.false in let fits = c.requires.fits in let small : AreBytes p = with_tag c.args.tag c.args.bytes.now c.ranges.tag.fits (λ i. (c.type_inv.bytes i).fits) in
-    all_put c.args.token.now.me c.args.unit c.args.block.now.id.width p n c.loop-cell.token.me c.loop-cell.invariant.3 small (omega arith) (omega arith)
+pub loop-copied-preserved : goal.loop-copied-preserved
+loop-copied-preserved c = let old : Knows = c.args.token.now.me in let bs : List ℕ = c.args.bytes.now in let n : ℕ = c.loop-copied.copied in let me : Knows = c.loop-copied.token.me in let next : Knows = c.put.new.token.me in
+    let so = c.loop-copied.invariant in let p = c.put.ensures in let near : n < length bs = c.loop-copied-test.true in let seven = c.requires.fits.2 in let e : suc n ≡ n + 1 = omega arith in
+    let is : next ≡ grown me (7 + n) (get_or bs n 0) = p.2 ∙ ap (λ (w : ℕ). grown me (w + n) (get_or bs n 0)) seven in (
+      p.0 ∙ so.0,
+      p.1 ∙ so.1,
+      omega arith,
+      subst (λ (k : ℕ). Put old c.args.unit c.args.tag bs k next) e (one_more old c.args.unit c.args.tag bs n me next so.3 near is),
+    )

@@ -1,6 +1,6 @@
 -- `read` looks into one cell of a unit through the token's part of the right to read it.
 use Rattle.atomic_table.proofs.Names.{◌≡◌, ℕ, ◌+◌, ◌*◌, ◌^◌, ◌<◌, List, [], ◌∷◌, sym, refl, ap, w64, named, Val, vint, vptr, SProp, emp, Lft, Share, Fml, ftrue, flft, sem, ‵, raw, ◌⊛◌, some, given, at_ret, ◌$◌, ◌∵◌, !, qed, by, move, keep, drop, split, split3, join, fsplit, fsplit3, fjoin, fjoin3, fpick, fpack, pick, learn, use0, use1, use2, rewrite, feq_i, flt_i, stop, fld, load, lit, of_opd, bin, first, blocks, exec, look_raw, returns, enter, alloc_all, pass_all, free_all, look_at, get, through, sets, sets_last, is, env, sub, whole, look_in, tables, yes, RattleType, owns, types_at, plain, Ptr, block_ptr, ptr_val, nothing, Stays, stay_dropped, walk_of, Goes-dropped, fact, fact_i, fact_use, Is, shows, cell_at, hidden_shr, peeks, block_of, count_of, at_block, guard_i, RefOf, usize, u64, mut_vals, mut_Tells, shr_vals, shr_Tells, uint_vals, uint_Tells, opens, closes, stay_ref, Goes-ref, unhide, looks, shuts, lent_out, shr_bor-open, obor_close, tokens_halve, length, apply∗, sep, wand, ◌∙◌}
-use Rattle.std.proofs.Common.{get_or}
+use Rattle.std.proofs.Common.{get_or, ◌≤◌, subst}
 use Rattle.atomic_table.proofs.Walks.{proved, leaves}
 use Rattle.core.proofs.atomic.Steps.{tail}
 use Rattle.packet_ring.specs.Table.{Right, may_read, cells_of}
@@ -46,7 +46,7 @@ read_spec 𝓤 𝓛 𝓜 𝓡 wired =
     sets ! (bin ! (get ! refl) (lit ! tt) (record { fits = small })) refl (tt, record { fits = small }) $ sets ! (bin ! (get ! refl) (get ! refl) tt) refl (tt, tt) $
     rewrite ! 1 (λ (ws : List Val). ‵ (cell_at q' D.mir ws b o)) (sym ev) refl $ move ! (1 ∷ 0 ∷ 2 ∷ []) $ shuts ! tt D q' (p, tt) vs b o $ move ! (10 ∷ 0 ∷ []) $
     shr_bor-open ! tt (tokens_halve 𝓛 α) (λ s. move ! (3 ∷ 1 ∷ []) $ let Whole : SProp 𝓤 = sep 𝓤 (sem 𝓛 (reader here x)) (𝓛.A.lft α s) in
-    use2 𝓛 (given (length x ≡ z.width) (some (λ (u : ℕ × Share). ‵ (hidden_shr u64 (u.0 ∷ α) n z.block (j * 8 + (unit_at z i + 8))) ⊛ ‵ (flft (u.0 ∷ α) u.1) ⊛ raw (wand 𝓤 (𝓛.A.lft (u.0 ∷ α) u.1) Whole)))) (sighted 𝓛 here x j s asked.2) $ learn ! (λ long. pick ! (λ u. split3 ! $
+    use2 𝓛 (given (z.width ≤ length x) (some (λ (u : ℕ × Share). ‵ (hidden_shr u64 (u.0 ∷ α) n z.block (j * 8 + (unit_at z i + 8))) ⊛ ‵ (flft (u.0 ∷ α) u.1) ⊛ raw (wand 𝓤 (𝓛.A.lft (u.0 ∷ α) u.1) Whole)))) (sighted 𝓛 here x j s asked.2) $ learn ! (λ long. pick ! (λ u. split3 ! $
     rewrite ! 0 (λ (w : Ptr). ‵ (hidden_shr u64 (u.0 ∷ α) n (block_of w) (count_of w))) (sym (reached_cell p z i j k at asked.3)) refl $
     looks ! tt u64 (cell_opens 𝓛) n (block_of p) e (λ q'' ws. move ! (1 ∷ []) $ peeks ! u64 (Is u64) (shows 𝓛 u64) n ws (λ told. rewrite ! 1 (λ (vs : List Val). ‵ (cell_at q'' u64.mir vs (block_of p) e)) told.0 refl $
     sets_last ! (of_opd ! (load ! (through ! refl (stop !)) (look_raw ! 1 refl))) refl (tt, record { fits = told.1 }) $ exec ! 𝓣.C 𝓣.Λ Ev (tail fn.body) (at_ret Ev Post) $ sets ! (of_opd ! (get ! refl)) refl (tt, record { fits = told.1 }) $
@@ -54,8 +54,8 @@ read_spec 𝓤 𝓛 𝓜 𝓡 wired =
     use2 𝓛 (‵ (reader here x) ⊛ ‵ (flft α s)) (apply∗ 𝓤 (𝓛.A.lft (u.0 ∷ α) u.1) Whole) $ split ! $ move ! (2 ∷ 1 ∷ []) $ obor_close ! tt $ drop ! $ move ! (1 ∷ []) $
     nothing ! $ fpack ! (i < z.units) (λ _. ftrue) near $ fjoin ! $ rewrite ! 0 (λ (r : Right). ‵ (carried z r)) (sym may) refl $ move ! (3 ∷ 4 ∷ 0 ∷ []) $ fjoin3 ! $
     rewrite ! 0 (λ (w : BlockId). ‵ (mine view_coded.code packet_coded w id v)) (sym asked.0) refl $ move ! (3 ∷ 0 ∷ []) $ fjoin ! $ move ! (3 ∷ 0 ∷ 4 ∷ 5 ∷ 6 ∷ []) $
-    let Told : Type 0 = (h ≡ h) × (length (cells_of v.right) ≡ z.width) × (n ≡ get_or (cells_of v.right) j 0) in let same : cells_of v.right ≡ x = ap cells_of may in
+    let Told : Type 0 = (h ≡ h) × (z.width ≤ length (cells_of v.right)) × (n ≡ get_or (cells_of v.right) j 0) in let same : cells_of v.right ≡ x = ap cells_of may in
     closes ! tt Sr h ts b' o' $ feq_i ! (List Val) (vptr b' o' ∷ []) (vptr b' o' ∷ []) refl $ fjoin3 ! $
     nothing ! $ nothing ! $ fjoin ! $ nothing ! $ fjoin ! $ nothing ! $ fjoin ! $ move ! (1 ∷ 0 ∷ []) $ fjoin ! $ nothing ! $ fjoin ! $ move ! (1 ∷ 4 ∷ []) $ join ! $ move ! (2 ∷ 0 ∷ []) $ join ! $
-    use0 𝓛 (raw (fact 𝓤 Told)) (fact_i 𝓤 Told (emp 𝓤) (refl, ap length same ∙ long, ap (λ (xs : List ℕ). get_or xs j 0) (sym same))) $ flt_i ! n (2 ^ 64) told.1 $ feq_i ! (List Val) (vint w64 n ∷ []) (vint w64 n ∷ []) refl $ fjoin ! $
+    use0 𝓛 (raw (fact 𝓤 Told)) (fact_i 𝓤 Told (emp 𝓤) (refl, subst (λ (xs : List ℕ). z.width ≤ length xs) (sym same) long, ap (λ (xs : List ℕ). get_or xs j 0) (sym same))) $ flt_i ! n (2 ^ 64) told.1 $ feq_i ! (List Val) (vint w64 n ∷ []) (vint w64 n ∷ []) refl $ fjoin ! $
     returns ! (look_at ! 0 refl) $ free_all ! refl $ keep ! (2 ∷ 3 ∷ 0 ∷ 1 ∷ []) $ by ! (leaves 𝓛 En hs c y (vint w64 n) n (tt, (h, (tt, (tt, (tt, tt))))) (tt, (tt, (tt, (tt, (tt, tt)))))))))))))))))))
