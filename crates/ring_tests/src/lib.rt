@@ -7,6 +7,8 @@ mod back_tests;
 #[cfg(test)]
 mod closing_tests;
 #[cfg(test)]
+mod lending_tests;
+#[cfg(test)]
 mod log_tests;
 #[cfg(test)]
 mod memory_tests;

@@ -265,7 +265,7 @@ fn byte_of(number: u64, place: usize) -> u8 {
 }
 
 /// Publishes so many packets, each as soon as its place is free, and closes the ring. Tells how many publishes met a reader.
-fn publish_all(rt: &impl Wait, mut publisher: Publisher, count: u64) -> u64 {
+pub(crate) fn publish_all(rt: &impl Wait, mut publisher: Publisher, count: u64) -> u64 {
     let mut bytes = [0; ROOM];
     let mut refused = 0u64;
     let mut next = 0;
@@ -290,7 +290,7 @@ fn publish_all(rt: &impl Wait, mut publisher: Publisher, count: u64) -> u64 {
 }
 
 /// Whether these are the bytes of the packet with this number.
-fn is_packet(number: u64, bytes: &[u8]) -> bool {
+pub(crate) fn is_packet(number: u64, bytes: &[u8]) -> bool {
     for place in 0..bytes.len() {
         if bytes[place] != byte_of(number, place) {
             return false;
