@@ -1,5 +1,5 @@
 -- The packet in a unit is its tag and the first of its bytes.
-use Rattle.std.proofs.Common.{◌≡◌, ℕ, suc, ◌+◌, ◌-◌, ◌%◌, ◌≤◌, List, ◌∷◌, length, get_or, take, drop, sym, ap, ◌∙◌, arith, length-take, length-drop}
+use Rattle.std.proofs.Common.{◌≡◌, ℕ, suc, ◌+◌, ◌-◌, ◌%◌, ◌≤◌, List, ◌∷◌, length, get_or, take, drop, ap, ◌∙◌, arith, length-take, length-drop}
 use Rattle.packet_ring.specs.Rule.{bytes_of}
 use Rattle.packet_ring.specs.Steps.{HasPacket}
 

@@ -11,6 +11,7 @@ use std::alloc::{AllocError, Global};
 /// The ring's one block of memory. It is freed when the last of its owners is gone.
 pub(crate) struct Block {
     pub(crate) shared: Shared,
+    pub(crate) start: Base<u64>,
     /// How many packets the ring keeps.
     pub(crate) keep: usize,
     /// How many places for bytes a slot has, in eights.
@@ -21,6 +22,7 @@ pub(crate) struct Block {
     deed: Deed<u64, Global>,
     heap: Global,
     pub(crate) ghost sizes: { HasSizes shared.id keep room packet_bytes },
+    pub(crate) ghost starts: { start.ptr ≡ shared.base },
     ghost counted: { places ≡ shared.id.units * (shared.id.width + 1) + shared.id.units * shared.id.room },
     ghost owed: { (deed.at ≡ shared.base) × (deed.len ≡ places) × (deed.alloc ≡ heap) },
 }
@@ -62,6 +64,7 @@ impl Block {
         let (shared, spares) = Shared::deal(start, places, keep, seats, CELLS, room, most);
         let block = Block {
             shared,
+            start,
             keep,
             room,
             packet_bytes,
@@ -77,6 +80,7 @@ impl Drop for Block {
     fn drop(self) {
         let Block {
             shared,
+            start: _,
             keep: _,
             room: _,
             packet_bytes: _,

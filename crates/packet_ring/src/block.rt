@@ -206,16 +206,25 @@ impl Shared {
     }
 
     /// Writes the byte at `place` of a unit that the token may write, which lies `at` bytes from the block's
-    /// start, behind those that were written before it. Those that lay there are given up.
-    pub(crate) fn put(&self, token: &mut Token, unit: usize, at: usize, place: usize, value: u8)
-        requires right { (token.old.id ≡ self.now.id) × MayWrite token.old.me.right unit }
+    /// start, behind those that were written before it. Those that lay there are given up. The start is handed
+    /// in, so that a loop of writes doesn't read it again after each.
+    pub(crate) fn put(
+        &self,
+        token: &mut Token,
+        base: Base<u64>,
+        unit: usize,
+        at: usize,
+        place: usize,
+        value: u8,
+    )
+        requires right { (token.old.id ≡ self.now.id) × MayWrite token.old.me.right unit × (base.ptr ≡ self.now.base) }
         requires place { (place < self.now.id.room * 8) × (self.now.id.width + place ≤ length (cells_of token.old.me.right)) × (at ≡ bytes_from self.now.id unit + place) }
         ensures { (token.new.id ≡ token.old.id) × (token.new.number ≡ token.old.number) × (token.new.me ≡ grown token.old.me (self.now.id.width + place) value) }
     {
         let _ = unit;
         let _ = place;
         unsafe {
-            let to = (self.base as *mut u8).add(at);
+            let to = (base.ptr as *mut u8).add(at);
             to.write(value)
         }
     }

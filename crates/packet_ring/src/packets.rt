@@ -6,6 +6,7 @@ ghost use Rattle.packet_ring.specs.Steps.{HasPacket, MayRead, MayWrite, MayWrite
 ghost use Rattle.packet_ring.specs.Table.{cells_of};
 
 use crate::block::{Shared, Token};
+use crate::places::Base;
 use cursor::Visit;
 
 /// Writes a packet into a unit, of which the first cell lies `first` words and the first place `start` bytes
@@ -13,13 +14,14 @@ use cursor::Visit;
 pub(crate) fn put(
     block: &Shared,
     token: &mut Token,
+    base: Base<u64>,
     unit: usize,
     first: usize,
     start: usize,
     tag: u8,
     bytes: &[u8],
 )
-    requires right { (token.old.id ≡ block.now.id) × MayWrite token.old.me.right unit }
+    requires right { (token.old.id ≡ block.now.id) × MayWrite token.old.me.right unit × (base.ptr ≡ block.now.base) }
     requires first { (first ≡ unit * (block.now.id.width + 1) + 1) × (first < 2 ^ 32) × (start ≡ bytes_from block.now.id unit) × (start < 2 ^ 32) }
     requires fits { (length bytes.now ≤ block.now.id.room * 8) × (length bytes.now < 2 ^ 32) × (block.now.id.width ≡ 7) }
     ensures same { (token.new.id ≡ token.old.id) × (token.new.number ≡ token.old.number) }
@@ -30,7 +32,7 @@ pub(crate) fn put(
     block.write(token, unit, first + 1, 1, tag as u64);
     let mut copied = 0;
     while copied < bytes.len() {
-        block.put(token, unit, start + copied, copied, bytes[copied]);
+        block.put(token, base, unit, start + copied, copied, bytes[copied]);
         copied += 1;
     }
 }

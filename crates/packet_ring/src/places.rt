@@ -25,6 +25,10 @@ impl<T> Clone for Base<T> {
 
 impl<T> Copy for Base<T> {}
 
+unsafe impl<T> Send for Base<T> {}
+
+unsafe impl<T> Sync for Base<T> {}
+
 /// The owner of a block's places. It has no bytes.
 pub(crate) struct Places<T> {
     pub(crate) mark: PhantomData<*const T>,

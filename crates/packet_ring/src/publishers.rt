@@ -58,6 +58,7 @@ impl Publisher {
         match publish(
             &block.shared,
             &mut self.token,
+            block.start,
             block.keep,
             block.room,
             self.count,

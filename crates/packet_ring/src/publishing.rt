@@ -8,6 +8,7 @@ ghost use Rattle.packet_ring.specs.Tokens.{Pinned, Published};
 use crate::block::{Shared, Token};
 use crate::head::append;
 use crate::packets::put;
+use crate::places::Base;
 use crate::sending::{begin, finish};
 use crate::words::{CELLS, NUMBER, WRITING, start_of};
 use std::marker::Brand;
@@ -17,13 +18,14 @@ use std::marker::Brand;
 pub(crate) fn publish(
     block: &Shared,
     token: &mut Token,
+    base: Base<u64>,
     keep: usize,
     room: usize,
     count: u64,
     tag: u8,
     bytes: &[u8],
 ) -> Result<(), u64>
-    requires same { (token.old.id ≡ block.now.id) × (block.now.id.units ≡ keep + 2) × (block.now.id.width ≡ 7) × (block.now.id.room ≡ room) }
+    requires same { (token.old.id ≡ block.now.id) × (block.now.id.units ≡ keep + 2) × (block.now.id.width ≡ 7) × (block.now.id.room ≡ room) × (base.ptr ≡ block.now.base) }
     requires sizes { (keep ≤ 4095) × (room ≤ 8192) × (length bytes.now ≤ 8 * room) × (length bytes.now + 1 ≤ block.now.id.limits.1) }
     requires publisher { IsPublisher token.old.number token.old.me publishing.Between × (token.old.me.right ≡ no_right) × ((publisher_of token.old.me.view).closed ≡ false) }
     requires count { (count ≡ length (log_of token.old.me.view)) × (count < 2 ^ 46) }
@@ -41,7 +43,7 @@ pub(crate) fn publish(
     }
     token.settle();
     let start = start_of(keep, room, unit);
-    put(block, token, unit, at + 1, start, tag, bytes);
+    put(block, token, base, unit, at + 1, start, tag, bytes);
     block.renew(token);
     finish(
         block,

@@ -1,6 +1,6 @@
 -- `lend` shows the first bytes of a unit while the token's part of the right to read it is lent.
-use Rattle.atomic_table.proofs.Names.{◌≡◌, ℕ, ◌+◌, ◌*◌, ◌^◌, ◌<◌, List, [], ◌∷◌, ◌++◌, sym, refl, ap, w64, named, Val, vint, vptr, SProp, emp, Lft, Fml, ftrue, flft, sem, ‵, raw, ◌⊛◌, given, at_ret, ◌$◌, ◌∵◌, !, qed, by, move, keep, drop, split, join, fsplit, fsplit3, fjoin, learn, use0, use1, use2, rewrite, feq_i, flt_i, stop, fld, load, of_opd, bin, no_more, and_then, first, blocks, exec, returns, enter, alloc_all, pass_all, free_all, look_at, get, through, sets, sets_last, agg, is, env, sub, whole, look_in, tables, yes, RattleType, owns, types_at, plain, Ptr, block_ptr, ptr_val, nothing, Stays, stay_dropped, walk_of, Goes-dropped, fact, fact_i, fact_use, Is, shows, cell_at, hidden_shr, peeks, block_of, count_of, at_block, guard_i, RefOf, usize, u64, shr_vals, shr_Tells, uint_vals, uint_Tells, unhide, looks, shuts, lent_out, length, ◌∙◌}
-use Rattle.std.proofs.Common.{take, drop as drop_l, ◌≤◌, subst, arith, length-take, length-drop, mul-le-mul_right, one-mul, suc}
+use Rattle.atomic_table.proofs.Names.{◌≡◌, ℕ, ◌+◌, ◌*◌, ◌^◌, ◌<◌, List, [], ◌∷◌, sym, refl, ap, w64, named, Val, vint, vptr, SProp, emp, Lft, Fml, ftrue, flft, sem, ‵, raw, ◌⊛◌, given, at_ret, ◌$◌, ◌∵◌, !, qed, by, move, keep, drop, split, join, fsplit, fsplit3, fjoin, learn, use0, use1, use2, rewrite, feq_i, flt_i, stop, fld, load, of_opd, bin, no_more, and_then, first, blocks, exec, returns, enter, alloc_all, pass_all, free_all, look_at, get, through, sets, sets_last, agg, is, env, sub, whole, look_in, tables, yes, RattleType, owns, types_at, plain, Ptr, block_ptr, ptr_val, nothing, Stays, stay_dropped, walk_of, Goes-dropped, fact, fact_i, fact_use, Is, shows, cell_at, hidden_shr, peeks, block_of, count_of, at_block, guard_i, RefOf, usize, u64, shr_vals, shr_Tells, uint_vals, uint_Tells, unhide, looks, shuts, lent_out, length}
+use Rattle.std.proofs.Common.{take, drop as drop_l, ◌≤◌, subst, arith, length-take, length-drop}
 use denote.Builtin.{u8}
 use denote.Opens.{hide}
 use denote.Slice.{slice_val, elements_shared}
