@@ -41,7 +41,7 @@ fn settings(alloc: Global, line: &str) -> Result<Option<Settings>, Fail> {
 }
 
 /// Lines of `serve`, and what they ask for.
-const ACCEPTED: [(&str, Settings); 10] = [
+const ACCEPTED: [(&str, Settings); 11] = [
     ("relay serve 127.0.0.1:8554", DEFAULTS),
     (
         "relay serve a --keep 1 --seats 1 --packet-bytes 12 --accept 1 --gather 0 --back 0 --idle 0 --writers 0",
@@ -98,6 +98,13 @@ const ACCEPTED: [(&str, Settings); 10] = [
         "relay serve a --gather 7",
         Settings {
             gather: 7,
+            ..DEFAULTS
+        },
+    ),
+    (
+        "relay serve a --back 7",
+        Settings {
+            back: 7,
             ..DEFAULTS
         },
     ),
