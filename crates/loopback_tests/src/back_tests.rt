@@ -269,6 +269,8 @@ fn plays_and_pauses<R: Net<Stream = TcpStream> + Abort>(rt: &R, alloc: Global, a
             "{}",
             stay.told
         );
+        // A PLAY of what plays begins nothing anew (RFC 2326, 10.5).
+        assert!(rt; player.status_of(rt, &play(2)) == 200);
         assert!(rt;
             status_in(rt, alloc, &mut player, "PAUSE", 2) == 200,
             "{}",
