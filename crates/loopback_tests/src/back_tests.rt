@@ -228,7 +228,7 @@ struct Stay {
     told: &'static str,
 }
 
-/// Of two packets back all lie behind the pause, then one, and then none.
+/// After the first pause both packets back are older than it, after the second one of them is, and after the third none.
 const STAYS: [Stay; 4] = [
     Stay {
         before: 10,
@@ -281,7 +281,7 @@ fn plays_and_pauses<R: Net<Stream = TcpStream> + Abort>(rt: &R, alloc: Global, a
 }
 
 /// Whether lines tell of each stay.
-fn tells_of_each(lines: &Vec<String>) -> bool {
+fn tells_of_each(lines: &[String]) -> bool {
     STAYS.iter().all(|stay| lines.iter().any(|line| line.as_str().ends_with(stay.told)))
 }
 
@@ -299,6 +299,7 @@ fn each_play_goes_back_from_where_the_log_ends(rt: HostRuntime) {
         let server = start_on(&rt, served, alloc, listener, addr, set, OpenGate);
         plays_and_pauses(&rt, alloc, addr);
         server.end(&rt);
-        assert!(rt; tells_of_each(&served.lines().expect(&rt, "memory")));
+        let lines = served.lines().expect(&rt, "memory");
+        assert!(rt; tells_of_each(lines.as_slice()));
     }
 }
