@@ -10,6 +10,8 @@ mod burst_tests;
 #[cfg(test)]
 mod dial;
 #[cfg(test)]
+mod direct_tests;
+#[cfg(test)]
 mod ending_tests;
 #[cfg(test)]
 mod events_tests;
@@ -29,6 +31,8 @@ mod mounts_tests;
 mod order_tests;
 #[cfg(test)]
 mod refused_tests;
+#[cfg(test)]
+mod report_tests;
 #[cfg(test)]
 mod row_tests;
 #[cfg(test)]

@@ -221,6 +221,13 @@ impl Running {
     }
 }
 
+impl Running {
+    /// Waits for a server that doesn't begin. Whether it says that there was no memory or no thread.
+    pub(crate) fn refuses<R: Threads>(self, rt: &R) -> bool {
+        self.thread.join(rt).is_err()
+    }
+}
+
 /// What a test's server is told.
 #[derive(Clone, Copy)]
 pub(crate) struct Set {
@@ -238,8 +245,12 @@ pub(crate) struct Set {
     pub(crate) back: u64,
     /// How many threads send all frames; 0 for a thread a player.
     pub(crate) writers: usize,
+    /// Whether frame threads write packets from where they lie in the ring.
+    pub(crate) is_direct: bool,
     /// Whether lines tell of each mount and each player.
     pub(crate) is_verbose: bool,
+    /// The milliseconds between two reports of mounts and losses; `None` for none.
+    pub(crate) report: Option<u64>,
     /// What tells the time; `None` where it stands at 0.
     pub(crate) dial: Option<Dial>,
     /// The milliseconds after which a silent peer is looked at.
@@ -264,7 +275,9 @@ impl Set {
             write_wait: 20_000,
             back: 0,
             writers: 0,
+            is_direct: false,
             is_verbose: false,
+            report: None,
             dial: None,
             read_wait: 2_000,
             idle: None,
@@ -368,14 +381,17 @@ where
     let options = Options {
         accept: Some(set.accept),
         gather: set.gather,
+        back: set.back,
         after_end: set.after_end,
         write_wait: set.write_wait,
         writers: set.writers,
+        is_direct: set.is_direct,
         is_verbose: set.is_verbose,
+        report: set.report,
         read_wait: set.read_wait,
         idle: set.idle,
     };
-    let maker = RingMaker::new(set.keep.clamp(1, 4095), seats, 16_384).going_back(set.back);
+    let maker = RingMaker::new(set.keep.clamp(1, 4095), seats, 16_384);
     let thread = serve(
         rt,
         served,

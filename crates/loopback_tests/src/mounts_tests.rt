@@ -23,12 +23,12 @@ fn request(
 
 /// A mount with one track.
 #[derive(Clone, Copy)]
-struct Mount {
-    name: &'static str,
-    track: &'static str,
+pub(crate) struct Mount {
+    pub(crate) name: &'static str,
+    pub(crate) track: &'static str,
 }
 
-const FIRST: Mount = Mount {
+pub(crate) const FIRST: Mount = Mount {
     name: "first",
     track: "first/trackID=0",
 };
@@ -39,7 +39,7 @@ const SECOND: Mount = Mount {
 };
 
 /// Whether a request for this mount is answered by 200.
-fn is_granted(
+pub(crate) fn is_granted(
     rt: &impl Abort,
     alloc: Global,
     client: &mut Client,
@@ -62,14 +62,20 @@ fn records(rt: &impl Abort, alloc: Global, client: &mut Client, mount: Mount, nu
 }
 
 /// Whether a client may play a mount in the session of this number, which is the next one.
-fn plays(rt: &impl Abort, alloc: Global, client: &mut Client, mount: Mount, number: u8) -> bool {
+pub(crate) fn plays(
+    rt: &impl Abort,
+    alloc: Global,
+    client: &mut Client,
+    mount: Mount,
+    number: u8,
+) -> bool {
     let outward = "Transport: RTP/AVP/TCP;interleaved=0-1\r\n";
     is_granted(rt, alloc, client, "SETUP", mount.track, 0, outward)
         && is_granted(rt, alloc, client, "PLAY", mount.name, number, "")
 }
 
 /// Clients that record into the first mount and into the second one, in the first two sessions.
-fn cameras<R: Net<Stream = TcpStream> + Abort>(
+pub(crate) fn cameras<R: Net<Stream = TcpStream> + Abort>(
     rt: &R,
     alloc: Global,
     addr: SocketAddr,
@@ -82,7 +88,7 @@ fn cameras<R: Net<Stream = TcpStream> + Abort>(
 }
 
 /// Clients that play the first mount and the second one, in the next two sessions.
-fn players<R: Net<Stream = TcpStream> + Abort>(
+pub(crate) fn players<R: Net<Stream = TcpStream> + Abort>(
     rt: &R,
     alloc: Global,
     addr: SocketAddr,
@@ -95,7 +101,7 @@ fn players<R: Net<Stream = TcpStream> + Abort>(
 }
 
 /// An RTP packet of this number, from this source (RFC 3550, 5.1), as a frame on channel 0.
-fn packet(source: u8, number: u8) -> [u8; 16] {
+pub(crate) fn packet(source: u8, number: u8) -> [u8; 16] {
     let mut frame = *b"\x24\x00\x00\x0c\x80\x60\x00\x00\x00\x00\x23\x28\x00\x00\x00\x00";
     frame[7] = number;
     frame[15] = source;

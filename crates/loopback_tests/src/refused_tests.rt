@@ -149,3 +149,44 @@ fn a_player_without_a_thread_for_its_frames_is_let_go(rt: HostRuntime) {
     let told = told.expect(&rt, "memory");
     assert!(rt; lines.len() == 1 && lines.iter().all(|line| line.as_str() == told.as_str()));
 }
+
+/// Starts each thread that all connections share but the one of this number, counted from 0.
+#[derive(Drop)]
+struct Lacking {
+    number: u64,
+    asked: AtomicU64,
+}
+
+impl Gate for Lacking {
+    fn pass(&self, _conn: u64, _turn: u64) {}
+
+    fn may_help(&self) -> bool {
+        self.asked.fetch_add(1, Ordering::SeqCst) != self.number
+    }
+}
+
+/// The threads that write lines, send frames (two), wake players, close refused peers and report.
+const HELPERS: u64 = 6;
+
+#[test]
+fn a_server_without_a_thread_of_its_own_does_not_begin(rt: HostRuntime) {
+    let alloc = rt.alloc();
+    for number in 0..HELPERS {
+        let (listener, addr) = listening(&rt);
+        let served = Kept::new(rt, alloc);
+        let gate = Lacking {
+            number,
+            asked: AtomicU64::new(0),
+        };
+        let set = Set {
+            report: Some(3_600_000),
+            ..Set::of(1, 1).by(2)
+        };
+        let server = start_on(&rt, served, alloc, listener, addr, set, gate);
+        assert!(rt; server.refuses(&rt));
+        let lines = served.lines().expect(&rt, "memory");
+        let text =
+            "[WARN  relay_server::helpers] no thread or no memory for what all connections share";
+        assert!(rt; lines.len() == 1 && lines.iter().all(|line| line.as_str() == text));
+    }
+}

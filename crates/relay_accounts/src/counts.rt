@@ -1,6 +1,7 @@
 //! What became of the packets of a connection.
 ghost use Rattle.std.specs.Prelude.{◌≡◌, ◌<◌, ◌↔◌, IsTrue};
 ghost use Rattle.relay_accounts.specs.Counting.{counted_since, losses, nothing_counted, with_left, with_report, with_strangers, with_wait};
+ghost use Rattle.relay_accounts.specs.Reporting.{lost_by_now};
 
 use cursor::Left;
 use publisher::InReport;
@@ -113,6 +114,21 @@ impl Counts {
     {
         self.pinned > 0 || self.oversize > 0 || self.bad_rtp > 0 || self.unkept > 0 || self.lost > 0
     }
+}
+
+/// How many packets a player would have lost if it left its seat now: it was told so many lost and stands at this cursor, and
+/// so many were published to its ring, which keeps so many.
+pub fn lost_so_far(lost: u64, cursor: u64, published: u64, keep: u64) -> u64
+    ensures { result ≡ lost_by_now lost cursor published keep }
+{
+    let mut counts = Counts::new();
+    let left = Left {
+        taken: 0,
+        lost,
+        left: published.saturating_sub(cursor),
+    };
+    counts.add_out(&left, keep);
+    counts.lost
 }
 
 impl fmt::Display for Counts {

@@ -2,7 +2,7 @@
 use std::sync::atomic::{AtomicU64, Ordering};
 
 /// When a connection was last heard: the moment of its last whole message or frame, in milliseconds of a clock that doesn't go
-/// back. Bytes that make neither count for nothing.
+/// back. Bytes that make neither count for nothing. Of two moments the later one stays, whoever tells which.
 ///
 /// Who reads for the connection says what moment it is; who is handed a message or a frame notes it.
 #[derive(Drop)]
@@ -20,9 +20,9 @@ impl Heard {
         }
     }
 
-    /// It is this moment.
+    /// It is this moment, or a later one that was told before.
     pub fn pass(&self, now: u64) {
-        self.now.store(now, Ordering::SeqCst);
+        self.now.fetch_max(now, Ordering::SeqCst);
     }
 
     /// Which moment it is.
@@ -32,7 +32,7 @@ impl Heard {
 
     /// A whole message or frame has come by now.
     pub fn note(&self) {
-        self.last.store(self.now(), Ordering::SeqCst);
+        self.last.fetch_max(self.now(), Ordering::SeqCst);
     }
 
     /// The moment of the last whole message or frame.

@@ -7,15 +7,17 @@ mod counts;
 mod ending;
 mod heard;
 mod incoming;
+mod mount_tally;
 mod outcome;
 mod points;
 mod tally;
 
 pub use backlog::{Backlog, Waiting};
-pub use counts::Counts;
+pub use counts::{Counts, lost_so_far};
 pub use ending::{ConnectionEnd, FrameEnd, end_of, status_of};
 pub use heard::Heard;
 pub use incoming::{publish_frames, skip_frames};
+pub use mount_tally::MountTally;
 pub use outcome::{Outcome, Part};
 pub use points::point_to_post;
 pub use tally::Tally;

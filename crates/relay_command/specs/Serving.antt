@@ -1,10 +1,11 @@
 -- What the command line of the server may ask for.
-use Rattle.std.specs.Prelude.{◌≤◌, ⊤, IfSome}
+use Rattle.std.specs.Prelude.{◌≡◌, ◌≤◌, ⊤, true, IfSome}
 use Rattle.relay_command.specs.declared.settings.Settings.{Settings}
 use Rattle.relay_command.specs.declared.asked.Asked.{Asked}
 use Rattle.relay_command.specs.declared.asked.Asked.TheVariants as asks
 
--- the ranges of a ring's numbers, of the time that packets gather for, in milliseconds, and of how many threads send frames
+-- the ranges of a ring's numbers, of the time that packets gather for, in milliseconds, of how many threads send frames, and of
+-- the seconds between reports
 pub record IsInRange (settings : Settings) : Type 0 where
   pub keeps : (1 ≤ settings.keep) × (settings.keep ≤ 4095)
   pub seated : (1 ≤ settings.seats) × (settings.seats ≤ 1024)
@@ -12,10 +13,15 @@ pub record IsInRange (settings : Settings) : Type 0 where
   pub gathers : settings.gather ≤ 100
   pub goes_back : settings.back ≤ 4095
   pub writes : IfSome settings.writers (λ count. count ≤ 64)
+  pub reports : IfSome settings.report (λ seconds. (1 ≤ seconds) × (seconds ≤ 86400))
 
--- a server that is asked for has its numbers in their ranges
+-- what is sent from where it lies in the ring is sent by no writer
+abbrev pub SendsItself : Settings → Type 0
+SendsItself settings = settings.is_direct ≡ true → IfSome settings.writers (λ count. count ≡ 0)
+
+-- a server that is asked for has its numbers in their ranges, and no writers beside players that send themselves
 abbrev pub IsServedInRange : Asked → Type 0
-IsServedInRange (asks.Serve addr settings) = IsInRange settings
+IsServedInRange (asks.Serve addr settings) = IsInRange settings × SendsItself settings
 IsServedInRange (asks.Talk word) = ⊤
 IsServedInRange (asks.Steps stopped) = ⊤
 IsServedInRange asks.Nothing = ⊤

@@ -1,12 +1,12 @@
 //! A command line, from its words to what it asks for.
 ghost use Rattle.std.specs.Prelude.{◌≡◌, IfOk, IfErr};
 ghost use Rattle.clap.specs.Values.{kind_of};
-ghost use Rattle.clap.specs.declared.error.kind.ErrorKind.TheVariants.{ValueValidation};
+ghost use Rattle.clap.specs.declared.error.kind.ErrorKind.TheVariants.{ArgumentConflict, ValueValidation};
 ghost use Rattle.std.specs.Option.{option_copied};
 ghost use Rattle.relay_command.specs.Serving.{IsServedInRange};
 ghost use Rattle.relay_command.specs.Stopping.{IsStopped, IsNoActor};
 
-use crate::commands::{command, steps_command};
+use crate::commands::{command, serve_command, steps_command};
 use crate::settings::Settings;
 use crate::task::{Task, task_named};
 use clap::error::ErrorKind;
@@ -53,7 +53,11 @@ fn asked_of(alloc: Global, matches: &ArgMatches) -> Result<Asked, Error>
         }
         Some(Task::Serve) => {
             let addr = text_of(alloc, of_command, "addr")?.unwrap_or(String::new(alloc));
-            Ok(Asked::Serve(addr, Settings::of(of_command)))
+            let settings = Settings::of(of_command);
+            if settings.is_direct && settings.writers.is_some_and(|count| count != 0) {
+                return Err(direct_by_writers(alloc)?);
+            }
+            Ok(Asked::Serve(addr, settings))
         }
         None => Ok(Asked::Nothing),
     }
@@ -79,6 +83,15 @@ fn stopped_of(alloc: Global, text: Option<&str>) -> Result<Option<Actor>, Error>
         Some(actor) => Ok(Some(actor)),
         None => Err(no_actor(alloc, name)?),
     }
+}
+
+/// Tells that `--direct` and writers exclude each other, as a command line is told that it isn't understood.
+fn direct_by_writers(alloc: Global) -> Result<Error, AllocError>
+    ensures { IfOk result (λ error. kind_of error ≡ ArgumentConflict) }
+{
+    let why = "the argument '--direct' cannot be used with '--writers <N>' other than 0";
+    let mut command = serve_command(alloc)?.bin_name("relay serve")?;
+    command.error(ErrorKind::ArgumentConflict, why)
 }
 
 /// Tells that a text names no actor, as a command line is told that it isn't understood.

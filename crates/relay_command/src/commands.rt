@@ -59,7 +59,7 @@ const SERVE_EXAMPLE: &str = "Examples:
 ./relay serve 0.0.0.0:554 --keep 2048 --seats 500 --hang-up-ended";
 
 /// `relay serve ADDR`, with its options, their ranges and their defaults.
-fn serve_command<'a>(alloc: Global) -> Result<Command<'a>, AllocError> {
+pub(crate) fn serve_command<'a>(alloc: Global) -> Result<Command<'a>, AllocError> {
     Command::new(alloc, "serve")
         .about("Serves publishers and players over TCP")
         .after_help(SERVE_EXAMPLE)
@@ -73,7 +73,9 @@ fn serve_command<'a>(alloc: Global) -> Result<Command<'a>, AllocError> {
         .arg(hang_up_ended_arg(alloc))?
         .arg(idle_arg(alloc))?
         .arg(writers_arg(alloc))?
-        .arg(verbose_arg(alloc))
+        .arg(direct_arg(alloc))?
+        .arg(verbose_arg(alloc))?
+        .arg(report_arg(alloc))
 }
 
 fn addr_arg<'a>(alloc: Global) -> Arg<'a> {
@@ -167,9 +169,28 @@ fn writers_arg<'a>(alloc: Global) -> Arg<'a> {
         )
 }
 
+fn direct_arg<'a>(alloc: Global) -> Arg<'a> {
+    Arg::new(alloc, "direct")
+        .long("direct")
+        .action(ArgAction::SetTrue)
+        .help(
+            "Send each packet from its place in the ring, with --writers 0: who reads nothing may then stop its mount, whose packets are refused, for up to 20 seconds",
+        )
+}
+
 fn verbose_arg<'a>(alloc: Global) -> Arg<'a> {
     Arg::new(alloc, "verbose")
         .long("verbose")
         .action(ArgAction::SetTrue)
         .help("Tell of each mount and each player on standard error")
+}
+
+fn report_arg<'a>(alloc: Global) -> Arg<'a> {
+    Arg::new(alloc, "report")
+        .long("report")
+        .value_name("SECONDS")
+        .value_parser(clap::value_parser!(u64).range(1..86_401))
+        .help(
+            "Tell each mount's packets and each player's losses so often on standard error, 1 to 86400",
+        )
 }

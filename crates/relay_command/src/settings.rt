@@ -25,8 +25,12 @@ pub struct Settings {
     /// How many threads send the frames of all players, 0 to 64; 0 gives each player a thread of its own, and `None` is one for
     /// each processor.
     pub writers: Option<usize>,
+    /// Whether each player's thread writes packets from where they lie in the ring. Then `writers` is 0 or `None`.
+    pub is_direct: bool,
     /// Whether lines tell of each mount and each player.
     pub is_verbose: bool,
+    /// After how many seconds, 1 to 86,400, and again after as many, lines tell of mounts and losses; `None` for never.
+    pub report: Option<u64>,
 }
 
 impl Settings {
@@ -50,7 +54,11 @@ impl Settings {
             writers: matches
                 .get_one::<u16>("writers")
                 .map(|count| usize::from(count).min(64)),
+            is_direct: matches.get_flag("direct"),
             is_verbose: matches.get_flag("verbose"),
+            report: matches
+                .get_one::<u64>("report")
+                .map(|seconds| seconds.clamp(1, 86_400)),
         }
     }
 }

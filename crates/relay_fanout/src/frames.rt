@@ -1,16 +1,17 @@
 //! A playing connection, and who sends its frames.
-ghost use Rattle.std.specs.Prelude.{◌≤◌, length};
+ghost use Rattle.relay_fanout.specs.Ways.{HasRoom};
 
-use crate::bell::Bell;
-use crate::line::Line;
 use crate::maker::Leave;
-use crate::notice::Notice;
+use crate::mount_signal::MountSignal;
 use crate::pace::KnownLevel;
 use crate::phase::FramePhase;
 use crate::playing::{Playing, TapPlace};
 use crate::socket::HangUp;
+use crate::wake_signal::WakeSignal;
+use crate::way::Way;
 use crate::writers::{NoWriter, Place, Writers};
-use cursor::Tap;
+use crate::writing_side::WritingSide;
+use cursor::{Lend, Tap};
 use interleaved::{Failed, Sink, TrySink};
 use player::OutStop;
 use relay_accounts::FrameEnd;
@@ -27,10 +28,10 @@ use waking::Next;
 /// What the thread that sends a connection's frames has of it: a thread of its own, or a writer, which has other players, too.
 ///
 /// A frame thread holds the tap's lock as long as it takes from it; the thread that reads takes the tap out when it has joined it.
-/// A writer holds the player's lock for one look, and the line's meanwhile.
+/// A writer holds the player's lock for one look, and the writing side's meanwhile.
 #[derive(Drop)]
-pub struct Hand<T, W: Sink, H> {
-    pub line: Line<W>,
+pub struct SharedPlayer<T, W: Sink, H> {
+    pub writing: WritingSide<W>,
     pub wire: H,
     pub phase: FramePhase,
     tap: Mutex<TapPlace<T>>,
@@ -39,13 +40,18 @@ pub struct Hand<T, W: Sink, H> {
     plays: AtomicU64,
 }
 
-impl<T, W: Sink + Drop, H> Hand<T, W, H> {
-    /// Writes a reply. A writer that found the line taken meanwhile is woken.
-    pub fn write(&self, rt: &impl Wait, bell: &Bell, text: &[u8]) -> Result<(), Failed> {
-        let written = self.line.write(rt, text);
-        // After the line was given back: a writer that marks it later than this gets it at its last try.
-        if self.line.was_skipped() {
-            bell.writers.raise();
+impl<T, W: Sink + Drop, H> SharedPlayer<T, W, H> {
+    /// Writes a reply. A writer that found the writing side taken meanwhile is woken.
+    pub fn write(
+        &self,
+        rt: &impl Wait,
+        wake_signal: &WakeSignal,
+        text: &[u8],
+    ) -> Result<(), Failed> {
+        let written = self.writing.write(rt, text);
+        // After it was given back: a writer that marks it later than this gets it at its last try.
+        if self.writing.was_skipped() {
+            wake_signal.writers.raise();
         }
         written
     }
@@ -54,21 +60,21 @@ impl<T, W: Sink + Drop, H> Hand<T, W, H> {
     pub fn write_plain(
         &self,
         rt: &impl Wait,
-        bell: &Bell,
+        wake_signal: &WakeSignal,
         status: Status,
         cseq: Option<u32>,
     ) -> Result<(), Failed> {
         let mut text = [0; 128];
         let len = put_plain(&mut text, status, cseq);
-        self.write(rt, bell, &text[..len])
+        self.write(rt, wake_signal, &text[..len])
     }
 }
 
-impl<T: Tap + Leave + Drop, W: Sink + Drop, H: HangUp + Drop> Hand<T, W, H> {
+impl<T: Lend + Leave + Drop, W: Sink + Drop, H: HangUp + Drop> SharedPlayer<T, W, H> {
     /// No tap is in it.
-    pub fn new(line: Line<W>, wire: H) -> Hand<T, W, H> {
-        Hand {
-            line,
+    pub fn new(writing: WritingSide<W>, wire: H) -> SharedPlayer<T, W, H> {
+        SharedPlayer {
+            writing,
             wire,
             phase: FramePhase::new(),
             tap: Mutex::new(TapPlace::Nowhere),
@@ -81,7 +87,7 @@ impl<T: Tap + Leave + Drop, W: Sink + Drop, H: HangUp + Drop> Hand<T, W, H> {
     pub(crate) fn play(
         &self,
         rt: &impl Wait,
-        notice: Arc<Notice, Global>,
+        signal: Arc<MountSignal, Global>,
         seat: usize,
         channels: TrackChannels,
         after_end: Option<Duration>,
@@ -91,8 +97,8 @@ impl<T: Tap + Leave + Drop, W: Sink + Drop, H: HangUp + Drop> Hand<T, W, H> {
             return number;
         };
         let after_end = after_end.map(|time| u64::try_from(time.as_millis()).unwrap_or(u64::MAX));
-        notice.pace.join(rt, seat);
-        let playing = Playing::new(number, tap, notice, seat, channels, after_end);
+        signal.pace.join(rt, seat);
+        let playing = Playing::new(number, tap, signal, seat, channels, after_end);
         *self.playing.lock(rt) = Some(playing);
         number
     }
@@ -129,22 +135,25 @@ impl<T: Tap + Leave + Drop, W: Sink + Drop, H: HangUp + Drop> Hand<T, W, H> {
         &self,
         rt: &R,
         alloc: Global,
-        notice: &Notice,
-        seat: usize,
-        channels: &TrackChannels,
-        after_end: Option<Duration>,
+        sending: &Sending,
     ) -> FrameEnd {
-        notice.pace.join(rt, seat);
+        let Sending {
+            signal,
+            seat,
+            after_end,
+            ..
+        } = sending;
+        signal.pace.join(rt, *seat);
         let end = match &mut *self.tap.lock(rt) {
-            TapPlace::Attached(tap) => self.send_all(rt, alloc, tap, notice, seat, channels),
+            TapPlace::Attached(tap) => self.send_all(rt, alloc, tap, sending),
             _ => FrameEnd::Stopped,
         };
-        notice.pace.leave(rt, seat);
+        signal.pace.leave(rt, *seat);
         if end == FrameEnd::Ended {
             self.leave(rt);
         }
         let end = if self.phase.is_running(rt) {
-            self.end_connection(rt, end, after_end);
+            self.end_connection(rt, end, *after_end);
             end
         } else {
             FrameEnd::Stopped
@@ -160,7 +169,7 @@ impl<T: Tap + Leave + Drop, W: Sink + Drop, H: HangUp + Drop> Hand<T, W, H> {
             let Some(most) = after_end else {
                 return;
             };
-            self.line.close_writes(rt, &self.wire);
+            self.writing.close_writes(rt, &self.wire);
             if self.phase.wait_for_stop(rt, most) {
                 return;
             }
@@ -168,45 +177,33 @@ impl<T: Tap + Leave + Drop, W: Sink + Drop, H: HangUp + Drop> Hand<T, W, H> {
         self.wire.hang_up();
     }
 
-    fn send_all(
-        &self,
-        rt: &impl Wait,
-        alloc: Global,
-        tap: &mut T,
-        notice: &Notice,
-        seat: usize,
-        channels: &TrackChannels,
-    ) -> FrameEnd {
-        match Vec::from_elem(alloc, 0, tap.packet_bytes()) {
-            Ok(mut buf) => self.send_from(rt, tap, notice, seat, channels, buf.as_mut_slice()),
+    fn send_all(&self, rt: &impl Wait, alloc: Global, tap: &mut T, sending: &Sending) -> FrameEnd {
+        match Way::new(alloc, sending.is_direct, tap.packet_bytes()) {
+            Ok(mut way) => self.send_from(rt, tap, sending, &mut way),
             Err(_) => FrameEnd::OutOfMemory,
         }
     }
 
-    fn send_from(
-        &self,
-        rt: &impl Wait,
-        tap: &mut T,
-        notice: &Notice,
-        seat: usize,
-        channels: &TrackChannels,
-        buf: &mut [u8],
-    ) -> FrameEnd
-        requires { T.packet_bytes tap.old ≤ length buf.old }
+    fn send_from(&self, rt: &impl Wait, tap: &mut T, sending: &Sending, way: &mut Way) -> FrameEnd
+        requires { HasRoom way.old (T.packet_bytes tap.old) }
     {
+        let signal: &MountSignal = &sending.signal;
+        let seat = sending.seat;
         let mut known = KnownLevel::new();
         for _ in rt.forever() {
             // Read before the tap is looked at, so that no wake is missed.
-            let wakes = notice.wakes();
+            let wakes = signal.wakes();
             if !self.phase.is_running(rt) {
                 return FrameEnd::Stopped;
             }
-            match self.line.relay(rt, tap, channels, buf) {
-                OutStop::Done => notice.pace.reach(rt, seat, tap.cursor(), &mut known),
+            let stop = self.writing.relay(rt, tap, &sending.channels, way);
+            let (cursor, lost) = (tap.cursor(), tap.account().lost);
+            match stop {
+                OutStop::Done => signal.reach(rt, seat, cursor, lost, &mut known),
                 OutStop::Empty => {
                     // Before it sleeps: the publisher opens a round before it wakes.
-                    notice.pace.level(rt, seat, tap.cursor(), &mut known);
-                    notice.sleep(rt, wakes);
+                    signal.level(rt, seat, cursor, lost, &mut known);
+                    signal.sleep(rt, wakes);
                 }
                 OutStop::Ended => return FrameEnd::Ended,
                 OutStop::WriteFailed => return FrameEnd::WriteFailed,
@@ -216,7 +213,7 @@ impl<T: Tap + Leave + Drop, W: Sink + Drop, H: HangUp + Drop> Hand<T, W, H> {
     }
 }
 
-impl<T: Tap + Leave + Drop, W: TrySink + Drop, H: HangUp + Drop> Hand<T, W, H> {
+impl<T: Tap + Leave + Drop, W: TrySink + Drop, H: HangUp + Drop> SharedPlayer<T, W, H> {
     /// A writer looks at the player of this number; at another one, which came since, it doesn't. While the thread that reads puts
     /// it in or takes it out, it is looked at again after a moment.
     pub(crate) fn look(
@@ -233,7 +230,7 @@ impl<T: Tap + Leave + Drop, W: TrySink + Drop, H: HangUp + Drop> Hand<T, W, H> {
         match &mut *playing {
             Some(playing) => {
                 if playing.number() == number {
-                    playing.look(rt, &self.line, &self.wire, buf, now, most)
+                    playing.look(rt, &self.writing, &self.wire, buf, now, most)
                 } else {
                     Next::Sleep
                 }
@@ -241,6 +238,18 @@ impl<T: Tap + Leave + Drop, W: TrySink + Drop, H: HangUp + Drop> Hand<T, W, H> {
             None => Next::Sleep,
         }
     }
+}
+
+/// What a frame thread is told.
+#[derive(Drop)]
+pub(crate) struct Sending {
+    signal: Arc<MountSignal, Global>,
+    seat: usize,
+    channels: TrackChannels,
+    /// For how long the connection may stay once its mount has ended. `None` for good.
+    after_end: Option<Duration>,
+    /// Whether packets are written from where they lie in the ring.
+    is_direct: bool,
 }
 
 /// Who sends the frames of a seat.
@@ -258,42 +267,47 @@ enum Sender {
 pub struct Frames {
     mount: u64,
     seat: usize,
-    pub notice: Arc<Notice, Global>,
+    pub signal: Arc<MountSignal, Global>,
     sender: Sender,
 }
 
 impl Frames {
     /// Nothing is sent yet.
-    pub fn new(mount: u64, seat: usize, notice: Arc<Notice, Global>) -> Frames {
+    pub fn new(mount: u64, seat: usize, signal: Arc<MountSignal, Global>) -> Frames {
         Frames {
             mount,
             seat,
-            notice,
+            signal,
             sender: Sender::Nobody,
         }
     }
 
-    /// Starts a thread of its own, which may fail where there is no memory or no thread.
+    /// Starts a thread of its own, which may fail where there is no memory or no thread. It writes packets from where they lie
+    /// in the ring where `is_direct` says so.
     pub fn start<R, T, W, H>(
         &mut self,
         rt: R,
         alloc: Global,
-        hand: &Arc<Hand<T, W, H>, Global>,
+        player: &Arc<SharedPlayer<T, W, H>, Global>,
         channels: TrackChannels,
         after_end: Option<Duration>,
+        is_direct: bool,
     ) -> Result<(), AllocError>
     where
         R: Threads + Wait + Clock + Copy + Send + 'static,
-        T: Tap + Leave + Drop + Send + 'static,
+        T: Lend + Leave + Drop + Send + 'static,
         W: Sink + Drop + Send + 'static,
         H: HangUp + Drop + Send + Sync + 'static,
     {
-        let hand = Arc::try_clone(hand)?;
-        let notice = Arc::try_clone(&self.notice)?;
-        let seat = self.seat;
-        let thread = thread::spawn(&rt, move || {
-            hand.send(&rt, alloc, &notice, seat, &channels, after_end)
-        })?;
+        let player = Arc::try_clone(player)?;
+        let sending = Sending {
+            signal: Arc::try_clone(&self.signal)?,
+            seat: self.seat,
+            channels,
+            after_end,
+            is_direct,
+        };
+        let thread = thread::spawn(&rt, move || player.send(&rt, alloc, &sending))?;
         self.sender = Sender::Thread(thread);
         Ok(())
     }
@@ -302,19 +316,19 @@ impl Frames {
     pub fn give<T, W, H>(
         &mut self,
         rt: &impl Wait,
-        hand: &Arc<Hand<T, W, H>, Global>,
+        player: &Arc<SharedPlayer<T, W, H>, Global>,
         writers: &Writers<T, W, H>,
         channels: TrackChannels,
         after_end: Option<Duration>,
     ) -> Result<(), NoWriter>
     where
-        T: Tap + Leave + Drop,
+        T: Lend + Leave + Drop,
         W: Sink + Drop,
         H: HangUp + Drop,
     {
-        let notice = Arc::try_clone(&self.notice)?;
-        let number = hand.play(rt, notice, self.seat, channels, after_end);
-        self.sender = Sender::Writer(writers.add(rt, hand, number)?);
+        let signal = Arc::try_clone(&self.signal)?;
+        let number = player.play(rt, signal, self.seat, channels, after_end);
+        self.sender = Sender::Writer(writers.add(rt, player, number)?);
         Ok(())
     }
 
@@ -329,20 +343,20 @@ impl Frames {
     }
 
     /// The number of the mount, the seat and what tells of its packets.
-    pub fn into_seat(self) -> (u64, usize, Arc<Notice, Global>) {
-        (self.mount, self.seat, self.notice)
+    pub fn into_seat(self) -> (u64, usize, Arc<MountSignal, Global>) {
+        (self.mount, self.seat, self.signal)
     }
 
     /// Takes the seat from who sends its frames, waits for the end of its thread or its writer's look, and says how they ended.
     pub fn join<R, T, W, H>(
         &mut self,
         rt: &R,
-        hand: &Hand<T, W, H>,
+        player: &SharedPlayer<T, W, H>,
         writers: Option<&Writers<T, W, H>>,
     ) -> FrameEnd
     where
         R: Threads + Wait,
-        T: Tap + Leave + Drop,
+        T: Lend + Leave + Drop,
         W: Sink + Drop,
         H: HangUp + Drop,
     {
@@ -352,10 +366,10 @@ impl Frames {
                 if let Some(writers) = writers {
                     writers.remove(rt, place);
                 }
-                hand.stop_playing(rt)
+                player.stop_playing(rt)
             }
             // Without a sender the player may have been put in in vain.
-            Sender::Nobody => hand.stop_playing(rt),
+            Sender::Nobody => player.stop_playing(rt),
         }
     }
 }

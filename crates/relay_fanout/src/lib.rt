@@ -2,33 +2,35 @@
 //! packets, how a publisher gives way to them, and the thread that writes a player's frames.
 #![tactic(auto)]
 
-mod bell;
-mod board;
 mod closing;
 mod frames;
-mod line;
 mod maker;
 mod moments;
-mod notice;
+mod mount_signal;
 mod offers;
 mod pace;
 mod phase;
 mod playing;
 mod posting;
+mod recording_mounts;
 mod signal;
 mod socket;
+mod tallies;
+mod wake_signal;
+mod way;
 mod writers;
+mod writing_side;
 
-pub use bell::{Bell, wake_players};
-pub use board::Board;
 pub use closing::close_behind_text;
-pub use frames::{Frames, Hand};
-pub use line::Line;
+pub use frames::{Frames, SharedPlayer};
 pub use maker::{Leave, Maker, RingMaker, Seat};
-pub use notice::{Notice, low_half};
+pub use mount_signal::{MountSignal, low_half};
 pub use offers::{Busy, Offer, Offers};
 pub use phase::FramePhase;
 pub use playing::TapPlace;
 pub use posting::Posting;
+pub use recording_mounts::RecordingMounts;
 pub use socket::{HangUp, Socket};
+pub use wake_signal::{WakeSignal, wake_players};
 pub use writers::{NoWriter, Writers};
+pub use writing_side::WritingSide;

@@ -1,8 +1,8 @@
 //! What packets of a mount go through.
 ghost use Rattle.std.specs.Prelude.{◌≤◌};
 
-use crate::notice::Notice;
-use cursor::{Feed, Left, Tap};
+use crate::mount_signal::MountSignal;
+use cursor::{Feed, Left, Lend};
 use packet_ring::{Pass, Publisher, Subscriber};
 use std::alloc::{AllocError, Global};
 use std::sync::Arc;
@@ -26,7 +26,7 @@ pub trait Maker {
 
     type Pass: Drop + Send;
 
-    type Out: Tap + Leave + Drop + Send;
+    type Out: Lend + Leave + Drop + Send;
 
     /// A feed, and a pass for each seat.
     fn make(&self, alloc: Global) -> Result<(Self::In, Vec<Self::Pass>), AllocError>;
@@ -45,6 +45,11 @@ pub trait Maker {
 
     /// How many of the kept packets come out of a tap that is attached, before those that are published from then on.
     fn back(&self) -> u64;
+
+    /// Whether a frame thread writes packets from where they lie in the ring.
+    fn is_direct(&self) -> bool {
+        false
+    }
 }
 
 /// Makes rings.
@@ -54,6 +59,7 @@ pub struct RingMaker {
     seats: usize,
     packet_bytes: usize,
     back: u64,
+    is_direct: bool,
     ghost keeps: { (1 ≤ keep) × (keep ≤ 4095) },
     ghost seated: { seats ≤ 1024 },
     ghost bounded: { (1 ≤ packet_bytes) × (packet_bytes ≤ 65535) },
@@ -71,6 +77,7 @@ impl RingMaker {
             seats,
             packet_bytes,
             back: 0,
+            is_direct: false,
         }
     }
 
@@ -81,6 +88,18 @@ impl RingMaker {
             seats: self.seats,
             packet_bytes: self.packet_bytes,
             back,
+            is_direct: self.is_direct,
+        }
+    }
+
+    /// The same, where frame threads write packets from where they lie in the ring, or don't.
+    pub fn lending(self, is_direct: bool) -> RingMaker {
+        RingMaker {
+            keep: self.keep,
+            seats: self.seats,
+            packet_bytes: self.packet_bytes,
+            back: self.back,
+            is_direct,
         }
     }
 }
@@ -115,13 +134,17 @@ impl Maker for RingMaker {
     fn back(&self) -> u64 {
         self.back
     }
+
+    fn is_direct(&self) -> bool {
+        self.is_direct
+    }
 }
 
 /// A pass together with what tells of its mount's packets: so a player has both from the book.
 #[derive(Drop)]
 pub struct Seat<P> {
     pub pass: P,
-    pub notice: Arc<Notice, Global>,
+    pub signal: Arc<MountSignal, Global>,
 }
 
 impl<P: Drop> Seat<P> {
@@ -129,13 +152,13 @@ impl<P: Drop> Seat<P> {
     pub fn of(
         alloc: Global,
         passes: Vec<P>,
-        notice: &Arc<Notice, Global>,
+        signal: &Arc<MountSignal, Global>,
     ) -> Result<Vec<Seat<P>>, AllocError> {
         let mut seats = Vec::with_capacity(alloc, passes.len())?;
         for pass in passes {
             seats.push(Seat {
                 pass,
-                notice: Arc::try_clone(notice)?,
+                signal: Arc::try_clone(signal)?,
             })?;
         }
         Ok(seats)

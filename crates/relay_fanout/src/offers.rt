@@ -1,7 +1,7 @@
 //! What ANNOUNCEs offer, and no mount has used yet.
-use crate::bell::Bell;
 use crate::maker::{Maker, Seat};
-use crate::notice::Notice;
+use crate::mount_signal::MountSignal;
+use crate::wake_signal::WakeSignal;
 use std::alloc::{AllocError, Global};
 use std::sync::{Arc, Condvar, CondvarTimeouts, Mutex, Wait};
 use std::time::{Clock, Duration};
@@ -20,7 +20,7 @@ pub struct Busy;
 #[derive(Drop)]
 pub struct Offer<M: Maker> {
     pub feed: M::In,
-    pub notice: Arc<Notice, Global>,
+    pub signal: Arc<MountSignal, Global>,
     pub seats: Vec<Seat<M::Pass>>,
 }
 
@@ -29,15 +29,15 @@ impl<M: Maker> Offer<M> {
     pub fn make(
         alloc: Global,
         maker: &M,
-        bell: &Arc<Bell, Global>,
+        wake_signal: &Arc<WakeSignal, Global>,
     ) -> Result<Offer<M>, AllocError> {
         let (feed, passes) = maker.make(alloc)?;
-        let notice = Notice::new(alloc, passes.len(), Arc::try_clone(bell)?)?;
-        let notice = Arc::new(alloc, notice)?;
-        let seats = Seat::of(alloc, passes, &notice)?;
+        let signal = MountSignal::new(alloc, passes.len(), Arc::try_clone(wake_signal)?)?;
+        let signal = Arc::new(alloc, signal)?;
+        let seats = Seat::of(alloc, passes, &signal)?;
         Ok(Offer {
             feed,
-            notice,
+            signal,
             seats,
         })
     }

@@ -10,7 +10,7 @@ use std::time::{Clock, Duration};
 /// A player's thread, or its writer, writes its cursor after each of its writes, and changes its own standing only where it isn't known to
 /// keep up or a round was opened since. The publisher's thread opens a round, wakes the players, and sleeps until the last that
 /// it waits for has taken as many as the round asks for, or left. The lock is held for a look at each seat or a change of one;
-/// it may be taken under the lock of a frame thread's tap or of a writer's player and its line, and no other is taken meanwhile.
+/// it may be taken under the lock of a frame thread's tap or of a writer's player and its writing side, and no other is taken meanwhile.
 #[derive(Drop)]
 pub(crate) struct Pace {
     round: Mutex<Round>,
@@ -48,6 +48,21 @@ impl Pace {
             target: AtomicU64::new(0),
             cursors,
         })
+    }
+
+    /// The player in a seat stands at this cursor.
+    pub(crate) fn stand(&self, seat: usize, cursor: u64) {
+        if let Some(place) = self.cursors.get(seat) {
+            place.store(cursor, Ordering::SeqCst);
+        }
+    }
+
+    /// The cursor of the player in a seat, as it was told last.
+    pub(crate) fn cursor(&self, seat: usize) -> u64 {
+        match self.cursors.get(seat) {
+            Some(place) => place.load(Ordering::SeqCst),
+            None => 0,
+        }
     }
 
     /// A player begins to take from its seat. The player before it has left.
@@ -96,9 +111,7 @@ impl Pace {
 
     /// Writes where a player stands, and tells how often rounds were opened or players were given up.
     fn follow_me(&self, seat: usize, cursor: u64) -> u64 {
-        if let Some(place) = self.cursors.get(seat) {
-            place.store(cursor, Ordering::SeqCst);
-        }
+        self.stand(seat, cursor);
         self.changes.load(Ordering::SeqCst)
     }
 

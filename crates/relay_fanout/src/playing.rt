@@ -1,11 +1,11 @@
 //! A player whose frames a writer sends.
 ghost use Rattle.std.specs.Prelude.{◌≡◌, ◌≤◌, length};
 
-use crate::line::{GATHERED, Line, TAKES};
 use crate::maker::Leave;
-use crate::notice::Notice;
+use crate::mount_signal::MountSignal;
 use crate::pace::KnownLevel;
 use crate::socket::HangUp;
+use crate::writing_side::{GATHERED, TAKES, WritingSide};
 use cursor::{Left, Tap};
 use interleaved::{Gathering, TrySink};
 use pacing::Patience;
@@ -45,7 +45,7 @@ pub(crate) struct Playing<T> {
     /// How many players its connection had before.
     number: u64,
     tap: TapPlace<T>,
-    notice: Arc<Notice, Global>,
+    signal: Arc<MountSignal, Global>,
     seat: usize,
     channels: TrackChannels,
     /// For how many milliseconds the connection may stay once its mount has ended and all was sent. `None` for good.
@@ -70,7 +70,7 @@ impl<T> Playing<T> {
     pub(crate) fn new(
         number: u64,
         tap: T,
-        notice: Arc<Notice, Global>,
+        signal: Arc<MountSignal, Global>,
         seat: usize,
         channels: TrackChannels,
         after_end: Option<u64>,
@@ -78,7 +78,7 @@ impl<T> Playing<T> {
         Playing {
             number,
             tap: TapPlace::Attached(tap),
-            notice,
+            signal,
             seat,
             channels,
             after_end,
@@ -111,7 +111,7 @@ impl<T> Playing<T> {
     fn leave_pace(&mut self, rt: &impl Wait) {
         if self.is_paced {
             self.is_paced = false;
-            self.notice.pace.leave(rt, self.seat);
+            self.signal.pace.leave(rt, self.seat);
         }
     }
 
@@ -122,7 +122,7 @@ impl<T> Playing<T> {
 
     /// Whether its mount ended so many milliseconds ago.
     fn is_late(&mut self, now: u64, most: u64) -> bool {
-        if self.ended_at.is_none() && self.notice.has_ended() {
+        if self.ended_at.is_none() && self.signal.has_ended() {
             self.ended_at = Some(now);
         }
         self.ended_at
@@ -136,19 +136,19 @@ impl<T: Tap + Leave + Drop> Playing<T> {
     pub(crate) fn look<W: TrySink + Drop, H: HangUp>(
         &mut self,
         rt: &impl Wait,
-        line: &Line<W>,
+        writing: &WritingSide<W>,
         wire: &H,
         buf: &mut Vec<u8>,
         now: u64,
         most: u64,
     ) -> Next {
         // Read before the tap is looked at, so that a wake-up for what comes after the look isn't taken for seen.
-        let wakes = self.notice.wakes();
+        let wakes = self.signal.wakes();
         if let Some(next) = self.has_time(wakes, now) {
             return next;
         }
-        let Some(mut sink) = line.try_hold() else {
-            // Who has the line raises the writers' word once it has given it back.
+        let Some(mut sink) = writing.try_hold() else {
+            // Who has the writing side raises the writers' word once it has given it back.
             self.attention.look_again();
             return Next::Sleep;
         };
@@ -207,22 +207,20 @@ impl<T: Tap + Leave + Drop> Playing<T> {
             return Some(FrameEnd::OutOfMemory);
         }
         let stop = gather(tap, sink, &self.channels, buf.as_mut_slice());
-        let cursor = tap.cursor();
+        let (cursor, lost) = (tap.cursor(), tap.account().lost);
         if sink.try_flush().is_err() {
             return Some(FrameEnd::WriteFailed);
         }
         match stop {
             OutStop::Done => {
-                self.notice
-                    .pace
-                    .reach(rt, self.seat, cursor, &mut self.known);
+                self.signal
+                    .reach(rt, self.seat, cursor, lost, &mut self.known);
                 self.attention.look_again();
             }
             OutStop::Empty => {
                 // Before the writer sleeps: the publisher opens a round before it wakes.
-                self.notice
-                    .pace
-                    .level(rt, self.seat, cursor, &mut self.known);
+                self.signal
+                    .level(rt, self.seat, cursor, lost, &mut self.known);
                 self.attention.found_empty(wakes);
             }
             OutStop::Ended => return Some(FrameEnd::Ended),
@@ -250,7 +248,7 @@ impl<T: Tap + Leave + Drop> Playing<T> {
         if !self.is_paced {
             self.is_paced = true;
             self.known = KnownLevel::new();
-            self.notice.pace.join(rt, self.seat);
+            self.signal.pace.join(rt, self.seat);
         }
     }
 

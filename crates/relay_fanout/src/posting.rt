@@ -2,10 +2,10 @@
 ghost use Rattle.std.specs.Prelude.{◌≡◌, false};
 ghost use Rattle.pacing.specs.Insisting.{PublishesAtLast};
 
-use crate::bell::Bell;
-use crate::line::TAKES;
 use crate::moments::Moments;
-use crate::notice::Notice;
+use crate::mount_signal::MountSignal;
+use crate::wake_signal::WakeSignal;
+use crate::writing_side::TAKES;
 use cursor::{Feed, Refused};
 use pacing::{Allowance, Insisting};
 use relay_accounts::point_to_post;
@@ -28,8 +28,8 @@ const LOOKS: [u64; 4] = [8, 10, 12, 14];
 pub struct Posting<R, F> {
     rt: R,
     feed: Insisting<F, Moments<R>>,
-    notice: Arc<Notice, Global>,
-    bell: Arc<Bell, Global>,
+    signal: Arc<MountSignal, Global>,
+    wake_signal: Arc<WakeSignal, Global>,
     /// Whether the waking thread knows of the mount; else its players are woken at each packet.
     posted: bool,
     /// After so many packets it is looked where the players are.
@@ -58,8 +58,8 @@ impl<R: Clock + Copy + Drop, F: Drop> Posting<R, F> {
     pub fn new(
         rt: R,
         feed: F,
-        notice: Arc<Notice, Global>,
-        bell: Arc<Bell, Global>,
+        signal: Arc<MountSignal, Global>,
+        wake_signal: Arc<WakeSignal, Global>,
         keep: u64,
     ) -> Posting<R, F>
         ensures { result ≡ record { feed = feed; gave_up = false } }
@@ -67,8 +67,8 @@ impl<R: Clock + Copy + Drop, F: Drop> Posting<R, F> {
         Posting {
             rt,
             feed: Insisting::new(feed, Moments::new(rt)),
-            notice,
-            bell,
+            signal,
+            wake_signal,
             posted: false,
             stretch: (keep / 4).max(TAKES),
             most: keep.saturating_sub((keep / 4).max(TAKES)).max(TAKES),
@@ -87,17 +87,17 @@ impl<R: Clock + Drop, F: Feed> Posting<R, F> {
         let Posting {
             rt: _,
             feed,
-            notice,
+            signal,
             ..
         } = self;
         feed.close();
-        notice.end();
+        signal.end();
         waited
     }
 
     /// What tells the players of the mount.
-    pub fn notice(&self) -> &Arc<Notice, Global> {
-        &self.notice
+    pub fn signal(&self) -> &Arc<MountSignal, Global> {
+        &self.signal
     }
 
     /// Whether the waking thread knows of the mount; else its players are woken at each packet.
@@ -113,6 +113,17 @@ impl<R: Clock + Drop, F: Feed> Posting<R, F> {
     }
 }
 
+impl<R, F> Posting<R, F> {
+    /// Counts what became of a packet of so many bytes, for whoever reports it meanwhile.
+    fn count(&self, published: &Result<u64, Refused>, bytes: usize) {
+        match published {
+            Ok(_) => self.signal.tallies.add_packet(bytes),
+            Err(Refused::Pinned { .. }) => self.signal.tallies.add_pinned(),
+            Err(_) => {}
+        }
+    }
+}
+
 impl<R: Wait + Clock + Drop, F> Posting<R, F> {
     /// Wakes the players where one of those that keep up hasn't taken the last stretch, and waits for them where it is behind by
     /// most of what the ring keeps: the rest of a burst waits in the publisher's socket meanwhile, and not in the ring, which
@@ -125,13 +136,13 @@ impl<R: Wait + Clock + Drop, F> Posting<R, F> {
             return;
         }
         self.looked = published;
-        let slowest = self.notice.pace.slowest(&self.rt, published);
+        let slowest = self.signal.pace.slowest(&self.rt, published);
         let behind = published.saturating_sub(slowest);
         if behind < self.stretch {
             return;
         }
         if behind < self.most || !self.give_way(published.saturating_sub(self.most / 2)) {
-            self.notice.wake();
+            self.signal.wake();
         }
     }
 
@@ -148,12 +159,12 @@ impl<R: Wait + Clock + Drop, F> Posting<R, F> {
         if most / 2 < LEAST {
             return false;
         }
-        let awaited = self.notice.pace.open(&self.rt, target);
+        let awaited = self.signal.pace.open(&self.rt, target);
         if awaited == 0 {
             return false;
         }
         // After the opening, so that a player which looked before it doesn't sleep; what waking takes is waited, too.
-        self.notice.wake();
+        self.signal.wake();
         self.wait_while_some_come(awaited, now, most);
         let then = self.now().unwrap_or(now.saturating_add(most));
         self.allowance.spend(now, then);
@@ -168,13 +179,13 @@ impl<R: Wait + Clock + Drop, F> Posting<R, F> {
         for sixteenths in LOOKS {
             let look = began.saturating_add(most / 16 * sixteenths);
             let rest = look.saturating_sub(self.now().unwrap_or(look));
-            let left = self.notice.pace.wait(&self.rt, Duration::from_micros(rest));
+            let left = self.signal.pace.wait(&self.rt, Duration::from_micros(rest));
             if left == 0 || left == awaited {
                 break;
             }
             awaited = left;
         }
-        self.notice.pace.give_up(&self.rt);
+        self.signal.pace.give_up(&self.rt);
     }
 
     /// How many microseconds have passed since the feed was made. `None` where the clock can't be read.
@@ -194,18 +205,20 @@ impl<R: Wait + Clock + Drop, F: Feed> Feed for Posting<R, F> {
     ghost publish_gives = { PublishesAtLast F.publish_gives };
 
     fn publish(&mut self, tag: u8, bytes: &[u8]) -> Result<u64, Refused> {
-        let number = self.feed.publish(tag, bytes)?;
+        let published = self.feed.publish(tag, bytes);
+        self.count(&published, bytes.len());
+        let number = published?;
         if let Some((track, point)) = point_to_post(tag, bytes) {
-            self.notice.post(&self.rt, track, point);
+            self.signal.post(&self.rt, track, point);
         }
         if self.posted {
-            if self.notice.mark() {
-                self.bell.hurry();
+            if self.signal.mark() {
+                self.wake_signal.hurry();
             } else {
-                self.bell.ring();
+                self.wake_signal.notify();
             }
         } else {
-            self.notice.wake();
+            self.signal.wake();
         }
         self.keep_pace(number.saturating_add(1));
         Ok(number)

@@ -1,5 +1,5 @@
 //! What the writers of a server sleep on.
-use crate::notice::low_half;
+use crate::mount_signal::low_half;
 use std::sync::Wait;
 use std::sync::atomic::{AtomicU64, Ordering};
 use std::time::Duration;
@@ -21,7 +21,7 @@ impl Signal {
 
     /// Wakes all writers, so that each looks at its players.
     ///
-    /// Called once a look sees what there is to be seen: a wake-up was counted, a player came, or a marked line was given back.
+    /// Called once a look sees what there is to be seen: a wake-up was counted, a player came, or a marked writing side was given back.
     pub(crate) fn raise(&self) {
         let _ = self
             .raised

@@ -68,8 +68,15 @@ impl Read for Socket {
 }
 
 impl Write for Socket {
+    /// A write that a signal interrupts is made again: the system doesn't, for a socket whose writes end after a while.
     fn write(&mut self, buf: &[u8]) -> io::Result<usize> {
         let mut stream: &TcpStream = &self.stream;
+        for _ in 1..MOST_TRIES {
+            match stream.write(buf) {
+                Err(error) if error.kind() == ErrorKind::Interrupted => {}
+                written => return written,
+            }
+        }
         stream.write(buf)
     }
 
@@ -106,3 +113,6 @@ impl TryWrite for Socket {
         }
     }
 }
+
+/// How often a write is tried that signals interrupt.
+const MOST_TRIES: u32 = 16;

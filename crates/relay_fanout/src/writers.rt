@@ -1,10 +1,10 @@
 //! The threads that send the frames of many players.
 ghost use Rattle.std.specs.Prelude.{◌≤◌};
 
-use crate::bell::Bell;
-use crate::frames::Hand;
+use crate::frames::SharedPlayer;
 use crate::maker::Leave;
 use crate::socket::HangUp;
+use crate::wake_signal::WakeSignal;
 use cursor::Tap;
 use interleaved::{Sink, TrySink};
 use std::alloc::{AllocError, Global};
@@ -20,7 +20,7 @@ use waking::{Next, Sweep};
 #[derive(Drop)]
 pub struct Writers<T, W: Sink, H> {
     lists: Vec<Mutex<List<T, W, H>>>,
-    bell: Arc<Bell, Global>,
+    wake_signal: Arc<WakeSignal, Global>,
     stopped: AtomicBool,
     /// For how many milliseconds a peer may take no byte while some wait for it.
     most: u64,
@@ -47,7 +47,7 @@ pub(crate) struct Place {
 /// A player of a writer.
 #[derive(Drop)]
 struct Player<T, W: Sink, H> {
-    hand: Arc<Hand<T, W, H>, Global>,
+    shared: Arc<SharedPlayer<T, W, H>, Global>,
     /// Which of its connection's players it is.
     number: u64,
     turn: u64,
@@ -66,7 +66,7 @@ impl<T: Drop, W: Sink + Drop, H: Drop> Writers<T, W, H> {
     pub fn new(
         alloc: Global,
         count: usize,
-        bell: Arc<Bell, Global>,
+        wake_signal: Arc<WakeSignal, Global>,
         most: u64,
     ) -> Result<Writers<T, W, H>, AllocError> {
         let mut lists = Vec::with_capacity(alloc, count)?;
@@ -78,7 +78,7 @@ impl<T: Drop, W: Sink + Drop, H: Drop> Writers<T, W, H> {
         }
         Ok(Writers {
             lists,
-            bell,
+            wake_signal,
             stopped: AtomicBool::new(false),
             most,
         })
@@ -102,10 +102,10 @@ impl<T: Drop, W: Sink + Drop, H: Drop> Writers<T, W, H> {
     pub(crate) fn add(
         &self,
         rt: &impl Wait,
-        hand: &Arc<Hand<T, W, H>, Global>,
+        shared: &Arc<SharedPlayer<T, W, H>, Global>,
         number: u64,
     ) -> Result<Place, NoWriter> {
-        let hand = Arc::try_clone(hand)?;
+        let shared = Arc::try_clone(shared)?;
         let writer = self.with_fewest(rt);
         let Some(list) = self.lists.get(writer) else {
             return Err(NoWriter);
@@ -113,12 +113,16 @@ impl<T: Drop, W: Sink + Drop, H: Drop> Writers<T, W, H> {
         let mut list = list.lock(rt);
         let turn = list.changes;
         list.players
-            .push(Player { hand, number, turn })
+            .push(Player {
+                shared,
+                number,
+                turn,
+            })
             .map_err(|refused| AllocError::from(refused))?;
         list.changes = list.changes.saturating_add(1);
         drop(list);
         // Once the player is in the list, so that its writer finds it there.
-        self.bell.writers.raise();
+        self.wake_signal.writers.raise();
         Ok(Place { writer, turn })
     }
 
@@ -144,7 +148,7 @@ impl<T: Drop, W: Sink + Drop, H: Drop> Writers<T, W, H> {
     /// Ends the writers.
     pub fn stop(&self) {
         self.stopped.store(true, Ordering::SeqCst);
-        self.bell.writers.raise();
+        self.wake_signal.writers.raise();
     }
 }
 
@@ -172,13 +176,13 @@ impl<T: Tap + Leave + Drop, W: TrySink + Drop, H: HangUp + Drop> Writers<T, W, H
         let began = Instant::now(rt).ok();
         for _ in rt.forever() {
             // Read before the players are looked at, so that a raise for what a look didn't see ends the sleep.
-            let raised = self.bell.writers.raised();
+            let raised = self.wake_signal.writers.raised();
             if self.stopped.load(Ordering::SeqCst) {
                 return;
             }
             let (sweep, changes) = self.look_at_all(rt, list, &mut buf, now(rt, began));
             if sweep.is_over(changes) {
-                self.bell.writers.sleep(rt, raised, sweep.later);
+                self.wake_signal.writers.sleep(rt, raised, sweep.later);
             }
         }
     }
@@ -196,10 +200,17 @@ impl<T: Tap + Leave + Drop, W: TrySink + Drop, H: HangUp + Drop> Writers<T, W, H
         let mut sweep = Sweep::new(list.lock(rt).changes);
         let mut place = 0;
         for _ in rt.forever() {
-            let Some(Player { hand, number, turn }) = player_at(rt, list, place) else {
+            let Some(
+                Player {
+                    shared,
+                    number,
+                    turn,
+                },
+            ) = player_at(rt, list, place)
+            else {
                 break;
             };
-            let next = hand.look(rt, number, buf, now, self.most);
+            let next = shared.look(rt, number, buf, now, self.most);
             sweep.add(next);
             if next == Next::Over {
                 // It may have come anew meanwhile, which is another turn.
@@ -220,9 +231,13 @@ fn player_at<T, W: Sink, H>(
 ) -> Option<Player<T, W, H>> {
     let list = list.lock(rt);
     let found = list.players.get(place)?;
-    let hand = Arc::try_clone(&found.hand).ok()?;
+    let shared = Arc::try_clone(&found.shared).ok()?;
     let (number, turn) = (found.number, found.turn);
-    Some(Player { hand, number, turn })
+    Some(Player {
+        shared,
+        number,
+        turn,
+    })
 }
 
 /// How many milliseconds have passed since then. Where the clock can't be read each moment has come.

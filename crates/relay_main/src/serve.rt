@@ -1,5 +1,7 @@
 //! The command `relay serve`.
+ghost use Rattle.std.specs.Prelude.{◌≡◌};
 ghost use Rattle.relay_command.specs.Serving.{IsInRange};
+ghost use Rattle.relay_main.specs.Served.{milliseconds_of, told_to};
 
 use crate::moments::ClockMoments;
 use log::{Log, warn};
@@ -40,6 +42,39 @@ fn one_a_processor(rt: &impl Threads) -> usize {
     }
 }
 
+/// What a server with these settings is told to do, on so many processors.
+fn options_of(settings: Settings, processors: usize) -> Options
+    ensures { result ≡ told_to settings processors }
+{
+    Options {
+        accept: settings.accept,
+        gather: settings.gather,
+        back: settings.back,
+        after_end: settings.hang_up_ended.then_some(AFTER_END),
+        write_wait: WRITE_WAIT,
+        read_wait: READ_WAIT,
+        idle: in_milliseconds(settings.idle),
+        writers: if settings.is_direct {
+            0
+        } else {
+            settings.writers.unwrap_or(processors)
+        },
+        is_direct: settings.is_direct,
+        is_verbose: settings.is_verbose,
+        report: in_milliseconds(settings.report),
+    }
+}
+
+/// As many seconds, in milliseconds.
+fn in_milliseconds(seconds: Option<u64>) -> Option<u64>
+    ensures { result ≡ milliseconds_of seconds }
+{
+    match seconds {
+        Some(seconds) => Some(seconds.saturating_mul(1_000)),
+        None => None,
+    }
+}
+
 /// Listens and serves. Answers the line that tells why it can't go on.
 pub fn serve<R>(rt: R, alloc: Global, addr: &str, settings: Settings) -> Result<(), &'static str>
 where
@@ -70,22 +105,11 @@ where
     let Ok(rng) = drawn else {
         return Err(NoWords::NoRandomSource.line());
     };
-    let maker = RingMaker::new(settings.keep, settings.seats, settings.packet_bytes).going_back(
-        settings.back,
-    );
+    let maker = RingMaker::new(settings.keep, settings.seats, settings.packet_bytes);
     let Ok(book) = shared_book(alloc, settings.seats, hasher) else {
         return Err(OUT_OF_MEMORY);
     };
-    let options = Options {
-        accept: settings.accept,
-        gather: settings.gather,
-        after_end: settings.hang_up_ended.then_some(AFTER_END),
-        write_wait: WRITE_WAIT,
-        read_wait: READ_WAIT,
-        idle: settings.idle.map(|seconds| seconds.saturating_mul(1_000)),
-        writers: settings.writers.unwrap_or_else(|| one_a_processor(&rt)),
-        is_verbose: settings.is_verbose,
-    };
+    let options = options_of(settings, one_a_processor(&rt));
     if let Ok(bound) = listener.local_addr() {
         let _ = eprintln!(rt; "relay: listening on {bound}");
     }

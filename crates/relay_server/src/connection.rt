@@ -3,7 +3,7 @@ mod asking;
 mod carrying_out;
 mod expiring;
 mod incoming;
-mod told;
+mod session_snapshot;
 
 use crate::events::Events;
 use crate::gate::Gate;
@@ -13,14 +13,16 @@ use crate::shared::Shared;
 use interleaved::{Sink, Source};
 use publisher::InStop;
 use relay_accounts::{ConnectionEnd, Counts, Outcome, Part, end_of, status_of};
-use relay_fanout::{Frames, Hand, HangUp, Line, Maker, Posting, Writers, close_behind_text};
+use relay_fanout::{
+    Frames, HangUp, Maker, Posting, SharedPlayer, Writers, WritingSide, close_behind_text,
+};
 use rtsp_message::{Intake, Request, Status};
+use session_snapshot::SessionSnapshot;
 use session_state::{Act, Method, Moments, Words, read_method};
 use std::alloc::Global;
 use std::sync::{Arc, Wait};
 use std::thread::Threads;
 use std::time::{Clock, Duration};
-use told::Told;
 
 /// A connection that is being served, by the thread that reads it.
 #[derive(Drop)]
@@ -28,14 +30,14 @@ pub(crate) struct Connection<R, M: Maker, V, G, W: Sink, H, N> {
     rt: R,
     alloc: Global,
     shared: Arc<Shared<M, V, G>, Global>,
-    hand: Arc<Hand<M::Out, W, H>, Global>,
+    player: Arc<SharedPlayer<M::Out, W, H>, Global>,
     /// Who sends its frames; `None` where a thread of its own does.
     writers: Option<Arc<Writers<M::Out, W, H>, Global>>,
     conn: u64,
     /// How many requests have passed the gate.
     turns: u64,
     /// The session as the last answer left it.
-    session: Option<Told>,
+    session: Option<SessionSnapshot>,
     /// Its part in the mount of its last session.
     part: Option<Part>,
     /// From an accepted ANNOUNCE to the mount's end.
@@ -53,11 +55,11 @@ pub(crate) struct Connection<R, M: Maker, V, G, W: Sink, H, N> {
     hearing: Hearing<N>,
 }
 
-/// Where a connection's replies and frames go: its line, what ends it, and the writers that send its frames, or `None` where a
+/// Where a connection's replies and frames go: its writing side, what ends it, and the writers that send its frames, or `None` where a
 /// thread of its own does.
 #[derive(Drop)]
 pub struct Outgoing<T, W: Sink, H> {
-    pub line: Line<W>,
+    pub writing: WritingSide<W>,
     pub wire: H,
     pub writers: Option<Arc<Writers<T, W, H>, Global>>,
 }
@@ -87,12 +89,12 @@ where
     N: Moments + Drop,
 {
     let Outgoing {
-        line,
+        writing,
         wire,
         writers,
     } = outgoing;
-    let hand = match Arc::new(alloc, Hand::new(line, wire)) {
-        Ok(hand) => hand,
+    let player = match Arc::new(alloc, SharedPlayer::new(writing, wire)) {
+        Ok(player) => player,
         Err(refused) => {
             turn_away(
                 &rt,
@@ -113,7 +115,7 @@ where
         rt,
         alloc,
         shared,
-        hand,
+        player,
         writers,
         conn,
         turns: 0,
@@ -141,7 +143,7 @@ fn turn_away<R, M, V, G, S, W, H>(
     rt: &R,
     shared: &Shared<M, V, G>,
     conn: u64,
-    hand: &Hand<M::Out, W, H>,
+    player: &SharedPlayer<M::Out, W, H>,
     reader: &mut S,
     watch: &Watch,
 )
@@ -154,10 +156,10 @@ where
     W: Sink + Drop,
     H: HangUp + Drop,
 {
-    let _ = hand.write_plain(rt, &shared.bell, Status::ServiceUnavailable, None);
+    let _ = player.write_plain(rt, &shared.wake_signal, Status::ServiceUnavailable, None);
     let _ = shared.book.lock(rt).hangup(conn);
     watch.close();
-    close_behind_text(&hand.wire, reader, LAST_READS, AFTER_TEXT);
+    close_behind_text(&player.wire, reader, LAST_READS, AFTER_TEXT);
 }
 
 impl<R, M, V, G, W, H, N> Connection<R, M, V, G, W, H, N>
@@ -199,12 +201,7 @@ where
         &mut self,
         intake: &mut Intake<S>,
     ) -> Result<(), ConnectionEnd> {
-        let before = self.unoffered();
-        let stop = self.next_message(intake);
-        if self.unoffered() != before {
-            self.hearing.note();
-        }
-        match stop {
+        match self.next_message(intake) {
             InStop::Message(request) => self.answer(&request),
             InStop::End => Err(ConnectionEnd::Done),
             InStop::ReadFailed => Err(self.read_failure()),
@@ -217,11 +214,6 @@ where
                 Err(ConnectionEnd::OutOfMemory)
             }
         }
-    }
-
-    /// How many frames were offered to no feed, and so are heard when all that came with them was looked at, at the latest.
-    fn unoffered(&self) -> u64 {
-        self.counts.bad_rtp.saturating_add(self.counts.strangers)
     }
 
     /// Answers a request, and does what the answer asks for.
@@ -248,7 +240,7 @@ where
     fn write_last(&mut self, status: Status) {
         self.stop_frames(Duration::from_millis(AFTER_TEXT));
         let _ = self.detach();
-        self.hand.wire.limit_waits(AFTER_TEXT);
+        self.player.wire.limit_waits(AFTER_TEXT);
         let _ = self.write_plain(status, None);
     }
 
@@ -267,14 +259,14 @@ where
             end,
             ConnectionEnd::StreamFault(_) | ConnectionEnd::OutOfMemory
         );
-        self.hand.phase.stop(&self.rt);
+        self.player.phase.stop(&self.rt);
         // A frame thread may wait for a peer that reads nothing; a writer waits for nobody, and mustn't find it hung up.
         if !has_last_text && self.has_frame_thread() {
-            self.hand.wire.hang_up();
+            self.player.wire.hang_up();
         }
         let sent = self.detach();
         if !has_last_text {
-            self.hand.wire.hang_up();
+            self.player.wire.hang_up();
         }
         // It may have ended with its session before.
         if act == Act::End || end == ConnectionEnd::Expired {
@@ -282,7 +274,7 @@ where
         }
         if has_last_text {
             self.hearing.watch().close();
-            close_behind_text(&self.hand.wire, source, LAST_READS, AFTER_TEXT);
+            close_behind_text(&self.player.wire, source, LAST_READS, AFTER_TEXT);
         }
         end_of(end, sent, self.is_over)
     }

@@ -1,18 +1,20 @@
 //! Lines that tell of mounts and players as they come and go.
 use crate::lines::Lines;
+use crate::reports::{ReportedSeat, Reports};
 use base_syntax::Bytes;
 use cursor::Left;
 use log::info;
 use mounts::{Uri, read_uri};
 use relay_accounts::{Counts, Part};
+use relay_fanout::MountSignal;
 use rtsp_message::Request;
 use std::alloc::Global;
 use std::net::SocketAddr;
 use std::sync::{Arc, Wait};
 use std::time::{Clock, Instant};
 
-/// What a connection tells of the mount that it announced and of the seat that it plays from, as they come and go: a line
-/// for each. One for which there is no memory counts as dropped.
+/// What a connection tells of the mount that it announced and of the seat that it plays from: a line for each as they come and
+/// go, and what reports tell of them while they go on. What there is no memory for counts as a dropped line.
 #[derive(Drop)]
 pub struct Events<R> {
     /// `None` where nothing is told.
@@ -26,6 +28,11 @@ pub struct Events<R> {
 struct Teller<R> {
     lines: Arc<Lines<R>, Global>,
     peer: SocketAddr,
+    conn: u64,
+    /// Whether a line tells of each mount and each player as they come and go.
+    is_verbose: bool,
+    /// What is told of them while they go on. `None` for nothing.
+    reports: Option<Arc<Reports, Global>>,
 }
 
 /// A mount that a connection has announced.
@@ -47,25 +54,42 @@ impl<R> Events<R> {
         }
     }
 
-    /// What a connection of this peer tells in these lines; nothing where they aren't asked for.
-    pub fn new(lines: &Arc<Lines<R>, Global>, peer: SocketAddr, is_verbose: bool) -> Events<R> {
-        if !is_verbose {
+    /// What the connection of this number and peer tells in these lines and reports; nothing where neither is asked for.
+    pub fn new(
+        lines: &Arc<Lines<R>, Global>,
+        peer: SocketAddr,
+        conn: u64,
+        is_verbose: bool,
+        reports: Option<Arc<Reports, Global>>,
+    ) -> Events<R> {
+        if !is_verbose && reports.is_none() {
             return Events::none();
         }
         match Arc::try_clone(lines) {
             Ok(lines) => Events {
-                teller: Some(Teller { lines, peer }),
+                teller: Some(Teller {
+                    lines,
+                    peer,
+                    conn,
+                    is_verbose,
+                    reports,
+                }),
                 mount: None,
             },
             Err(_) => Events::none(),
         }
+    }
+
+    /// Where lines tell of what comes and goes.
+    fn verbose(&self) -> Option<&Teller<R>> {
+        self.teller.as_ref().filter(|teller| teller.is_verbose)
     }
 }
 
 impl<R: Wait + Clock> Events<R> {
     /// An ANNOUNCE of the connection was accepted, when it had these counts.
     pub(crate) fn announced(&mut self, alloc: Global, request: &Request, counts: &Counts) {
-        let Some(teller) = &self.teller else {
+        let Some(teller) = self.verbose() else {
             return;
         };
         let Some(name) = name_in(alloc, request) else {
@@ -83,20 +107,37 @@ impl<R: Wait + Clock> Events<R> {
         });
     }
 
-    /// Its mount is recorded for the first time.
-    pub(crate) fn recorded(&mut self, rt: &R) {
-        let (Some(teller), Some(mount)) = (&self.teller, &mut self.mount) else {
+    /// Its mount of this number, in which it has this part, is recorded for the first time.
+    pub(crate) fn recorded(
+        &mut self,
+        rt: &R,
+        alloc: Global,
+        mount: u64,
+        part: &Option<Part>,
+        signal: &Arc<MountSignal, Global>,
+    ) {
+        let Some(teller) = &self.teller else {
+            return;
+        };
+        teller.report_mount(rt, alloc, mount, part, signal);
+        let Some(announced) = &mut self.mount else {
             return;
         };
         let peer = teller.peer;
-        info!(teller.lines; "{peer}: mount {} is recorded", mount.name.as_slice().escape_ascii());
-        mount.recorded = Instant::now(rt).ok();
+        info!(teller.lines; "{peer}: mount {} is recorded", announced.name.as_slice().escape_ascii());
+        announced.recorded = Instant::now(rt).ok();
     }
 
     /// Its mount has ended, and it has these counts. Tells those since the ANNOUNCE, and the whole seconds since the first
     /// RECORD.
     pub(crate) fn ended(&mut self, rt: &R, counts: &Counts) {
-        let (Some(teller), Some(mount)) = (&self.teller, self.mount.take()) else {
+        let Some(teller) = &self.teller else {
+            return;
+        };
+        if let Some(reports) = &teller.reports {
+            reports.mount_ends(rt, teller.conn);
+        }
+        let Some(mount) = self.mount.take() else {
             return;
         };
         let peer = teller.peer;
@@ -111,22 +152,44 @@ impl<R: Wait + Clock> Events<R> {
         }
     }
 
-    /// The connection, which has this part in a mount, plays from this seat of it.
-    pub(crate) fn plays(&self, part: &Option<Part>, seat: usize) {
+    /// The connection, which has this part in the mount of this number, plays from this seat of it.
+    pub(crate) fn plays(
+        &self,
+        rt: &R,
+        alloc: Global,
+        mount: u64,
+        part: &Option<Part>,
+        seat: usize,
+        signal: &Arc<MountSignal, Global>,
+    ) {
         let Some(teller) = &self.teller else {
             return;
         };
+        let Some(part) = part else {
+            teller.lines.miss();
+            return;
+        };
         let peer = teller.peer;
-        match part {
-            Some(part) => {
-                info!(teller.lines; "{peer}: plays {} from seat {seat}", part.name.as_slice().escape_ascii())
+        let name = part.name.as_slice();
+        if let Some(reports) = &teller.reports {
+            let seat = ReportedSeat {
+                peer,
+                mount,
+                name,
+                seat,
+                signal,
+            };
+            if reports.player_begins(rt, alloc, teller.conn, seat).is_err() {
+                teller.lines.miss();
             }
-            None => teller.lines.miss(),
+        }
+        if teller.is_verbose {
+            info!(teller.lines; "{peer}: plays {} from seat {seat}", name.escape_ascii());
         }
     }
 
     /// The connection leaves this seat with this account, of a ring that keeps so many packets.
-    pub(crate) fn leaves(&self, part: &Option<Part>, seat: usize, left: &Left, keep: u64) {
+    pub(crate) fn leaves(&self, rt: &R, part: &Option<Part>, seat: usize, left: &Left, keep: u64) {
         let Some(teller) = &self.teller else {
             return;
         };
@@ -134,11 +197,40 @@ impl<R: Wait + Clock> Events<R> {
         let mut counts = Counts::new();
         counts.add_out(left, keep);
         let Counts { taken, lost, .. } = counts;
+        if let Some(reports) = &teller.reports {
+            reports.player_leaves(rt, teller.conn, lost);
+        }
         match part {
-            Some(part) => {
+            Some(part) if teller.is_verbose => {
                 info!(teller.lines; "{peer}: leaves seat {seat} of {}: sent {taken}, lost {lost}", part.name.as_slice().escape_ascii())
             }
+            Some(_) => {}
             None => teller.lines.miss(),
+        }
+    }
+}
+
+impl<R: Wait> Teller<R> {
+    /// Reports tell of the mount from now on.
+    fn report_mount(
+        &self,
+        rt: &R,
+        alloc: Global,
+        mount: u64,
+        part: &Option<Part>,
+        signal: &Arc<MountSignal, Global>,
+    ) {
+        let Some(reports) = &self.reports else {
+            return;
+        };
+        let is_told = part.as_ref().is_some_and(|part| {
+            let name = part.name.as_slice();
+            reports
+                .mount_begins(rt, alloc, self.conn, mount, name, signal)
+                .is_ok()
+        });
+        if !is_told {
+            self.lines.miss();
         }
     }
 }

@@ -65,12 +65,6 @@ impl<N: Moments + Drop> Hearing<N> {
         self.watch.heard.pass(now);
         now
     }
-
-    /// A whole message or frame has come now.
-    pub(crate) fn note(&mut self) {
-        let _now = self.now();
-        self.watch.heard.note();
-    }
 }
 
 impl<N> Hearing<N> {

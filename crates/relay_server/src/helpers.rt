@@ -1,7 +1,8 @@
 //! The threads of a server that no connection has.
 use crate::gate::Gate;
+use crate::options::Options;
 use crate::server::Server;
-use log::Log;
+use log::{Log, warn};
 use session_state::{Moments, Words};
 use std::alloc::{AllocError, Global};
 use std::io::Eprint;
@@ -13,22 +14,24 @@ use std::time::{Clock, Duration};
 /// How long the end of a server waits for its last lines to be written, in milliseconds.
 const LAST_LINES: u64 = 1_000;
 
-/// The threads of a server that no connection has: one wakes players, one closes the peers that are refused, writers send
-/// frames, and one, which isn't joined since nobody may read what it writes, writes lines.
+/// The threads of a server that no connection has: one wakes players, one closes the peers that are refused, one tells of mounts
+/// and players where that is asked for, writers send frames, and one, which isn't joined since nobody may read what it writes,
+/// writes lines.
 #[derive(Drop)]
 pub(crate) struct Helpers {
-    waking: JoinHandle<()>,
-    closing: JoinHandle<()>,
+    waking: Option<JoinHandle<()>>,
+    closing: Option<JoinHandle<()>>,
     writing: Vec<JoinHandle<()>>,
+    reporting: Option<JoinHandle<()>>,
 }
 
 impl Helpers {
-    /// Starts them. Packets gather for so many milliseconds.
+    /// Starts them. Where one can't be started that is told, and those that were are ended again.
     pub(crate) fn start<R, V, G, N>(
         rt: R,
         alloc: Global,
         server: &Server<R, V, G, N>,
-        gather: u64,
+        options: Options,
     ) -> Result<Helpers, AllocError>
     where
         R: Threads + Wait + Clock + Log + Eprint + Copy + Send + Sync + 'static,
@@ -36,26 +39,66 @@ impl Helpers {
         G: Gate + Drop + Send + Sync + 'static,
         N: Moments,
     {
-        let shared = Arc::try_clone(&server.shared)?;
-        let refusing = Arc::try_clone(&server.refusing)?;
-        let told = Arc::try_clone(&server.lines)?;
+        let mut helpers = Helpers {
+            waking: None,
+            closing: None,
+            writing: Vec::new(alloc),
+            reporting: None,
+        };
+        match helpers.start_all(rt, alloc, server, options) {
+            Ok(()) => Ok(helpers),
+            Err(refused) => {
+                warn!(rt; "no thread or no memory for what all connections share");
+                helpers.end(&rt, server);
+                Err(refused)
+            }
+        }
+    }
+
+    /// Starts one after another.
+    fn start_all<R, V, G, N>(
+        &mut self,
+        rt: R,
+        alloc: Global,
+        server: &Server<R, V, G, N>,
+        options: Options,
+    ) -> Result<(), AllocError>
+    where
+        R: Threads + Wait + Clock + Log + Eprint + Copy + Send + Sync + 'static,
+        V: Words + Drop + Send + 'static,
+        G: Gate + Drop + Send + Sync + 'static,
+        N: Moments,
+    {
+        let gate = &server.shared.gate;
         let written = Arc::try_clone(&server.lines)?;
-        let gather = Duration::from_millis(gather);
+        ask(gate)?;
         thread::spawn(&rt, move || written.write_all())?;
-        let mut writing = Vec::new(alloc);
         if let Some(writers) = &server.writers {
             for number in 0..writers.len() {
                 let theirs = Arc::try_clone(writers)?;
-                writing.push(thread::spawn(&rt, move || {
-                    theirs.write_all(&rt, alloc, number)
-                })?)?;
+                ask(gate)?;
+                let thread = thread::spawn(&rt, move || theirs.write_all(&rt, alloc, number))?;
+                self.writing.push(thread)?;
             }
         }
-        Ok(Helpers {
-            writing,
-            waking: thread::spawn(&rt, move || shared.wake_players(&rt, gather))?,
-            closing: thread::spawn(&rt, move || refusing.close_all(&rt, &told))?,
-        })
+        let shared = Arc::try_clone(&server.shared)?;
+        let gather = Duration::from_millis(options.gather);
+        ask(gate)?;
+        self.waking = Some(thread::spawn(&rt, move || { shared.wake_players(&rt, gather) })?);
+        let refusing = Arc::try_clone(&server.refusing)?;
+        let told = Arc::try_clone(&server.lines)?;
+        ask(gate)?;
+        self.closing = Some(thread::spawn(&rt, move || refusing.close_all(&rt, &told))?);
+        if let (Some(reports), Some(distance)) = (&server.reports, options.report) {
+            let reports = Arc::try_clone(reports)?;
+            let lines = Arc::try_clone(&server.lines)?;
+            let distance = Duration::from_millis(distance);
+            ask(gate)?;
+            self.reporting = Some(thread::spawn(&rt, move || {
+                reports.tell_all(&rt, &lines, distance)
+            })?);
+        }
+        Ok(())
     }
 
     /// Ends them, after the last connection.
@@ -68,17 +111,38 @@ impl Helpers {
             waking,
             closing,
             writing,
+            reporting,
         } = self;
         server.shared.stop_waking();
-        waking.join(rt);
+        join(rt, waking);
         if let Some(writers) = &server.writers {
             writers.stop();
         }
         for thread in writing {
             thread.join(rt);
         }
+        if let Some(reports) = &server.reports {
+            reports.close(rt);
+        }
+        join(rt, reporting);
         server.refusing.end(rt);
-        closing.join(rt);
+        join(rt, closing);
         server.lines.close(Duration::from_millis(LAST_LINES));
+    }
+}
+
+/// Waits for a thread, if it was started.
+fn join<R: Threads + Wait>(rt: &R, thread: Option<JoinHandle<()>>) {
+    if let Some(thread) = thread {
+        thread.join(rt);
+    }
+}
+
+/// Where the gate refuses a thread there is none, as where the system does.
+fn ask(gate: &impl Gate) -> Result<(), AllocError> {
+    if gate.may_help() {
+        Ok(())
+    } else {
+        Err(AllocError)
     }
 }

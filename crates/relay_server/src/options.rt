@@ -7,6 +7,8 @@ pub struct Options {
     pub accept: Option<u64>,
     /// For so many milliseconds packets gather before the players of their mount are woken.
     pub gather: u64,
+    /// So many of the kept packets a player is given that begins to play.
+    pub back: u64,
     /// A player is told the end of its stream once the last packet of its mount was written, and hung up if it is still
     /// there so many milliseconds later. `None` lets it stay.
     pub after_end: Option<u64>,
@@ -20,6 +22,12 @@ pub struct Options {
     pub idle: Option<u64>,
     /// So many threads send the frames of all players; 0 gives each player a thread of its own.
     pub writers: usize,
+    /// Whether a player's own thread writes packets from where they lie in the ring: then a player that reads nothing holds up its
+    /// mount, whose packets are refused and counted meanwhile. With writers nothing is written so.
+    pub is_direct: bool,
     /// Whether lines tell of each mount and each player as they come and go.
     pub is_verbose: bool,
+    /// After so many milliseconds, and again after as many, lines tell of each mount to which packets came, and of each player that
+    /// lost some. `None` for never.
+    pub report: Option<u64>,
 }

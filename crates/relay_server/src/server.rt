@@ -9,13 +9,14 @@ use crate::lines::Lines;
 use crate::options::Options;
 use crate::refusal::Refusal;
 use crate::refusing::{Refusing, tell_unavailable};
+use crate::reports::Reports;
 use crate::shared::{Shared, SharedBook};
 use crate::watched::{Silence, Watched};
 use interleaved::{Reading, Writing};
 use log::{Log, info, warn};
 use packet_ring::{Pass, Subscriber};
 use relay_accounts::{ConnectionEnd, Outcome};
-use relay_fanout::{Line, Maker, RingMaker, Seat, Socket, Writers, low_half};
+use relay_fanout::{Maker, RingMaker, Seat, Socket, Writers, WritingSide, low_half};
 use session_state::{Moments, Words};
 use std::alloc::{AllocError, Global};
 use std::io::Eprint;
@@ -63,16 +64,19 @@ where
     N: Moments + Copy + Send + Sync + 'static,
 {
     let after_end = options.after_end.map(Duration::from_millis);
+    let maker = maker.going_back(options.back).lending(options.is_direct);
     let shared = Shared::new(alloc, maker, book, words, gate, after_end)?;
     let shared = Arc::new(alloc, shared)?;
     let lines = Arc::new(alloc, Lines::new(rt, alloc)?)?;
     let refusing = Arc::new(alloc, Refusing::new(&rt, alloc)?)?;
     let writers = writers_of(alloc, &shared, options)?;
+    let reports = reports_of(alloc, &shared, options)?;
     let server = Server {
         shared,
         writers,
         lines,
         refusing,
+        reports,
         moments,
         silence: Silence {
             looks: options.read_wait,
@@ -80,7 +84,7 @@ where
         },
         is_verbose: options.is_verbose,
     };
-    let helpers = Helpers::start(rt, alloc, &server, options.gather)?;
+    let helpers = Helpers::start(rt, alloc, &server, options)?;
     accept_all(rt, alloc, listener, options, &server);
     wait_for_all(&rt, &server.shared);
     helpers.end(&rt, &server);
@@ -95,6 +99,8 @@ pub(crate) struct Server<R, V, G, N> {
     pub(crate) writers: Option<Arc<SocketWriters, Global>>,
     pub(crate) lines: Arc<Lines<R>, Global>,
     pub(crate) refusing: Arc<Refusing, Global>,
+    /// What is told of mounts and players while they go on. `None` for nothing.
+    pub(crate) reports: Option<Arc<Reports, Global>>,
     /// What tells each connection the time.
     moments: N,
     silence: Silence,
@@ -111,9 +117,22 @@ fn writers_of<V, G>(
     if options.writers == 0 {
         return Ok(None);
     }
-    let bell = Arc::try_clone(&shared.bell)?;
-    let writers = Writers::new(alloc, options.writers, bell, options.write_wait)?;
+    let wake_signal = Arc::try_clone(&shared.wake_signal)?;
+    let writers = Writers::new(alloc, options.writers, wake_signal, options.write_wait)?;
     Ok(Some(Arc::new(alloc, writers)?))
+}
+
+/// The reports that are asked for, which nobody tells yet.
+fn reports_of<V, G>(
+    alloc: Global,
+    shared: &RingShared<V, G>,
+    options: Options,
+) -> Result<Option<Arc<Reports, Global>>, AllocError> {
+    if options.report.is_none() {
+        return Ok(None);
+    }
+    let reports = Reports::new(alloc, shared.maker.keep());
+    Ok(Some(Arc::new(alloc, reports)?))
 }
 
 /// Accepts connections, for good or as many as are to be accepted.
@@ -249,14 +268,18 @@ where
     let same = Arc::try_clone(&server.shared)?;
     let lines = Arc::try_clone(&server.lines)?;
     let is_verbose = server.is_verbose;
+    let reports = match &server.reports {
+        Some(reports) => Some(Arc::try_clone(reports)?),
+        None => None,
+    };
     server.shared.live.fetch_add(1, Ordering::SeqCst);
     let run = move || {
         let outgoing = Outgoing {
-            line: Line::new(alloc, writer, longest),
+            writing: WritingSide::new(alloc, writer, longest),
             wire,
             writers,
         };
-        let events = Events::new(&lines, peer, is_verbose);
+        let events = Events::new(&lines, peer, conn, is_verbose, reports);
         let outcome = run_connection(rt, alloc, theirs, conn, reader, outgoing, events, hearing);
         tell_end(&lines, peer, &outcome);
         leave(&same);

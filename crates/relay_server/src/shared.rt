@@ -1,7 +1,7 @@
 //! What all threads of a server share.
 ghost use Rattle.std.specs.Prelude.{◌≤◌};
 
-use relay_fanout::{Bell, Board, Maker, Offers, Seat, wake_players};
+use relay_fanout::{Maker, Offers, RecordingMounts, Seat, WakeSignal, wake_players};
 use session_lock::Book;
 use std::alloc::{AllocError, Global};
 use std::collections::hash_map::RandomState;
@@ -39,8 +39,8 @@ pub struct Shared<M: Maker, V, G> {
     pub(crate) offers: Offers<M>,
     pub(crate) words: Mutex<V>,
     pub(crate) gate: G,
-    pub(crate) board: Board,
-    pub(crate) bell: Arc<Bell, Global>,
+    pub(crate) recording: RecordingMounts,
+    pub(crate) wake_signal: Arc<WakeSignal, Global>,
     /// For how long a player's connection may stay once the last packet of its mount was written. `None` for good.
     pub(crate) after_end: Option<Duration>,
     /// How many connections have a thread.
@@ -61,15 +61,15 @@ impl<M: Maker + Drop, V: Drop, G: Drop> Shared<M, V, G> {
         gate: G,
         after_end: Option<Duration>,
     ) -> Result<Shared<M, V, G>, AllocError> {
-        let bell = Arc::new(alloc, Bell::new())?;
+        let wake_signal = Arc::new(alloc, WakeSignal::new())?;
         Ok(Shared {
             maker,
             book,
             offers: Offers::new(),
             words: Mutex::new(words),
             gate,
-            board: Board::new(alloc)?,
-            bell,
+            recording: RecordingMounts::new(alloc)?,
+            wake_signal,
             after_end,
             live: AtomicU64::new(0),
         })
@@ -77,7 +77,7 @@ impl<M: Maker + Drop, V: Drop, G: Drop> Shared<M, V, G> {
 
     /// How many mounts are being recorded: those with a RECORD that haven't ended.
     pub fn recorded(&self, rt: &impl Wait) -> usize {
-        self.board.len(rt)
+        self.recording.len(rt)
     }
 }
 
@@ -85,11 +85,11 @@ impl<M: Maker, V, G> Shared<M, V, G> {
     /// Wakes the players of each mount that packets came to, until that is stopped: the work of a thread of its own. Packets
     /// gather for so long before that.
     pub fn wake_players<R: Wait + Clock>(&self, rt: &R, gather: Duration) {
-        wake_players(rt, &self.bell, &self.board, gather);
+        wake_players(rt, &self.wake_signal, &self.recording, gather);
     }
 
     /// Ends `wake_players`.
     pub fn stop_waking(&self) {
-        self.bell.stop();
+        self.wake_signal.stop();
     }
 }

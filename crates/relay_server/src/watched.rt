@@ -10,19 +10,20 @@ use std::sync::{Arc, Wait};
 
 /// For how long a peer may be silent.
 #[derive(Clone, Copy, Debug, Drop)]
-pub(crate) struct Silence {
+pub struct Silence {
     /// So often, in milliseconds, it is looked whether it was silent for too long.
-    pub(crate) looks: u64,
+    pub looks: u64,
     /// Without a session it is hung up after so many milliseconds. `None` for never.
-    pub(crate) idle: Option<u64>,
+    pub idle: Option<u64>,
 }
 
 /// A reader of a peer whose reads end after a while where nothing comes. Such a read is made again, and no failure, until the
-/// connection is closing or was silent for too long: then its session has expired, or it has none.
+/// connection is closing or was silent for too long: then its session has expired, or it has none. A read that a signal
+/// interrupts is made again too: the system doesn't, for a socket whose reads end after a while.
 ///
 /// Silence is looked for before a read and never behind one, so that what has just come is heard first.
 #[derive(Drop)]
-pub(crate) struct Watched<R, P, N, S> {
+pub struct Watched<R, P, N, S> {
     rt: R,
     inner: S,
     book: SharedBook<P>,
@@ -35,7 +36,7 @@ pub(crate) struct Watched<R, P, N, S> {
 
 impl<R: Drop, P, N: Copy, S: Drop> Watched<R, P, N, S> {
     /// Reads for this connection of a book.
-    pub(crate) fn new(
+    pub fn new(
         rt: R,
         inner: S,
         book: &SharedBook<P>,
@@ -94,16 +95,21 @@ impl<R: Wait, P: Drop, N: Moments + Drop, S> Watched<R, P, N, S> {
 impl<R: Wait + Copy, P: Drop, N: Moments + Drop, S: Read> Read for Watched<R, P, N, S> {
     fn read(&mut self, buf: &mut [u8]) -> io::Result<usize> {
         let rt = self.rt;
-        let mut is_silent = false;
+        let mut looks = self.is_due();
         for _ in rt.forever() {
-            if is_silent || self.is_due() {
+            if looks {
                 self.look()?;
             }
             let read = self.inner.read(buf);
-            self.hearing.now();
+            let now = self.hearing.now();
             match read {
+                // Where the process was held meanwhile, what waits is heard before it is looked again.
+                Err(error) if error.kind() == ErrorKind::Interrupted => {
+                    self.looked = now;
+                    looks = false;
+                }
                 Err(error) if is_late(&error) && !self.hearing.watch().is_closing() => {
-                    is_silent = true;
+                    looks = true;
                 }
                 read => return read,
             }
@@ -112,7 +118,8 @@ impl<R: Wait + Copy, P: Drop, N: Moments + Drop, S: Read> Read for Watched<R, P,
     }
 }
 
-/// Whether a read failed because nothing came for as long as it may wait.
+/// Whether a read failed because nothing came for as long as it may wait. `TimedOut` is no such failure: so fails a read from
+/// a peer of which the system hears no more.
 fn is_late(error: &io::Error) -> bool {
-    matches!(error.kind(), ErrorKind::WouldBlock | ErrorKind::TimedOut)
+    error.kind() == ErrorKind::WouldBlock
 }

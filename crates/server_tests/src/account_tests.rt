@@ -8,7 +8,7 @@ use crate::serving::{
 };
 use crate::words::CountedWords;
 use interleaved::Writing;
-use relay_server::{ConnectionEnd, Line};
+use relay_server::{ConnectionEnd, WritingSide};
 use std::alloc::{AllocError, Global};
 use std::process::Abort;
 use std::sync::atomic::Ordering;
@@ -87,7 +87,7 @@ fn stalled_line<R: Wait + Clock + Abort + Drop>(
     alloc: Global,
     watch: &Watch,
     stall: &Stall,
-) -> Line<Writing<Written<R>>> {
+) -> WritingSide<Writing<Written<R>>> {
     let let_on = Arc::try_clone(&stall.read).expect(&rt, "a count of its users");
     let writes = Arc::try_clone(&stall.writes).expect(&rt, "a count of its users");
     let manner = Manner::Held {

@@ -1,6 +1,7 @@
 //! Devices in memory, for tests.
 ghost use Rattle.std.specs.Prelude.{◌≤◌};
 
+use crate::moments::Dial;
 use interleaved::TryWrite;
 use relay_server::HangUp;
 use std::alloc::Global;
@@ -129,6 +130,8 @@ pub(crate) struct Staged<R> {
     let_on: Flag,
     /// The end comes once this is set, too.
     close: Option<Flag>,
+    /// By which its connection is served.
+    pub(crate) clock: Dial,
     /// How many bytes were given.
     given: usize,
 }
@@ -142,6 +145,7 @@ impl<R> Staged<R> {
             then,
             let_on,
             close: None,
+            clock: Dial::STILL,
             given: 0,
         }
     }
@@ -152,6 +156,11 @@ impl<R> Staged<R> {
             close: Some(close),
             ..self
         }
+    }
+
+    /// Its connection is served by this clock.
+    pub(crate) fn timed(self, clock: Dial) -> Staged<R> {
+        Staged { clock, ..self }
     }
 
     /// What isn't given yet of the part that it stands in.

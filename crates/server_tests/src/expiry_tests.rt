@@ -1,17 +1,21 @@
 //! Sessions that have expired when a request comes, before the silence was seen.
-use crate::account_tests::SETUP_OUT;
+use crate::account_tests::{SET_UP as PLAYS, SETUP_OUT};
 use crate::beside_tests::recording;
 use crate::connection_tests::{ANNOUNCE, ANNOUNCED, IN_SESSION, PAUSE, RECORD, SET_UP, SETUP};
-use crate::devices::joined;
-use crate::moments::Leaping;
+use crate::devices::{Flag, Staged, flag, has_come, joined, wait_for};
+use crate::moments::{Dial, Leaping};
 use crate::rings::Rings;
-use crate::serving::{SharedRings, book_of, line_to, sent_on, shared_over};
+use crate::serving::{
+    Serving, SharedRings, Watch, book_of, line_to, sent_on, serve_in_thread, serve_source,
+    shared_over,
+};
 use crate::words::OneWord;
 use interleaved::ListSource;
 use relay_server::{ConnectionEnd, Events, Hearing, run_connection};
 use std::alloc::Global;
 use std::process::Abort;
 use std::random::RandomSource;
+use std::sync::atomic::Ordering;
 use std::sync::{Arc, Mutex, Wait};
 use std::thread::Threads;
 use std::time::Clock;
@@ -64,13 +68,13 @@ where
     );
 }
 
-const PAUSED: &[u8] = b"RTSP/1.0 200 OK\r\nCSeq: 4\r\nSession: 000000010000abcd\r\n\r\n";
+pub(crate) const PAUSED: &[u8] = b"RTSP/1.0 200 OK\r\nCSeq: 4\r\nSession: 000000010000abcd\r\n\r\n";
 
 /// An ANNOUNCE in a session: the state comes before whose name it is.
 const IN_READY: &[u8] =
     b"RTSP/1.0 455 Method Not Valid in This State\r\nCSeq: 1\r\nAllow: OPTIONS, DESCRIBE, GET_PARAMETER, SETUP, PLAY, RECORD, TEARDOWN\r\n\r\n";
 
-const NO_SESSION: &[u8] = b"RTSP/1.0 454 Session Not Found\r\nCSeq: 4\r\n\r\n";
+pub(crate) const NO_SESSION: &[u8] = b"RTSP/1.0 454 Session Not Found\r\nCSeq: 4\r\n\r\n";
 
 #[test]
 fn a_cameras_mount_has_ended_with_its_session(rt: HostRuntime) {
@@ -88,6 +92,69 @@ const PLAY_AGAIN: &[u8] = b"PLAY rtsp://h/a RTSP/1.0\nCSeq: 6\nSession: 00000003
 const PLAYER_PAUSE: &[u8] = b"PAUSE rtsp://h/a RTSP/1.0\nCSeq: 4\nSession: 000000020000abcd\n\n";
 
 const OPTIONS: &[u8] = b"OPTIONS * RTSP/1.0\nCSeq: 1\n\n";
+
+/// Connection 1, which records by this clock. Once it is let on it asks to pause, and once that is set it closes.
+fn camera<R>(
+    rt: R,
+    alloc: Global,
+    shared: &SharedRings<OneWord>,
+    clock: Dial,
+    close: &Flag,
+) -> Serving
+where
+    R: Threads + Wait + Clock + Abort + Copy + Drop + Send + 'static,
+{
+    let watch = Watch::new(&rt, alloc);
+    let let_on = Arc::try_clone(&watch.let_on).expect(&rt, "a count of its users");
+    let close = Arc::try_clone(close).expect(&rt, "a count of its users");
+    let first = joined(&rt, alloc, &[ANNOUNCE, SETUP, RECORD]);
+    let then = joined(&rt, alloc, &[PAUSE]);
+    let source = Staged::new(rt, first, then, let_on)
+        .until(close)
+        .timed(clock);
+    let camera = serve_source(rt, alloc, shared, watch, source);
+    assert!(rt; has_come(&rt, &camera.watch.written, 0, IN_SESSION));
+    camera
+}
+
+/// Connection 2, which plays. Once it is let on it closes.
+fn player<R>(rt: R, alloc: Global, shared: &SharedRings<OneWord>) -> Serving
+where
+    R: Threads + Wait + Clock + Abort + Copy + Drop + Send + 'static,
+{
+    let watch = Watch::new(&rt, alloc);
+    let let_on = Arc::try_clone(&watch.let_on).expect(&rt, "a count of its users");
+    let said = joined(&rt, alloc, &[SETUP_OUT, PLAY]);
+    let source = Staged::new(rt, said, Vec::new(alloc), let_on);
+    let line = line_to(rt, alloc, &watch.written, 1000);
+    let thread = serve_in_thread(rt, alloc, shared, 2, source, line);
+    assert!(rt; has_come(&rt, &watch.written, PLAYS, b"\r\n\r\n"));
+    Serving { watch, thread }
+}
+
+/// Its player's frames have ended, so that nobody keeps its ring any more, though both connections stay.
+#[test]
+fn an_expired_mounts_player_meets_the_end(rt: HostRuntime) {
+    let alloc = rt.alloc();
+    let rings = Rings::of(&rt, alloc, 1);
+    let gone = Arc::try_clone(&rings.gone).expect(&rt, "a count of its users");
+    let book = book_of(&rt, alloc, 1, 2);
+    let theirs = Arc::try_clone(&book).expect(&rt, "a count of its users");
+    let shared = shared_over(&rt, alloc, theirs, rings, OneWord);
+    let close = flag(&rt, alloc);
+    let clock = Dial::new(&rt, alloc);
+    let camera = camera(rt, alloc, &shared, clock, &close);
+    let player = player(rt, alloc, &shared);
+    clock.set(60_000);
+    camera.watch.let_on.store(true, Ordering::SeqCst);
+    assert!(rt; has_come(&rt, &camera.watch.written, 0, NO_SESSION));
+    assert!(rt; shared.recorded(&rt) == 0);
+    wait_for(&rt, &gone);
+    assert!(rt; gone.load(Ordering::SeqCst) && book.lock(&rt).is_open(1));
+    close.store(true, Ordering::SeqCst);
+    assert!(rt; camera.end(&rt).0 == ConnectionEnd::Done);
+    assert!(rt; player.end(&rt).0 == ConnectionEnd::Done);
+}
 
 /// How many replies have a status.
 fn replies(told: &[u8], head: &[u8]) -> usize {

@@ -14,6 +14,8 @@ mod devices;
 #[cfg(test)]
 mod expiry_tests;
 #[cfg(test)]
+mod kept;
+#[cfg(test)]
 mod moments;
 #[cfg(test)]
 mod pacing_tests;
@@ -26,9 +28,13 @@ mod rings;
 #[cfg(test)]
 mod serving;
 #[cfg(test)]
+mod silence_tests;
+#[cfg(test)]
 mod speed_tests;
 #[cfg(test)]
 mod stalled_tests;
+#[cfg(test)]
+mod steps;
 #[cfg(test)]
 mod text_tests;
 #[cfg(test)]

@@ -2,6 +2,9 @@
 ghost use Rattle.std.specs.Prelude.{◌≡◌, ⊤};
 
 use session_state::Moments;
+use std::alloc::Global;
+use std::process::Abort;
+use std::sync::atomic::{AtomicU64, Ordering};
 
 /// A clock that stands at 0.
 #[derive(Clone, Copy, Drop)]
@@ -31,5 +34,43 @@ impl Moments for Leaping {
         }
         self.before -= 1;
         0
+    }
+}
+
+/// A clock that is moved by hand. All copies of it are one clock, which stays as long as the program runs.
+#[derive(Clone, Copy, Drop)]
+pub(crate) struct Dial {
+    /// `None` where it stands at 0 for good.
+    moment: Option<&'static AtomicU64>,
+}
+
+impl Dial {
+    /// It stands at 0 for good.
+    pub(crate) const STILL: Dial = Dial { moment: None };
+
+    /// It stands at 0.
+    pub(crate) fn new(rt: &impl Abort, alloc: Global) -> Dial {
+        let moment = Box::new(alloc, AtomicU64::new(0)).expect(rt, "memory");
+        Dial {
+            moment: Some(Box::leak(moment)),
+        }
+    }
+
+    /// It stands at this moment from now on.
+    pub(crate) fn set(&self, moment: u64) {
+        if let Some(cell) = self.moment {
+            cell.store(moment, Ordering::SeqCst);
+        }
+    }
+}
+
+impl Moments for Dial {
+    ghost gives = { λ _ _ _. ⊤ };
+
+    fn now(&mut self) -> u64 {
+        match self.moment {
+            Some(cell) => cell.load(Ordering::SeqCst),
+            None => 0,
+        }
     }
 }

@@ -7,7 +7,7 @@ use crate::rings::Rings;
 use crate::serving::{SharedRings, Watch, book_of, shared_over};
 use crate::words::CountedWords;
 use interleaved::Writing;
-use relay_server::{ConnectionEnd, Line};
+use relay_server::{ConnectionEnd, WritingSide};
 use std::alloc::Global;
 use std::process::Abort;
 use std::random::RandomSource;
@@ -32,7 +32,7 @@ fn a_reply_of_any_length_is_written_out_at_once(rt: HostRuntime) {
     };
     let bytes = Arc::try_clone(&watch.written).expect(&rt, "a count of its users");
     let sink = Written { rt, bytes, manner };
-    let line = Line::new(alloc, Writing::new(sink), 0);
+    let line = WritingSide::new(alloc, Writing::new(sink), 0);
     let mut all = 0usize;
     for len in LENGTHS {
         let text = Vec::from_elem(alloc, b'a', len).expect(&rt, "memory");

@@ -1,6 +1,6 @@
 //! Rings, of which one is refused memory, and the last owner of which is seen to go, for tests.
 use crate::devices::{Count, Flag, count, flag};
-use cursor::{Account, Feed, Left, Refused, Taken, Tap};
+use cursor::{Account, Feed, Left, Lend, Refused, Taken, Tap, Visit};
 use packet_ring::{Pass, Publisher, Subscriber};
 use relay_fanout::{Leave, Maker, RingMaker};
 use std::alloc::{AllocError, Global};
@@ -73,6 +73,12 @@ impl<T: Tap> Tap for Owned<T> {
     }
 
     ghost counts = { λ old answer new given. T.counts old.inner answer new.inner given };
+}
+
+impl<T: Lend> Lend for Owned<T> {
+    fn take_with<V: Visit>(&mut self, visitor: &mut V) -> Taken {
+        self.inner.take_with(visitor)
+    }
 }
 
 impl<T: Leave> Leave for Owned<T> {

@@ -1,12 +1,11 @@
 //! Connections over devices in memory, for tests.
 use crate::devices::{Bytes, Flag, Manner, Open, Staged, Written, flag};
-use crate::moments::Still;
 use crate::rings::{Owned, Rings};
 use interleaved::{Reading, Sink, Writing};
 use packet_ring::Pass;
 use relay_server::{
-    ConnectionEnd, Counts, Events, Hearing, Line, OpenGate, Outcome, Outgoing, Seat, Shared,
-    SharedBook, run_connection,
+    ConnectionEnd, Counts, Events, Hearing, OpenGate, Outcome, Outgoing, Seat, Shared, SharedBook,
+    WritingSide, run_connection,
 };
 use session_lock::Book;
 use session_state::Words;
@@ -57,7 +56,7 @@ pub(crate) fn line_to<R: Wait + Clock + Abort + Drop>(
     alloc: Global,
     bytes: &Bytes,
     room: usize,
-) -> Line<Writing<Written<R>>> {
+) -> WritingSide<Writing<Written<R>>> {
     line_in(rt, alloc, bytes, Manner::Room(room))
 }
 
@@ -67,9 +66,9 @@ pub(crate) fn line_in<R: Wait + Clock + Abort + Drop>(
     alloc: Global,
     bytes: &Bytes,
     manner: Manner,
-) -> Line<Writing<Written<R>>> {
+) -> WritingSide<Writing<Written<R>>> {
     let bytes = Arc::try_clone(bytes).expect(&rt, "a count of its users");
-    Line::new(alloc, Writing::new(Written { rt, bytes, manner }), 16)
+    WritingSide::new(alloc, Writing::new(Written { rt, bytes, manner }), 16)
 }
 
 /// What a test and a connection share: what is written to its peer, and the word that lets the peer on.
@@ -107,9 +106,9 @@ impl Serving {
 }
 
 /// Replies and frames go out on this line, frames by a thread of the connection's own.
-pub(crate) fn sent_on<T, W: Sink>(line: Line<W>) -> Outgoing<T, W, Open> {
+pub(crate) fn sent_on<T, W: Sink>(line: WritingSide<W>) -> Outgoing<T, W, Open> {
     Outgoing {
-        line,
+        writing: line,
         wire: Open,
         writers: None,
     }
@@ -122,14 +121,14 @@ pub(crate) fn serve_in_thread<R, V>(
     shared: &SharedRings<V>,
     conn: u64,
     source: Staged<R>,
-    line: Line<Writing<Written<R>>>,
+    line: WritingSide<Writing<Written<R>>>,
 ) -> JoinHandle<Outcome>
 where
     R: Threads + Wait + Clock + Abort + Copy + Drop + Send + 'static,
     V: Words + Drop + Send + 'static,
 {
     let theirs = Arc::try_clone(shared).expect(&rt, "a count of its users");
-    let hearing = Hearing::new(alloc, Still).expect(&rt, "memory");
+    let hearing = Hearing::new(alloc, source.clock).expect(&rt, "memory");
     thread::spawn(&rt, move || {
         run_connection(
             rt,

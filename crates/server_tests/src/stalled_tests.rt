@@ -4,7 +4,9 @@ use crate::packets::{number_in, small_frames};
 use cursor::{Feed, Left};
 use interleaved::{TryWrite, Writing};
 use packet_ring::{Publisher, Subscriber};
-use relay_fanout::{Bell, Frames, Hand, Line, Maker, Notice, RingMaker, TapPlace, Writers};
+use relay_fanout::{
+    Frames, Maker, MountSignal, RingMaker, SharedPlayer, TapPlace, WakeSignal, Writers, WritingSide,
+};
 use std::alloc::Global;
 use std::io::Write;
 use std::process::Abort;
@@ -50,7 +52,7 @@ impl<R: Wait> Write for Valve<R> {
 
 impl<R: Wait> TryWrite for Valve<R> {}
 
-type Player<R> = Hand<Subscriber, Writing<Valve<R>>, Open>;
+type Player<R> = SharedPlayer<Subscriber, Writing<Valve<R>>, Open>;
 
 type Writer<R> = Writers<Subscriber, Writing<Valve<R>>, Open>;
 
@@ -58,7 +60,7 @@ type Writer<R> = Writers<Subscriber, Writing<Valve<R>>, Open>;
 #[derive(Drop)]
 struct Stage<R: Wait + Drop> {
     feed: Publisher,
-    notice: Arc<Notice, Global>,
+    signal: Arc<MountSignal, Global>,
     player: Arc<Player<R>, Global>,
     writers: Arc<Writer<R>, Global>,
     bytes: Bytes,
@@ -80,11 +82,11 @@ fn one_track() -> TrackChannels {
 
 /// One seat, whose player is attached, and one writer.
 fn staged<R: Wait + Abort + Copy + Drop>(rt: R, alloc: Global, maker: &RingMaker) -> Stage<R> {
-    let bell = Arc::new(alloc, Bell::new()).expect(&rt, "memory");
+    let wake_signal = Arc::new(alloc, WakeSignal::new()).expect(&rt, "memory");
     let (feed, mut passes) = maker.make(alloc).expect(&rt, "memory");
     let tap = maker.attach(passes.pop().expect(&rt, "a seat"));
-    let theirs = Arc::try_clone(&bell).expect(&rt, "a count of its users");
-    let notice = Notice::new(alloc, 1, theirs).expect(&rt, "memory");
+    let theirs = Arc::try_clone(&wake_signal).expect(&rt, "a count of its users");
+    let signal = MountSignal::new(alloc, 1, theirs).expect(&rt, "memory");
     let bytes = Arc::new(alloc, Mutex::new(Vec::new(alloc))).expect(&rt, "memory");
     let room = count(&rt, alloc);
     let socket = Valve {
@@ -92,13 +94,13 @@ fn staged<R: Wait + Abort + Copy + Drop>(rt: R, alloc: Global, maker: &RingMaker
         bytes: Arc::try_clone(&bytes).expect(&rt, "a count of its users"),
         room: Arc::try_clone(&room).expect(&rt, "a count of its users"),
     };
-    let line = Line::new(alloc, Writing::new(socket), FRAME);
-    let player = Hand::new(line, Open);
+    let line = WritingSide::new(alloc, Writing::new(socket), FRAME);
+    let player = SharedPlayer::new(line, Open);
     player.put(&rt, tap);
-    let writers = Writers::new(alloc, 1, bell, 20_000).expect(&rt, "memory");
+    let writers = Writers::new(alloc, 1, wake_signal, 20_000).expect(&rt, "memory");
     Stage {
         feed,
-        notice: Arc::new(alloc, notice).expect(&rt, "memory"),
+        signal: Arc::new(alloc, signal).expect(&rt, "memory"),
         player: Arc::new(alloc, player).expect(&rt, "memory"),
         writers: Arc::new(alloc, writers).expect(&rt, "memory"),
         bytes,
@@ -107,10 +109,10 @@ fn staged<R: Wait + Abort + Copy + Drop>(rt: R, alloc: Global, maker: &RingMaker
 }
 
 /// Publishes the packets of these frames, and wakes the player at each.
-fn publish<F: Feed>(rt: &impl Abort, feed: &mut F, notice: &Notice, frames: &[u8]) {
+fn publish<F: Feed>(rt: &impl Abort, feed: &mut F, signal: &MountSignal, frames: &[u8]) {
     for frame in frames.chunks_exact(FRAME) {
         assert!(rt; feed.publish(0, frame.get(4..).unwrap_or(b"")).is_ok());
-        notice.wake();
+        signal.wake();
     }
 }
 
@@ -132,8 +134,8 @@ fn are_first_and_last(frames: &[u8]) -> bool {
 
 /// The player has its place with the writer.
 fn given<R: Wait + Abort + Drop>(rt: &R, stage: &Stage<R>) -> Frames {
-    let notice = Arc::try_clone(&stage.notice).expect(rt, "a count of its users");
-    let mut frames = Frames::new(1, 0, notice);
+    let signal = Arc::try_clone(&stage.signal).expect(rt, "a count of its users");
+    let mut frames = Frames::new(1, 0, signal);
     let given = frames.give(rt, &stage.player, &stage.writers, one_track(), None);
     assert!(rt; given.is_ok());
     frames
@@ -150,7 +152,7 @@ where
 {
     assert!(rt; has_come(rt, &stage.bytes, 5, frames.get(..5).unwrap_or(b"")));
     let then = frames.get(FIRST..).unwrap_or(b"");
-    publish(rt, &mut stage.feed, &stage.notice, then);
+    publish(rt, &mut stage.feed, &stage.signal, then);
     stage.room.store(1 << 40, Ordering::SeqCst);
     let last = then
         .get((usize::from(MEANWHILE) - 1) * FRAME..)
@@ -168,7 +170,7 @@ where
     let mut stage = staged(rt, alloc, &maker);
     let packets = small_frames(alloc, BEFORE + MEANWHILE).expect(&rt, "memory");
     let first = packets.as_slice().get(..FIRST).unwrap_or(b"");
-    publish(&rt, &mut stage.feed, &stage.notice, first);
+    publish(&rt, &mut stage.feed, &stage.signal, first);
     stage.room.store(5, Ordering::SeqCst);
     let mut frames = given(&rt, &stage);
     let theirs = Arc::try_clone(&stage.writers).expect(&rt, "a count of its users");

@@ -18,7 +18,9 @@ const DEFAULTS: Settings = Settings {
     hang_up_ended: false,
     idle: Some(300),
     writers: None,
+    is_direct: false,
     is_verbose: false,
+    report: None,
 };
 
 /// What is said of a line has to hold.
@@ -41,10 +43,10 @@ fn settings(alloc: Global, line: &str) -> Result<Option<Settings>, Fail> {
 }
 
 /// Lines of `serve`, and what they ask for.
-const ACCEPTED: [(&str, Settings); 11] = [
+const ACCEPTED: [(&str, Settings); 14] = [
     ("relay serve 127.0.0.1:8554", DEFAULTS),
     (
-        "relay serve a --keep 1 --seats 1 --packet-bytes 12 --accept 1 --gather 0 --back 0 --idle 0 --writers 0",
+        "relay serve a --keep 1 --seats 1 --packet-bytes 12 --accept 1 --gather 0 --back 0 --idle 0 --writers 0 --direct --report 1",
         Settings {
             keep: 1,
             seats: 1,
@@ -55,11 +57,13 @@ const ACCEPTED: [(&str, Settings); 11] = [
             hang_up_ended: false,
             idle: None,
             writers: Some(0),
+            is_direct: true,
             is_verbose: false,
+            report: Some(1),
         },
     ),
     (
-        "relay serve --keep 4095 --seats 1024 --packet-bytes 65535 --accept 18446744073709551615 --gather 100 --back 4095 --hang-up-ended --idle 65535 --writers 64 --verbose a",
+        "relay serve --keep 4095 --seats 1024 --packet-bytes 65535 --accept 18446744073709551615 --gather 100 --back 4095 --hang-up-ended --idle 65535 --writers 64 --verbose --report 86400 a",
         Settings {
             keep: 4095,
             seats: 1024,
@@ -70,7 +74,9 @@ const ACCEPTED: [(&str, Settings); 11] = [
             hang_up_ended: true,
             idle: Some(65_535),
             writers: Some(64),
+            is_direct: false,
             is_verbose: true,
+            report: Some(86_400),
         },
     ),
     (
@@ -109,6 +115,27 @@ const ACCEPTED: [(&str, Settings); 11] = [
         },
     ),
     (
+        "relay serve a --writers 7",
+        Settings {
+            writers: Some(7),
+            ..DEFAULTS
+        },
+    ),
+    (
+        "relay serve a --direct",
+        Settings {
+            is_direct: true,
+            ..DEFAULTS
+        },
+    ),
+    (
+        "relay serve a --report 7",
+        Settings {
+            report: Some(7),
+            ..DEFAULTS
+        },
+    ),
+    (
         "relay serve a --hang-up-ended",
         Settings {
             hang_up_ended: true,
@@ -140,7 +167,7 @@ fn a_server_does_what_its_line_says(rt: HostRuntime) -> Result<(), Fail> {
 }
 
 /// Lines of `serve` that are refused: no address, two of them, a number that is out of its range or none.
-const REFUSED: [&str; 21] = [
+const REFUSED: [&str; 26] = [
     "relay serve",
     "relay serve a b",
     "relay serve a --keep 0",
@@ -160,6 +187,11 @@ const REFUSED: [&str; 21] = [
     "relay serve a --idle 65536",
     "relay serve a --idle -1",
     "relay serve a --verbose yes",
+    "relay serve a --direct --writers 1",
+    "relay serve a --direct yes",
+    "relay serve a --report",
+    "relay serve a --report 0",
+    "relay serve a --report 86401",
     "relay serve a --keep 1 --keep 2",
     "relay serve a --unknown",
 ];
@@ -303,7 +335,9 @@ Options:
       --hang-up-ended     Hang a player up once the last packet of its mount was written
       --idle <SECONDS>    Hang up who says nothing for so long without a session, 0 to 65535, where 0 is never [default: 300]
       --writers <N>       How many threads send frames, 0 to 64, where 0 gives each player its own [default: one a processor]
+      --direct            Send each packet from its place in the ring, with --writers 0: who reads nothing may then stop its mount, whose packets are refused, for up to 20 seconds
       --verbose           Tell of each mount and each player on standard error
+      --report <SECONDS>  Tell each mount's packets and each player's losses so often on standard error, 1 to 86400
   -h, --help              Print help
 
 Examples:

@@ -23,7 +23,7 @@ pub record Sound (v : View) : Type 0 where
   pub known : v.player.known ≤ v.mount.wakes
   pub read : v.writer.read ≤ v.words.raised
   -- the waking thread comes for marks
-  pub rung : 0 < v.mount.news → WillAsk v
+  pub notified : 0 < v.mount.news → WillAsk v
   -- what the player hadn't taken was told, or will be
   pub told : v.player.here ≡ true → v.player.stage ≢ Some holds → v.player.looked ≢ v.mount.logged
       → (v.player.attention.seen ≢ v.mount.wakes) ⊎ (0 < v.mount.publishing) ⊎ (0 < v.mount.news) ⊎ (0 < v.mount.telling) ⊎ (v.mount.took ≡ true)

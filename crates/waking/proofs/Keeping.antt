@@ -1,6 +1,6 @@
 -- What a step changes of one player's view, and that it keeps what each step keeps.
 use Rattle.std.proofs.Common.{◌≡◌, ◌≢◌, ℕ, ◌<◌, ◌⊎◌, true, false, arith}
-use Rattle.waking.specs.Machine.{LookStep, MayLook, MayMount, MayPlayer, Mount, MountStep, Place, Player, PlayerStep, SweepStep, Words, Writer, mount_after, player_after, player_after_look, raised_once, words_after_mount, words_after_player, woken, writer_after_look, writer_after_player, logs, marks, wakes_itself, hurries, finds_rung, rings, tells, raises, finds_no_marks, takes_marks, counts, wants_line, gives_back, finds_mark, finds_no_mark, joins, leaves, raises_for_it, passes_over, reads_wakes, finds_nothing, finds_no_time, gets_line, fails, marks_line, gets_line_late, skips, takes_all, uses_up, keeps_rest, keeps_last_rest, finishes, awake, between, looking, ends, asleep}
+use Rattle.waking.specs.Machine.{LookStep, MayLook, MayMount, MayPlayer, Mount, MountStep, Place, Player, PlayerStep, SweepStep, Words, Writer, mount_after, player_after, player_after_look, raised_once, words_after_mount, words_after_player, woken, writer_after_look, writer_after_player, logs, marks, wakes_itself, hurries, finds_notified, notifies, tells, raises, finds_no_marks, takes_marks, counts, wants_line, gives_back, finds_mark, finds_no_mark, joins, leaves, raises_for_it, passes_over, reads_wakes, finds_nothing, finds_no_time, gets_line, fails, marks_line, gets_line_late, skips, takes_all, uses_up, keeps_rest, keeps_last_rest, finishes, awake, between, looking, ends, asleep}
 use Rattle.waking.specs.Laws.{View}
 use Rattle.waking.proofs.Invariant.{Sound, is_over}
 
@@ -14,8 +14,8 @@ other_mount_keeps logs v h = h
 other_mount_keeps marks v h = h
 other_mount_keeps wakes_itself v h = h
 other_mount_keeps hurries v h = h
-other_mount_keeps finds_rung v h = h
-other_mount_keeps rings v h = search arith
+other_mount_keeps finds_notified v h = h
+other_mount_keeps notifies v h = search arith
 other_mount_keeps tells v h = h
 other_mount_keeps raises v h = raise_keeps v h
 other_mount_keeps finds_no_marks v h = h
@@ -28,8 +28,8 @@ mount_keeps logs v h may = search arith
 mount_keeps marks v h may = search arith
 mount_keeps wakes_itself v h may = search arith
 mount_keeps hurries v h may = search arith
-mount_keeps finds_rung v h may = search arith
-mount_keeps rings v h may = search arith
+mount_keeps finds_notified v h may = search arith
+mount_keeps notifies v h may = search arith
 mount_keeps tells v h may = search arith
 mount_keeps raises v h may = search arith
 mount_keeps finds_no_marks v h may = search arith

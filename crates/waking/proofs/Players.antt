@@ -21,7 +21,7 @@ sleep_keeps v h may same = search arith
 pub return_keeps : (v : View) → Sound v → (v.writer.place ≡ ends) ⊎ (v.writer.place ≡ asleep) → Sound (record v { writer = writer_after_sweep returns v.words v.writer })
 return_keeps v h may = search arith
 
-pub clear_keeps : (v : View) → Sound v → Sound (record v { words = record v.words { rung = false }; mount = record v.mount { asked = false } })
+pub clear_keeps : (v : View) → Sound v → Sound (record v { words = record v.words { notified = false }; mount = record v.mount { asked = false } })
 clear_keeps v h = search arith
 
 pub raise_once_keeps : (v : View) → Sound v → Sound (record v { words = raised_once v.words; mount = record v.mount { owed = false } })

@@ -14,9 +14,9 @@ pub record View : Type 0 where
 abbrev pub view_of : State → (player : ℕ) → View
 view_of s p = record { number = p; words = s.words; mount = s.mounts (s.mount_of p); player = s.players p; writer = s.writers (s.writer_of p) }
 
--- the waking thread was rung, or is about to be, or has yet to ask the mount
+-- the waking thread was notified, or is about to be, or has yet to ask the mount
 abbrev pub WillAsk : View → Type 0
-WillAsk v = (v.words.rung ≡ true) ⊎ (0 < v.mount.ringing) ⊎ (v.mount.asked ≡ false)
+WillAsk v = (v.words.notified ≡ true) ⊎ (0 < v.mount.notifying) ⊎ (v.mount.asked ≡ false)
 
 -- a thread that has the line, or waits for it, or has just given it back, will find it marked
 abbrev pub WillFindMark : View → Type 0

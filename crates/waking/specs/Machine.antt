@@ -12,8 +12,8 @@ use Rattle.waking.specs.Words.{next_of}
 
 -- what all threads share
 pub record Words : Type 0 where
-  -- whether the waking thread was rung since it last began to ask mounts for marks
-  pub rung : Bool
+  -- whether the waking thread was notified since it last began to ask mounts for marks
+  pub notified : Bool
   -- how often the word that writers sleep on was raised
   pub raised : ℕ
   -- how many threads have raised it, and are about to wake who sleeps
@@ -29,8 +29,8 @@ pub record Mount : Type 0 where
   pub wakes : ℕ
   -- how many threads have put something into the log, and haven't told it
   pub publishing : ℕ
-  -- how many have marked it, and haven't rung
-  pub ringing : ℕ
+  -- how many have marked it, and haven't notified
+  pub notifying : ℕ
   -- how many have emptied its marks, and are about to count a wake-up
   pub telling : ℕ
   -- how many have counted one, and are about to raise the word
@@ -111,8 +111,8 @@ pub record State : Type 0 where
 -- before all: nothing is published, and no player has come
 abbrev pub start : (mount_of writer_of : ℕ → ℕ) → State
 start mount_of writer_of = record {
-  words = record { rung = false; raised = 0; calling = 0 };
-  mounts = λ _. record { logged = 0; news = 0; wakes = 0; publishing = 0; ringing = 0; telling = 0; raising = 0; asked = true; took = false; owed = false };
+  words = record { notified = false; raised = 0; calling = 0 };
+  mounts = λ _. record { logged = 0; news = 0; wakes = 0; publishing = 0; notifying = 0; telling = 0; raising = 0; asked = true; took = false; owed = false };
   players = λ _. record {
     replying = 0;
     parting = 0;
@@ -150,10 +150,10 @@ pub data MountStep : Type 0 where
   wakes_itself : MountStep
   -- it does so though nothing is new, where it waits for players that are behind
   hurries : MountStep
-  -- it finds that the waking thread was rung already
-  finds_rung : MountStep
-  -- it rings
-  rings : MountStep
+  -- it finds that the waking thread was notified already
+  finds_notified : MountStep
+  -- it notifies
+  notifies : MountStep
   -- who emptied the marks counts a wake-up
   tells : MountStep
   -- and raises the word
@@ -170,8 +170,8 @@ MayMount logs words mount = Unit {0}
 MayMount marks words mount = 0 < mount.publishing
 MayMount wakes_itself words mount = 0 < mount.publishing
 MayMount hurries words mount = Unit {0}
-MayMount finds_rung words mount = (0 < mount.ringing) × (words.rung ≡ true)
-MayMount rings words mount = 0 < mount.ringing
+MayMount finds_notified words mount = (0 < mount.notifying) × (words.notified ≡ true)
+MayMount notifies words mount = 0 < mount.notifying
 MayMount tells words mount = 0 < mount.telling
 MayMount raises words mount = 0 < mount.raising
 MayMount finds_no_marks words mount = (mount.asked ≡ false) × (mount.news ≡ 0)
@@ -180,11 +180,11 @@ MayMount counts words mount = mount.took ≡ true
 
 abbrev pub mount_after : MountStep → Mount → Mount
 mount_after logs mount = record mount { logged = mount.logged + 1; publishing = mount.publishing + 1 }
-mount_after marks mount = record mount { publishing = mount.publishing - 1; news = next_of mount.news; ringing = mount.ringing + 1 }
+mount_after marks mount = record mount { publishing = mount.publishing - 1; news = next_of mount.news; notifying = mount.notifying + 1 }
 mount_after wakes_itself mount = record mount { publishing = mount.publishing - 1; news = 0; telling = mount.telling + 1 }
 mount_after hurries mount = record mount { news = 0; telling = mount.telling + 1 }
-mount_after finds_rung mount = record mount { ringing = mount.ringing - 1 }
-mount_after rings mount = record mount { ringing = mount.ringing - 1 }
+mount_after finds_notified mount = record mount { notifying = mount.notifying - 1 }
+mount_after notifies mount = record mount { notifying = mount.notifying - 1 }
 mount_after tells mount = record mount { telling = mount.telling - 1; wakes = next_of mount.wakes; raising = mount.raising + 1 }
 mount_after raises mount = record mount { raising = mount.raising - 1 }
 mount_after finds_no_marks mount = record mount { asked = true }
@@ -192,7 +192,7 @@ mount_after takes_marks mount = record mount { asked = true; news = 0; took = tr
 mount_after counts mount = record mount { took = false; wakes = next_of mount.wakes; owed = true }
 
 abbrev pub words_after_mount : MountStep → Words → Words
-words_after_mount rings words = record words { rung = true }
+words_after_mount notifies words = record words { notified = true }
 words_after_mount raises words = raised_once words
 words_after_mount step words = words
 
@@ -418,7 +418,7 @@ after (in_sweep writer step) s = record s {
   writers = put s.writers writer (writer_after_sweep step s.words (s.writers writer));
 }
 after clears s = record s {
-  words = record s.words { rung = false };
+  words = record s.words { notified = false };
   mounts = λ mount. record (s.mounts mount) { asked = false };
 }
 after raises_once s = record s {

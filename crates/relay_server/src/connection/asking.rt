@@ -1,12 +1,12 @@
 //! How a connection's requests are decided.
 use super::Connection;
-use super::told::Told;
+use super::session_snapshot::SessionSnapshot;
 use crate::gate::Gate;
 use crate::heard_feed::HeardFeed;
 use base_syntax::{Bytes, Items};
 use interleaved::Sink;
 use relay_accounts::Part;
-use relay_fanout::{Bell, Busy, HangUp, Maker, Notice, Offer, Posting, Seat};
+use relay_fanout::{Busy, HangUp, Maker, MountSignal, Offer, Posting, Seat, WakeSignal};
 use rtsp_message::Request;
 use session_lock::{Answer, AskFault};
 use session_state::{Given, Method, Moments, Session, Words, read_method};
@@ -71,7 +71,7 @@ where
         match read_method(request.method.as_slice()) {
             Some(Method::Announce) => self.ask_to_publish(request, &given),
             Some(Method::Play) => {
-                if self.writers.is_some() && !self.hand.line.gathers() {
+                if self.writers.is_some() && !self.player.writing.gathers() {
                     return Err(NoAnswer);
                 }
                 given.points = self.points()?;
@@ -95,15 +95,15 @@ where
         request: &Request,
         given: &Given,
     ) -> Result<Asked<R, M>, NoAnswer> {
-        let bell = Arc::try_clone(&self.shared.bell)?;
+        let wake_signal = Arc::try_clone(&self.shared.wake_signal)?;
         let watch = Arc::try_clone(self.hearing.watch())?;
         let Offer {
             feed,
-            notice,
+            signal,
             seats,
         } = self.offer()?;
         let (answer, back) = self.ask_with_seats(request, given, seats);
-        let posting = self.settle(feed, notice, back, bell);
+        let posting = self.settle(feed, signal, back, wake_signal);
         Ok((answer?, posting.map(|feed| HeardFeed { feed, watch })))
     }
 
@@ -130,18 +130,18 @@ where
     fn settle(
         &self,
         feed: M::In,
-        notice: Arc<Notice, Global>,
+        signal: Arc<MountSignal, Global>,
         back: Option<Vec<Seat<M::Pass>>>,
-        bell: Arc<Bell, Global>,
+        wake_signal: Arc<WakeSignal, Global>,
     ) -> Option<Posting<R, M::In>> {
         let Some(seats) = back else {
             self.shared.offers.leave(&self.rt);
             let keep = self.shared.maker.keep();
-            return Some(Posting::new(self.rt, feed, notice, bell, keep));
+            return Some(Posting::new(self.rt, feed, signal, wake_signal, keep));
         };
         let offer = Offer {
             feed,
-            notice,
+            signal,
             seats,
         };
         self.shared.offers.put(&self.rt, offer);
@@ -153,7 +153,7 @@ where
         if let Some(kept) = self.shared.offers.take(&self.rt)? {
             return Ok(kept);
         }
-        match Offer::make(self.alloc, &self.shared.maker, &self.shared.bell) {
+        match Offer::make(self.alloc, &self.shared.maker, &self.shared.wake_signal) {
             Ok(made) => Ok(made),
             Err(_) => {
                 self.shared.offers.leave(&self.rt);
@@ -175,7 +175,7 @@ where
         if let (None, Some(session)) = (&self.session, session) {
             self.part = part_of(self.alloc, session);
         }
-        self.session = session.map(Told::of);
+        self.session = session.map(SessionSnapshot::of);
         drop(book);
         match asked {
             Ok(answer) => Ok(answer),
@@ -192,7 +192,7 @@ where
         match &self.session {
             Some(session) if self.shared.maker.back() == 0 => self
                 .shared
-                .board
+                .recording
                 .points(&self.rt, self.alloc, session.mount),
             _ => Ok(Items::empty(self.alloc)),
         }

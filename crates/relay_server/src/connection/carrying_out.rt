@@ -2,7 +2,7 @@
 use super::Connection;
 use crate::gate::Gate;
 use crate::heard_feed::HeardFeed;
-use cursor::Left;
+use cursor::{Left, Tap};
 use interleaved::Sink;
 use relay_accounts::{ConnectionEnd, FrameEnd};
 use relay_fanout::{Frames, HangUp, Maker, Posting, Seat, TapPlace};
@@ -75,33 +75,42 @@ where
         }
     }
 
-    /// The board knows of the mount from its first RECORD on.
+    /// The mount is among those that are recorded from its first RECORD on.
     fn record(&mut self) {
         let (Some(publishing), Some(session)) = (&mut self.publishing, &self.session) else {
             return;
         };
-        if self.mount.is_none() {
-            self.events.recorded(&self.rt);
-        }
         let feed = &mut publishing.feed;
+        if self.mount.is_none() {
+            self.events.recorded(
+                &self.rt,
+                self.alloc,
+                session.mount,
+                &self.part,
+                feed.signal(),
+            );
+        }
         if !feed.is_posted() {
             let added = self
                 .shared
-                .board
-                .add(&self.rt, session.mount, feed.notice());
+                .recording
+                .add(&self.rt, session.mount, feed.signal());
             feed.set_posted(added.is_ok());
             self.mount = Some(session.mount);
         }
     }
 
     fn attach(&mut self, mount: u64, seat: usize, pass: Option<Seat<M::Pass>>) {
-        let Some(Seat { pass, notice }) = pass else {
+        let Some(Seat { pass, signal }) = pass else {
             return;
         };
         self.is_over = false;
-        self.hand.put(&self.rt, self.shared.maker.attach(pass));
-        self.frames = Some(Frames::new(mount, seat, notice));
-        self.events.plays(&self.part, seat);
+        let tap = self.shared.maker.attach(pass);
+        signal.attached(seat, tap.cursor());
+        self.player.put(&self.rt, tap);
+        self.events
+            .plays(&self.rt, self.alloc, mount, &self.part, seat, &signal);
+        self.frames = Some(Frames::new(mount, seat, signal));
     }
 
     fn start_frames(&mut self) -> Result<(), ConnectionEnd> {
@@ -111,7 +120,7 @@ where
         let channels = session.channels.copy();
         let after_end = self.shared.after_end;
         if let Some(writers) = &self.writers {
-            return match frames.give(&self.rt, &self.hand, writers, channels, after_end) {
+            return match frames.give(&self.rt, &self.player, writers, channels, after_end) {
                 Ok(()) => Ok(()),
                 Err(_) => Err(ConnectionEnd::NoThread),
             };
@@ -119,7 +128,15 @@ where
         if !self.shared.gate.may_start() {
             return Err(ConnectionEnd::NoThread);
         }
-        match frames.start(self.rt, self.alloc, &self.hand, channels, after_end) {
+        let is_direct = self.shared.maker.is_direct();
+        match frames.start(
+            self.rt,
+            self.alloc,
+            &self.player,
+            channels,
+            after_end,
+            is_direct,
+        ) {
             Ok(()) => Ok(()),
             Err(_) => Err(ConnectionEnd::NoThread),
         }
@@ -133,10 +150,10 @@ where
         if !frames.has_thread() {
             return;
         }
-        self.hand.phase.stop(&self.rt);
-        frames.notice.wake();
-        if !self.hand.phase.wait_for_end(&self.rt, most) {
-            self.hand.wire.hang_up();
+        self.player.phase.stop(&self.rt);
+        frames.signal.wake();
+        if !self.player.phase.wait_for_end(&self.rt, most) {
+            self.player.wire.hang_up();
         }
     }
 
@@ -146,12 +163,12 @@ where
             return FrameEnd::Stopped;
         };
         if frames.has_thread() {
-            self.hand.phase.stop(&self.rt);
-            frames.notice.wake();
+            self.player.phase.stop(&self.rt);
+            frames.signal.wake();
         }
-        let end = frames.join(&self.rt, &self.hand, self.writers.as_deref());
+        let end = frames.join(&self.rt, &self.player, self.writers.as_deref());
         self.is_over = end == FrameEnd::Ended && self.shared.after_end.is_some();
-        match self.hand.take(&self.rt) {
+        match self.player.take(&self.rt) {
             TapPlace::Attached(tap) => self.give_back(tap, frames),
             // The mount has ended: its seats are nobody's any more.
             TapPlace::Left(left) => self.count_left(frames.seat(), &left),
@@ -163,10 +180,10 @@ where
     /// Detaches a tap, and gives its seat back to the book.
     fn give_back(&mut self, tap: M::Out, frames: Frames) {
         let (pass, left) = self.shared.maker.detach(tap);
-        let (mount, seat, notice) = frames.into_seat();
+        let (mount, seat, signal) = frames.into_seat();
         self.count_left(seat, &left);
         let mut book = self.shared.book.lock(&self.rt);
-        let returned = book.give_back(mount, seat, Seat { pass, notice });
+        let returned = book.give_back(mount, seat, Seat { pass, signal });
         // The pass comes back where the mount has ended, and its ring may go with it: not under the lock.
         drop(book);
         drop(returned);
@@ -176,7 +193,7 @@ where
     fn count_left(&mut self, seat: usize, left: &Left) {
         let keep = self.shared.maker.keep();
         self.counts.add_out(left, keep);
-        self.events.leaves(&self.part, seat, left, keep);
+        self.events.leaves(&self.rt, &self.part, seat, left, keep);
     }
 
     /// The mount has ended: no packet comes any more.
@@ -186,7 +203,7 @@ where
             self.events.ended(&self.rt, &self.counts);
         }
         if let Some(mount) = self.mount.take() {
-            self.shared.board.remove(&self.rt, mount);
+            self.shared.recording.remove(&self.rt, mount);
         }
     }
 
@@ -194,8 +211,8 @@ where
         let mut text = Vec::new(self.alloc);
         match put_reply(&mut text, reply) {
             Ok(()) => match self
-                .hand
-                .write(&self.rt, &self.shared.bell, text.as_slice())
+                .player
+                .write(&self.rt, &self.shared.wake_signal, text.as_slice())
             {
                 Ok(()) => Ok(()),
                 Err(_) => Err(ConnectionEnd::WriteFailed),
@@ -210,8 +227,8 @@ where
         cseq: Option<u32>,
     ) -> Result<(), ConnectionEnd> {
         match self
-            .hand
-            .write_plain(&self.rt, &self.shared.bell, status, cseq)
+            .player
+            .write_plain(&self.rt, &self.shared.wake_signal, status, cseq)
         {
             Ok(()) => Ok(()),
             Err(_) => Err(ConnectionEnd::WriteFailed),

@@ -1,10 +1,12 @@
 //! What tells the players of a mount that there are packets.
 ghost use Rattle.std.specs.Prelude.{◌≡◌, ◌%◌, ◌^◌};
 
-use crate::bell::Bell;
-use crate::line::TAKES;
-use crate::pace::Pace;
+use crate::pace::{KnownLevel, Pace};
+use crate::tallies::Tallies;
+use crate::wake_signal::WakeSignal;
+use crate::writing_side::TAKES;
 use base_syntax::Items;
+use relay_accounts::{MountTally, lost_so_far};
 use std::alloc::{AllocError, Global};
 use std::sync::atomic::{AtomicBool, AtomicU64, Ordering};
 use std::sync::{Arc, Mutex, Wait};
@@ -16,7 +18,7 @@ use waking::{NO_MARKS, are_marks, next_word};
 ///
 /// Any thread of the server may use it. The points' lock is held for a copy of them or a change of one.
 #[derive(Drop)]
-pub struct Notice {
+pub struct MountSignal {
     points: Mutex<[Option<Point>; MOST_TRACKS]>,
     /// How many packets came since the players were last woken.
     news: AtomicU64,
@@ -26,19 +28,25 @@ pub struct Notice {
     ended: AtomicBool,
     /// Who keeps up with the publisher.
     pub(crate) pace: Pace,
-    bell: Arc<Bell, Global>,
+    pub(crate) tallies: Tallies,
+    wake_signal: Arc<WakeSignal, Global>,
 }
 
-impl Notice {
-    /// Of a mount with so many seats, in the server that this bell is of.
-    pub fn new(alloc: Global, seats: usize, bell: Arc<Bell, Global>) -> Result<Notice, AllocError> {
-        Ok(Notice {
+impl MountSignal {
+    /// Of a mount with so many seats, in the server that this wake signal is of.
+    pub fn new(
+        alloc: Global,
+        seats: usize,
+        wake_signal: Arc<WakeSignal, Global>,
+    ) -> Result<MountSignal, AllocError> {
+        Ok(MountSignal {
             points: Mutex::new([None; MOST_TRACKS]),
             news: AtomicU64::new(NO_MARKS),
             wakes: AtomicU64::new(0),
             ended: AtomicBool::new(false),
             pace: Pace::new(alloc, seats)?,
-            bell,
+            tallies: Tallies::new(alloc, seats)?,
+            wake_signal,
         })
     }
 
@@ -62,7 +70,7 @@ impl Notice {
 
     /// A packet came. The players aren't woken yet. Tells when as many have come as leave at once.
     ///
-    /// Called once the packet can be taken, and before the bell is rung.
+    /// Called once the packet can be taken, and before the waking thread is notified.
     pub(crate) fn mark(&self) -> bool {
         let before = self
             .news
@@ -81,6 +89,53 @@ impl Notice {
         is_marked
     }
 
+    /// A player is attached to its seat, at this cursor. The player before it has left.
+    pub fn attached(&self, seat: usize, cursor: u64) {
+        self.pace.stand(seat, cursor);
+        self.tallies.set_lost(seat, 0);
+    }
+
+    /// A player has come to this cursor, was told so many packets lost, and may have more to take.
+    pub(crate) fn reach(
+        &self,
+        rt: &impl Wait,
+        seat: usize,
+        cursor: u64,
+        lost: u64,
+        known: &mut KnownLevel,
+    ) {
+        self.pace.reach(rt, seat, cursor, known);
+        self.tallies.set_lost(seat, lost);
+    }
+
+    /// A player had nothing more to take at this cursor, and was told so many packets lost.
+    pub(crate) fn level(
+        &self,
+        rt: &impl Wait,
+        seat: usize,
+        cursor: u64,
+        lost: u64,
+        known: &mut KnownLevel,
+    ) {
+        self.pace.level(rt, seat, cursor, known);
+        self.tallies.set_lost(seat, lost);
+    }
+
+    /// What became of the packets that were offered to the mount.
+    pub fn tally(&self) -> MountTally {
+        self.tallies.of_mount()
+    }
+
+    /// How many packets the player in a seat has lost so far at least, of a ring that keeps so many: those that it was told, and
+    /// those behind its cursor that aren't kept any more. Its next sixteen takes may have been made and not told yet.
+    pub fn lost(&self, seat: usize, keep: u64) -> u64 {
+        // In this order, each before what is written first: none counts as lost twice.
+        let published = self.tally().packets;
+        let lost = self.tallies.lost(seat);
+        let cursor = self.pace.cursor(seat);
+        lost_so_far(lost, cursor, published, keep.saturating_add(TAKES))
+    }
+
     /// No packet comes any more.
     pub(crate) fn end(&self) {
         self.ended.store(true, Ordering::SeqCst);
@@ -97,7 +152,7 @@ impl Notice {
         self.news.store(NO_MARKS, Ordering::SeqCst);
         self.wake_threads();
         // After the wake-up is counted, which a writer that reads the word as it is now sees.
-        self.bell.writers.raise();
+        self.wake_signal.writers.raise();
     }
 
     /// Wakes the players that have a thread of their own.

@@ -1,5 +1,5 @@
 //! The mounts that are being recorded, by number.
-use crate::notice::Notice;
+use crate::mount_signal::MountSignal;
 use base_syntax::Items;
 use std::alloc::{AllocError, Global};
 use std::sync::{Arc, Mutex, Wait};
@@ -10,9 +10,9 @@ const MOST_MOUNTS: usize = 64;
 
 /// A mount that is being recorded.
 #[derive(Drop)]
-struct Posted {
+struct RecordingMount {
     mount: u64,
-    notice: Arc<Notice, Global>,
+    signal: Arc<MountSignal, Global>,
 }
 
 /// The mounts that are being recorded, each with what tells of its packets.
@@ -20,15 +20,15 @@ struct Posted {
 /// Its lock is held for a walk over the mounts, and no other lock is taken meanwhile. The room for as many as may live is
 /// made beforehand.
 #[derive(Drop)]
-pub struct Board {
-    mounts: Mutex<Vec<Posted>>,
+pub struct RecordingMounts {
+    mounts: Mutex<Vec<RecordingMount>>,
 }
 
-impl Board {
+impl RecordingMounts {
     /// No mount is being recorded.
-    pub fn new(alloc: Global) -> Result<Board, AllocError> {
+    pub fn new(alloc: Global) -> Result<RecordingMounts, AllocError> {
         let mounts = Vec::with_capacity(alloc, MOST_MOUNTS)?;
-        Ok(Board {
+        Ok(RecordingMounts {
             mounts: Mutex::new(mounts),
         })
     }
@@ -39,11 +39,11 @@ impl Board {
         &self,
         rt: &impl Wait,
         mount: u64,
-        notice: &Arc<Notice, Global>,
+        signal: &Arc<MountSignal, Global>,
     ) -> Result<(), AllocError> {
-        let notice = Arc::try_clone(notice)?;
+        let signal = Arc::try_clone(signal)?;
         let mut mounts = self.mounts.lock(rt);
-        mounts.push(Posted { mount, notice })?;
+        mounts.push(RecordingMount { mount, signal })?;
         Ok(())
     }
 
@@ -65,21 +65,21 @@ impl Board {
         alloc: Global,
         mount: u64,
     ) -> Result<Items<Option<Point>>, AllocError> {
-        match self.notice_of(rt, mount)? {
-            Some(notice) => notice.points(rt, alloc),
+        match self.signal_of(rt, mount)? {
+            Some(signal) => signal.points(rt, alloc),
             None => Ok(Items::empty(alloc)),
         }
     }
 
-    fn notice_of(
+    fn signal_of(
         &self,
         rt: &impl Wait,
         mount: u64,
-    ) -> Result<Option<Arc<Notice, Global>>, AllocError> {
+    ) -> Result<Option<Arc<MountSignal, Global>>, AllocError> {
         let mounts = self.mounts.lock(rt);
         for posted in mounts.iter() {
             if posted.mount == mount {
-                return Ok(Some(Arc::try_clone(&posted.notice)?));
+                return Ok(Some(Arc::try_clone(&posted.signal)?));
             }
         }
         Ok(None)
@@ -90,7 +90,7 @@ impl Board {
         let mounts = self.mounts.lock(rt);
         let mut is_any = false;
         for posted in mounts.iter() {
-            is_any |= posted.notice.wake_if_marked();
+            is_any |= posted.signal.wake_if_marked();
         }
         is_any
     }

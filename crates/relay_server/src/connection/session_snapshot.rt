@@ -7,21 +7,21 @@ use transport_header::TrackChannels;
 
 /// What a connection knows of its session without the book.
 #[derive(Drop)]
-pub(super) struct Told {
+pub(super) struct SessionSnapshot {
     pub(super) mount: u64,
-    pub(super) recording: bool,
+    pub(super) is_recording: bool,
     pub(super) channels: TrackChannels,
 }
 
-impl Told {
-    pub(super) fn of(session: &Session) -> Told
+impl SessionSnapshot {
+    pub(super) fn of(session: &Session) -> SessionSnapshot
         ensures mount { result.mount ≡ session.now.mount }
-        ensures recording { IsTrue result.recording ↔ (session.now.state ≡ Recording) }
+        ensures recording { IsTrue result.is_recording ↔ (session.now.state ≡ Recording) }
         ensures channels { result.channels ≡ session.now.channels }
     {
-        Told {
+        SessionSnapshot {
             mount: session.mount,
-            recording: session.state == State::Recording,
+            is_recording: session.state == State::Recording,
             channels: session.channels.copy(),
         }
     }

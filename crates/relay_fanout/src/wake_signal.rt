@@ -1,5 +1,5 @@
 //! The one thread that wakes players.
-use crate::board::Board;
+use crate::recording_mounts::RecordingMounts;
 use crate::signal::Signal;
 use std::sync::Wait;
 use std::sync::atomic::{AtomicBool, AtomicU64, Ordering};
@@ -10,7 +10,7 @@ use std::time::{Clock, Duration};
 const QUIET: u64 = 0;
 
 /// Packets gather.
-const RUNG: u64 = 1;
+const NOTIFIED: u64 = 1;
 
 /// A mount has gathered as many packets as leave at once.
 const URGENT: u64 = 2;
@@ -18,58 +18,58 @@ const URGENT: u64 = 2;
 /// For how long packets gather yet where a mount has many, in milliseconds, so that the rest of a burst comes with them.
 const BURST: u64 = 1;
 
-/// What a publisher rings when it has published, and the waking thread sleeps on while nobody does.
+/// What a publisher notifies when it has published, and the waking thread sleeps on while nobody does.
 #[derive(Drop)]
-pub struct Bell {
-    /// `QUIET`, `RUNG` or `URGENT`.
-    rung: AtomicU64,
+pub struct WakeSignal {
+    /// `QUIET`, `NOTIFIED` or `URGENT`.
+    state: AtomicU64,
     stopped: AtomicBool,
     /// What writers sleep on.
     pub(crate) writers: Signal,
 }
 
-impl Bell {
-    /// Nobody rang.
-    pub fn new() -> Bell {
-        Bell {
-            rung: AtomicU64::new(QUIET),
+impl WakeSignal {
+    /// Nobody has notified it.
+    pub fn new() -> WakeSignal {
+        WakeSignal {
+            state: AtomicU64::new(QUIET),
             stopped: AtomicBool::new(false),
             writers: Signal::new(),
         }
     }
 
     /// Some mount was marked. Costs a load unless the waking thread sleeps.
-    pub(crate) fn ring(&self) {
-        if self.rung.load(Ordering::SeqCst) == QUIET
+    pub(crate) fn notify(&self) {
+        if self.state.load(Ordering::SeqCst) == QUIET
             && self
-                .rung
-                .compare_exchange(QUIET, RUNG, Ordering::SeqCst, Ordering::SeqCst)
+                .state
+                .compare_exchange(QUIET, NOTIFIED, Ordering::SeqCst, Ordering::SeqCst)
                 .is_ok()
         {
-            self.rung.wake_one();
+            self.state.wake_one();
         }
     }
 
     /// Some mount was marked so often that its packets needn't gather longer.
     pub(crate) fn hurry(&self) {
-        if self.rung.swap(URGENT, Ordering::SeqCst) != URGENT {
-            self.rung.wake_one();
+        if self.state.swap(URGENT, Ordering::SeqCst) != URGENT {
+            self.state.wake_one();
         }
     }
 
     /// Ends the waking thread.
     pub fn stop(&self) {
         self.stopped.store(true, Ordering::SeqCst);
-        self.ring();
+        self.notify();
     }
 
-    /// Sleeps until it is rung.
+    /// Sleeps until it is notified.
     fn wait(&self, rt: &impl Wait) {
         for _ in rt.forever() {
-            if self.rung.load(Ordering::SeqCst) != QUIET {
+            if self.state.load(Ordering::SeqCst) != QUIET {
                 return;
             }
-            self.rung.park(rt, QUIET as u32);
+            self.state.park(rt, QUIET as u32);
         }
     }
 
@@ -78,10 +78,10 @@ impl Bell {
         if time.is_zero() {
             return;
         }
-        if self.rung.load(Ordering::SeqCst) == RUNG {
-            self.rung.park_timeout(rt, RUNG as u32, time);
+        if self.state.load(Ordering::SeqCst) == NOTIFIED {
+            self.state.park_timeout(rt, NOTIFIED as u32, time);
         }
-        if self.rung.load(Ordering::SeqCst) == URGENT {
+        if self.state.load(Ordering::SeqCst) == URGENT {
             thread::sleep(rt, time.min(Duration::from_millis(BURST)));
         }
     }
@@ -91,19 +91,24 @@ impl Bell {
 /// is one wake-up and few writes for each player; where as many have gathered as leave at once, they gather no longer
 /// than the rest of their burst takes.
 ///
-/// Runs on a thread of its own, and takes the board's lock alone.
-pub fn wake_players<R: Wait + Clock>(rt: &R, bell: &Bell, board: &Board, gather: Duration) {
+/// Runs on a thread of its own, and takes the lock of the recording mounts alone.
+pub fn wake_players<R: Wait + Clock>(
+    rt: &R,
+    wake_signal: &WakeSignal,
+    recording: &RecordingMounts,
+    gather: Duration,
+) {
     for _ in rt.forever() {
-        bell.wait(rt);
-        bell.gather(rt, gather);
-        // What is published from here on rings again; what was published before is marked already.
-        bell.rung.store(QUIET, Ordering::SeqCst);
-        if board.wake_marked(rt) {
+        wake_signal.wait(rt);
+        wake_signal.gather(rt, gather);
+        // What is published from here on notifies again; what was published before is marked already.
+        wake_signal.state.store(QUIET, Ordering::SeqCst);
+        if recording.wake_marked(rt) {
             // After the wake-ups are counted, once for all mounts.
-            bell.writers.raise();
+            wake_signal.writers.raise();
         }
-        // Looked at after the clearing: a stop before it is seen here, and one after it rings.
-        if bell.stopped.load(Ordering::SeqCst) {
+        // Looked at after the clearing: a stop before it is seen here, and one after it notifies.
+        if wake_signal.stopped.load(Ordering::SeqCst) {
             return;
         }
     }

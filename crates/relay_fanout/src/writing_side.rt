@@ -1,10 +1,12 @@
 //! What a connection's replies and frames are written on.
-ghost use Rattle.std.specs.Prelude.{◌≡◌, ◌≤◌, length};
+ghost use Rattle.std.specs.Prelude.{◌≡◌};
+ghost use Rattle.relay_fanout.specs.Ways.{HasRoom};
 
 use crate::socket::HangUp;
-use cursor::Tap;
+use crate::way::Way;
+use cursor::Lend;
 use interleaved::{FRAME_HEAD, Failed, Gathering, Sink, write_all};
-use player::{OutStop, relay_out};
+use player::{OutStop, relay_out, relay_out_held};
 use std::alloc::Global;
 use std::sync::atomic::{AtomicBool, Ordering};
 use std::sync::{Mutex, MutexGuard, Wait};
@@ -19,24 +21,24 @@ pub(crate) const TAKES: u64 = 16;
 /// The sink of a connection. A reply, or the frames of up to sixteen takes, are written while its lock is held, so that
 /// each stays whole. Its lock may be held as long as the peer reads nothing; no other lock is taken meanwhile.
 ///
-/// A writer, which waits for nothing, passes a line whose lock is taken over, and marks it: who gives the lock back looks for
+/// A writer, which waits for nothing, passes one whose lock is taken over, and marks it: who gives the lock back looks for
 /// the mark afterwards.
 #[derive(Drop)]
-pub struct Line<W: Sink> {
+pub struct WritingSide<W: Sink> {
     sink: Mutex<Gathering<W>>,
     gathers: bool,
     skipped: AtomicBool,
 }
 
-impl<W: Sink + Drop> Line<W> {
+impl<W: Sink + Drop> WritingSide<W> {
     /// For frames of at most so many bytes of data. Without memory for a buffer each frame is written by itself.
-    pub fn new(alloc: Global, sink: W, longest: usize) -> Line<W> {
+    pub fn new(alloc: Global, sink: W, longest: usize) -> WritingSide<W> {
         let room = longest.saturating_add(FRAME_HEAD).saturating_add(GATHERED);
         let (buffer, gathers) = match Vec::from_elem(alloc, 0, room) {
             Ok(buffer) => (buffer, true),
             Err(_) => (Vec::new(alloc), false),
         };
-        Line {
+        WritingSide {
             sink: Mutex::new(Gathering::new(sink, buffer)),
             gathers,
             skipped: AtomicBool::new(false),
@@ -48,7 +50,7 @@ impl<W: Sink + Drop> Line<W> {
         self.gathers
     }
 
-    /// The sink, where nobody has it. `None` marks the line: who has the sink tells the writers when it gives it back.
+    /// The sink, where nobody has it. `None` marks it: who has the sink tells the writers when it gives it back.
     pub(crate) fn try_hold(&self) -> Option<MutexGuard<'_, Gathering<W>>> {
         if let Some(sink) = self.sink.try_lock() {
             return Some(sink);
@@ -80,18 +82,22 @@ impl<W: Sink + Drop> Line<W> {
     }
 
     /// Writes the frames of the next packets of a tap, and says why no more came.
-    pub(crate) fn relay<T: Tap>(
+    pub(crate) fn relay<T: Lend>(
         &self,
         rt: &impl Wait,
         tap: &mut T,
         channels: &TrackChannels,
-        buf: &mut [u8],
+        way: &mut Way,
     ) -> OutStop
-        requires { T.packet_bytes tap.old ≤ length buf.old }
+        requires { HasRoom way.old (T.packet_bytes tap.old) }
         ensures same { T.packet_bytes tap.new ≡ T.packet_bytes tap.old }
+        ensures room { HasRoom way.new (T.packet_bytes tap.new) }
     {
         let mut sink = self.sink.lock(rt);
-        let report = relay_out(tap, &mut *sink, channels, TAKES, buf);
+        let report = match way {
+            Way::Copied(buf) => { relay_out(tap, &mut *sink, channels, TAKES, buf.as_mut_slice()) }
+            Way::Direct => relay_out_held(tap, &mut *sink, channels, TAKES),
+        };
         match sink.flush() {
             Ok(()) => report.stop,
             Err(_) => OutStop::WriteFailed,

@@ -1,0 +1,367 @@
+//! Connections whose silence is looked for while they are read.
+use crate::connection_tests::{ANNOUNCE, ANNOUNCED, IN_SESSION, PAUSE, RECORD, SET_UP, SETUP};
+use crate::devices::joined;
+use crate::expiry_tests::{NO_SESSION, PAUSED};
+use crate::kept::{Kept, lines_to, verbose};
+use crate::moments::Dial;
+use crate::packets::FRAME;
+use crate::rings::{Owned, Rings};
+use crate::serving::{SharedRings, book_of, line_to, sent_on, shared_over};
+use crate::steps::{SILENT, Step, Stepped};
+use crate::words::OneWord;
+use interleaved::Reading;
+use packet_ring::Pass;
+use relay_server::{
+    ConnectionEnd, Events, Hearing, Outcome, Seat, SharedBook, Silence, Watched, run_connection,
+};
+use session_state::Moments;
+use std::alloc::Global;
+use std::io::ErrorKind;
+use std::process::Abort;
+use std::random::RandomSource;
+use std::sync::{Arc, Mutex, Wait};
+use std::thread::Threads;
+use std::time::Clock;
+
+/// It is looked for every two seconds, and a connection without a session is hung up after a minute.
+const SILENCE: Silence = Silence {
+    looks: 2_000,
+    idle: Some(60_000),
+};
+
+/// How a connection has ended and at which moment, and what it was told.
+#[derive(Drop)]
+struct Served {
+    outcome: Outcome,
+    moment: u64,
+    told: Vec<u8>,
+}
+
+/// Serves connection 1 of this book, from which this comes, and then that.
+fn serve_over<R>(
+    rt: R,
+    alloc: Global,
+    book: &SharedBook<Seat<Owned<Pass>>>,
+    shared: SharedRings<OneWord>,
+    first: &[Step],
+    then: &[Step],
+    events: Events<R>,
+) -> Served
+where
+    R: Threads + Wait + Clock + Abort + Copy + Drop + Send + 'static,
+{
+    let bytes = Arc::new(alloc, Mutex::new(Vec::new(alloc))).expect(&rt, "memory");
+    let line = line_to(rt, alloc, &bytes, 10_000);
+    let mut clock = Dial::new(&rt, alloc);
+    let hearing = Hearing::new(alloc, clock).expect(&rt, "memory");
+    let source = Stepped::new(&rt, alloc, clock, first, then);
+    let watched = Watched::new(rt, source, book, 1, &hearing, SILENCE).expect(&rt, "memory");
+    let outcome = run_connection(
+        rt,
+        alloc,
+        shared,
+        1,
+        Reading::new(watched),
+        sent_on(line),
+        events,
+        hearing,
+    );
+    Served {
+        outcome,
+        moment: clock.now(),
+        told: Vec::from_slice(alloc, bytes.lock(&rt).as_slice()).expect(&rt, "memory"),
+    }
+}
+
+/// Serves a connection from which this comes, and then that.
+fn serve<R>(rt: R, alloc: Global, first: &[Step], then: &[Step]) -> Served
+where
+    R: Threads + Wait + Clock + RandomSource + Abort + Copy + Drop + Send + 'static,
+{
+    let book = book_of(&rt, alloc, 1, 1);
+    let theirs = Arc::try_clone(&book).expect(&rt, "a count of its users");
+    let shared = shared_over(&rt, alloc, theirs, Rings::of(&rt, alloc, 1), OneWord);
+    serve_over(rt, alloc, &book, shared, first, then, Events::none())
+}
+
+/// A camera that records.
+const RECORDS: [Step; 3] = [(0, Ok(ANNOUNCE)), (0, Ok(SETUP)), (0, Ok(RECORD))];
+
+/// What comes, how the connection ends and at which moment, and what it is told.
+#[derive(Clone, Copy)]
+struct Row {
+    first: &'static [Step],
+    then: &'static [Step],
+    end: ConnectionEnd,
+    moment: u64,
+    told: &'static [&'static [u8]],
+}
+
+/// A connection ends as each row says.
+fn rows_hold<R>(rt: R, alloc: Global, rows: &[Row])
+where
+    R: Threads + Wait + Clock + RandomSource + Abort + Copy + Drop + Send + 'static,
+{
+    for (place, row) in rows.iter().enumerate() {
+        let served = serve(rt, alloc, row.first, row.then);
+        let told = joined(&rt, alloc, row.told);
+        assert!(rt;
+            served.outcome.end == row.end,
+            "row {place}: {}",
+            served.outcome.end
+        );
+        assert!(rt;
+            served.moment == row.moment,
+            "row {place}: {}",
+            served.moment
+        );
+        assert!(rt; served.told.as_slice() == told.as_slice(), "row {place}");
+    }
+}
+
+/// Nothing comes; and a request comes when the time is over, and finds no session.
+const SILENT_CAMERAS: [Row; 2] = [
+    Row {
+        first: &RECORDS,
+        then: &[(59_999, SILENT), (60_000, SILENT), (60_001, SILENT)],
+        end: ConnectionEnd::Expired,
+        moment: 60_000,
+        told: &[ANNOUNCED, SET_UP, IN_SESSION],
+    },
+    Row {
+        first: &RECORDS,
+        then: &[
+            (60_000, Ok(PAUSE)),
+            (60_000, Ok(ANNOUNCE)),
+            (60_000, SILENT),
+        ],
+        end: ConnectionEnd::Done,
+        moment: 60_000,
+        told: &[ANNOUNCED, SET_UP, IN_SESSION, NO_SESSION, ANNOUNCED],
+    },
+];
+
+#[test]
+fn silence_is_looked_for_before_a_read_and_not_behind_it(rt: HostRuntime) {
+    rows_hold(rt, rt.alloc(), &SILENT_CAMERAS);
+}
+
+/// What comes when a camera's time is over, and how its connection ends: in silence, and by a request.
+const OVER: [(Step, ConnectionEnd); 2] = [
+    ((60_000, SILENT), ConnectionEnd::Expired),
+    ((60_000, Ok(PAUSE)), ConnectionEnd::Done),
+];
+
+/// The mount isn't among those that are recorded when its connection has ended, and the last line tells its end.
+#[test]
+fn an_expired_mount_is_not_recorded(rt: HostRuntime) {
+    let alloc = rt.alloc();
+    for (step, end) in OVER {
+        let kept = Kept::new(rt, alloc);
+        let lines = lines_to(&rt, alloc, kept);
+        let book = book_of(&rt, alloc, 1, 1);
+        let theirs = Arc::try_clone(&book).expect(&rt, "a count of its users");
+        let shared = shared_over(&rt, alloc, theirs, Rings::of(&rt, alloc, 1), OneWord);
+        let theirs = Arc::try_clone(&shared).expect(&rt, "a count of its users");
+        let then = [(0, Ok(FRAME)), step];
+        let served = serve_over(kept, alloc, &book, theirs, &RECORDS, &then, verbose(&lines));
+        assert!(rt; served.outcome.end == end, "{end}");
+        assert!(rt; shared.recorded(&rt) == 0, "{end}");
+        assert!(rt; kept.tells_an_end(&lines), "{end}");
+    }
+}
+
+/// The moment at which the last piece has come.
+const LAST: u64 = 70_000;
+
+/// How a connection ends and at which moment, from which this comes first, then an opening, and then a piece each second for
+/// seventy seconds.
+fn ends_after<R>(
+    rt: R,
+    alloc: Global,
+    first: &[Step],
+    opening: &'static [u8],
+    piece: &'static [u8],
+) -> (ConnectionEnd, u64)
+where
+    R: Threads + Wait + Clock + RandomSource + Abort + Copy + Drop + Send + 'static,
+{
+    let mut then: Vec<Step> = Vec::new(alloc);
+    then.push((0, Ok(opening))).expect(&rt, "memory");
+    for second in 1..71u64 {
+        then.push((second * 1_000, Ok(piece))).expect(&rt, "memory");
+    }
+    let served = serve(rt, alloc, first, then.as_slice());
+    (served.outcome.end, served.moment)
+}
+
+/// What opens a message or frame that never comes whole, and a piece more of it: of a line, a head, a body and a frame. Blank
+/// lines are none either.
+const PIECES: [(&[u8], &[u8]); 5] = [
+    (b"O", b"O"),
+    (b"OPTIONS * RTSP/1.0\nCSeq: 1\n", b"A: b\n"),
+    (
+        b"OPTIONS * RTSP/1.0\nCSeq: 1\nContent-Length: 60000\n\n",
+        b"aaaaaaaaaaaaaaaa",
+    ),
+    (b"$\x00\xff\xff", b"aaaaaaaaaaaaaaaa"),
+    (b"\r\n", b"\r\n"),
+];
+
+/// No read of them waits for long enough to end without a byte.
+#[test]
+fn pieces_that_never_pause_keep_nothing(rt: HostRuntime) {
+    let alloc = rt.alloc();
+    for (place, (opening, piece)) in PIECES.iter().enumerate() {
+        let camera = ends_after(rt, alloc, &RECORDS, opening, piece);
+        assert!(rt; camera == (ConnectionEnd::Expired, 60_000), "row {place}");
+        let other = ends_after(rt, alloc, &[], opening, piece);
+        assert!(rt; other == (ConnectionEnd::Idle, 60_000), "row {place}");
+    }
+}
+
+/// A frame on the second channel of a track, and one that is longer than a packet may be.
+const REPORT: &[u8] = b"$\x01\x00\x00";
+
+const TOO_LONG: &[u8] = b"$\x01\x00\x11aaaaaaaaaaaaaaaaa";
+
+/// A frame on a channel of no track, and one that is too short for RTP.
+const STRANGER: &[u8] = b"$\x07\x00\x01\x80";
+
+const BAD_RTP: &[u8] = b"$\x00\x00\x02\x80\x60";
+
+/// Frames that come from a recording camera, and whether they keep its session.
+const FRAMES: [(&[u8], bool); 5] = [
+    (FRAME, true),
+    (REPORT, true),
+    (TOO_LONG, true),
+    (STRANGER, false),
+    (BAD_RTP, false),
+];
+
+/// Where nothing else comes.
+#[test]
+fn frames_that_are_offered_to_the_mount_keep_its_session(rt: HostRuntime) {
+    let alloc = rt.alloc();
+    for (place, (frame, keeps)) in FRAMES.iter().enumerate() {
+        let want = if *keeps {
+            (ConnectionEnd::Done, LAST)
+        } else {
+            (ConnectionEnd::Expired, 60_000)
+        };
+        let ended = ends_after(rt, alloc, &RECORDS, frame, frame);
+        assert!(rt; ended == want, "row {place}");
+    }
+}
+
+/// What comes in one read with a request when the time is over, and its answer. A frame that is offered to no mount is heard when
+/// that request comes, and blank lines are no message.
+const UNOFFERED: [(&[u8], &[u8]); 3] = [
+    (
+        b"$\x07\x00\x01\x80PAUSE rtsp://h/a RTSP/1.0\nCSeq: 4\nSession: 000000010000abcd\n\n",
+        PAUSED,
+    ),
+    (
+        b"$\x00\x00\x02\x80\x60PAUSE rtsp://h/a RTSP/1.0\nCSeq: 4\nSession: 000000010000abcd\n\n",
+        PAUSED,
+    ),
+    (
+        b"\r\n\r\nPAUSE rtsp://h/a RTSP/1.0\nCSeq: 4\nSession: 000000010000abcd\n\n",
+        NO_SESSION,
+    ),
+];
+
+#[test]
+fn frames_that_nobody_records_are_heard_with_the_next_request(rt: HostRuntime) {
+    let alloc = rt.alloc();
+    for (place, (bytes, answer)) in UNOFFERED.iter().enumerate() {
+        let served = serve(rt, alloc, &RECORDS, &[(60_000, Ok(bytes))]);
+        assert!(rt; served.told.as_slice().ends_with(answer), "row {place}");
+    }
+}
+
+/// Reads are interrupted before a request and in the middle of it. One is when the time is over, and what has waited is heard
+/// before silence is looked for. One fails otherwise.
+const INTERRUPTED: [Row; 3] = [
+    Row {
+        first: &RECORDS,
+        then: &[
+            (0, Err(ErrorKind::Interrupted)),
+            (0, Ok(b"PAUSE rtsp://h/a RTSP/1.0\nCSe")),
+            (0, Err(ErrorKind::Interrupted)),
+            (0, Ok(b"q: 4\nSession: 000000010000abcd\n\n")),
+        ],
+        end: ConnectionEnd::Done,
+        moment: 0,
+        told: &[ANNOUNCED, SET_UP, IN_SESSION, PAUSED],
+    },
+    Row {
+        first: &RECORDS,
+        then: &[(60_000, Err(ErrorKind::Interrupted)), (60_000, Ok(PAUSE))],
+        end: ConnectionEnd::Done,
+        moment: 60_000,
+        told: &[ANNOUNCED, SET_UP, IN_SESSION, NO_SESSION],
+    },
+    Row {
+        first: &RECORDS,
+        then: &[(0, Err(ErrorKind::TimedOut)), (0, Ok(PAUSE))],
+        end: ConnectionEnd::ReadFailed,
+        moment: 0,
+        told: &[ANNOUNCED, SET_UP, IN_SESSION],
+    },
+];
+
+#[test]
+fn only_an_interrupted_read_is_made_again(rt: HostRuntime) {
+    rows_hold(rt, rt.alloc(), &INTERRUPTED);
+}
+
+/// A camera that comes to record when the clock has gone on.
+const RECORDS_LATE: [Step; 3] = [
+    (1_000_000, Ok(ANNOUNCE)),
+    (1_000_000, Ok(SETUP)),
+    (1_000_000, Ok(RECORD)),
+];
+
+/// The clock goes back. Without a session nothing comes then; or a frame, and the clock goes on. A camera asks to pause at once,
+/// or in the last moment of its session.
+const BACK: [Row; 4] = [
+    Row {
+        first: &[(1_000_000, Ok(ANNOUNCE))],
+        then: &[(999_999, SILENT), (0, SILENT), (0, SILENT)],
+        end: ConnectionEnd::Done,
+        moment: 0,
+        told: &[ANNOUNCED],
+    },
+    Row {
+        first: &[(1_000_000, Ok(ANNOUNCE))],
+        then: &[(0, Ok(FRAME)), (1_059_999, SILENT), (1_059_999, SILENT)],
+        end: ConnectionEnd::Done,
+        moment: 1_059_999,
+        told: &[ANNOUNCED],
+    },
+    Row {
+        first: &RECORDS_LATE,
+        then: &[(0, Ok(PAUSE))],
+        end: ConnectionEnd::Done,
+        moment: 0,
+        told: &[ANNOUNCED, SET_UP, IN_SESSION, PAUSED],
+    },
+    Row {
+        first: &RECORDS_LATE,
+        then: &[
+            (0, SILENT),
+            (0, Ok(FRAME)),
+            (1_059_999, SILENT),
+            (1_059_999, Ok(PAUSE)),
+        ],
+        end: ConnectionEnd::Done,
+        moment: 1_059_999,
+        told: &[ANNOUNCED, SET_UP, IN_SESSION, PAUSED],
+    },
+];
+
+#[test]
+fn a_clock_that_goes_back_ends_nothing(rt: HostRuntime) {
+    rows_hold(rt, rt.alloc(), &BACK);
+}
