@@ -2,8 +2,10 @@
 use crate::kept::Kept;
 use crate::loopback::{Client, MODES, OPTIONS, Set, listening, start_on};
 use crate::scripted::{SETUP_OUT, player, publish, publisher, small_frames};
+use log::Log;
 use relay_server::OpenGate;
 use std::alloc::Global;
+use std::io::Eprint;
 use std::net::{Net, SocketAddr, TcpListener, TcpStream};
 use std::process::Abort;
 use std::random::RandomSource;
@@ -95,17 +97,11 @@ fn lost_in_the_end(lines: &[String]) -> Option<u64> {
     None
 }
 
-/// A server whose reports are so many milliseconds apart, by so many writers, told what it is told.
-fn lines_of<R, S>(
-    rt: &R,
-    served: Kept<S>,
-    alloc: Global,
-    report: u64,
-    writers: usize,
-) -> Vec<String>
+/// They come to a server that has this runtime, whose reports are so many milliseconds apart, and the server ends.
+fn come_to_a_server<R, S>(rt: &R, served: S, alloc: Global, report: u64, writers: usize)
 where
     R: Threads + Wait + RandomSource + Abort + Net<Listener = TcpListener, Stream = TcpStream>,
-    S: Threads + Wait + Clock + Abort + Copy + Drop + Send + Sync + 'static,
+    S: Threads + Wait + Clock + Log + Eprint + Copy + Send + Sync + 'static,
 {
     let (listener, addr) = listening(rt);
     let set = Set {
@@ -116,7 +112,6 @@ where
     let server = start_on(rt, served, alloc, listener, addr, set, OpenGate);
     publish_to_one_that_stalls(rt, alloc, addr);
     server.end(rt);
-    served.lines().expect(rt, "memory")
 }
 
 /// Once in ten milliseconds, and in the end alone.
@@ -125,7 +120,9 @@ fn what_is_reported_adds_up(rt: HostRuntime) {
     let alloc = rt.alloc();
     for writers in MODES {
         for report in [10, 3_600_000] {
-            let lines = lines_of(&rt, Kept::new(rt, alloc), alloc, report, writers);
+            let served = Kept::new(rt, alloc);
+            come_to_a_server(&rt, served, alloc, report, writers);
+            let lines = served.lines().expect(&rt, "memory");
             let lost = lost_in_the_end(lines.as_slice());
             assert!(rt; lost.is_some_and(|count| count > 0));
             let told = sum_of(lines.as_slice());
