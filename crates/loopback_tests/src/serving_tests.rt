@@ -283,11 +283,12 @@ fn odd_is_refused<R: Net<Stream = TcpStream> + Abort>(
     odd
 }
 
-/// A client whose line has no end is told so.
+/// A client whose line has no end is told so, and has left the book when it is hung up.
 fn long_is_refused<R: Net<Stream = TcpStream> + Abort>(rt: &R, alloc: Global, addr: SocketAddr) {
     let said = Vec::from_elem(alloc, b'A', 8192).expect(rt, "memory");
     let told = b"RTSP/1.0 413 Request Entity Too Large\r\n\r\n";
-    refused(rt, alloc, addr, said.as_slice(), told);
+    let mut long = refused(rt, alloc, addr, said.as_slice(), told);
+    assert!(rt; long.is_hung_up(rt));
 }
 
 /// A client for which there is no connection is hung up.
