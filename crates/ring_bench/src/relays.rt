@@ -1,8 +1,7 @@
 //! The ring, and a list of the kept packets under a lock, to be timed.
 ghost use Rattle.std.specs.Prelude.{◌≤◌};
 
-use crate::source::SIZE;
-use crate::timing::{KEEP, Relay};
+use crate::timing::{KEEP, Relay, SIZE};
 use anyhow::Result;
 use cursor::{Taken, Tap};
 use packet_ring::{Publisher, Subscriber, new};

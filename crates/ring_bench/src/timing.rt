@@ -1,5 +1,6 @@
 //! What is measured, over anything that packets are published in and taken from.
-use crate::source::{SIZE, Source};
+use crate::keeping::summed;
+use crate::source::Source;
 use std::alloc::{AllocError, Global};
 use std::io::Result;
 use std::sync::Wait;
@@ -8,6 +9,9 @@ use std::time::{Clock, Instant};
 
 /// How many packets are kept, and how many are published in a round.
 pub const KEEP: usize = 512;
+
+/// The bytes of the longest packet that goes through the ring and the list.
+pub const SIZE: usize = 1200;
 
 /// Where packets are published, for readers to take.
 pub trait Relay<Reader>: Drop {
@@ -66,10 +70,7 @@ fn read<T: Relay<O>, O>(rt: &(impl Wait + Clock), from: &mut O, most: usize) -> 
             break;
         };
         lost = lost.saturating_add(u128::from(missed));
-        let byte = buf[..len.min(SIZE)].get(sum as usize % len.max(1));
-        sum = sum
-            .wrapping_mul(31)
-            .wrapping_add(u64::from(*byte.unwrap_or(&0)));
+        sum = summed(sum, &buf[..len.min(SIZE)]);
     }
     let nanos = start.elapsed(rt)?.as_nanos();
     Ok(Reading { lost, nanos, sum })
