@@ -74,7 +74,7 @@ fn a_burst_is_read<R: Clock + Abort>(
     camera: &mut Client,
     players: &mut [Client],
 ) -> bool {
-    let burst = small_frames(alloc, BURST).expect(rt, "memory");
+    let burst = small_frames(alloc, 0, BURST).expect(rt, "memory");
     for _ in 0..40u32 {
         if burst_is_read(rt, camera, players, burst.as_slice()) {
             return true;

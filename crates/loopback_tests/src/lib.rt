@@ -8,6 +8,8 @@ mod back_tests;
 #[cfg(test)]
 mod burst_tests;
 #[cfg(test)]
+mod crowd_tests;
+#[cfg(test)]
 mod dial;
 #[cfg(test)]
 mod direct_tests;

@@ -21,7 +21,7 @@ const PROMPT: u64 = 100;
 
 /// Publishes, sixteen packets at a time, until the word is set.
 fn publish_on<R: Wait + Abort>(rt: &R, alloc: Global, mut camera: Client, over: &AtomicBool) {
-    let frames = small_frames(alloc, 16).expect(rt, "memory");
+    let frames = small_frames(alloc, 0, 16).expect(rt, "memory");
     for _ in rt.forever() {
         if over.load(Ordering::SeqCst) {
             return;

@@ -200,7 +200,7 @@ fn a_hundred_lines_are_told_at_once_and_the_others_later(rt: HostRuntime) {
     let server = start_on(&rt, served, alloc, listener, addr, set, OpenGate);
     let mut camera = publisher(&rt, alloc, addr);
     let players = many_players(&rt, alloc, addr);
-    let frames = small_frames(alloc, 10).expect(&rt, "memory");
+    let frames = small_frames(alloc, 0, 10).expect(&rt, "memory");
     camera.say(&rt, frames.as_slice());
     let before = wait_for_lost(&rt, &served, PLAYERS as u64 * LOST);
     assert!(rt; before.is_some_and(|count| count == 99 || count == 100));

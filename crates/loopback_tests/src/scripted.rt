@@ -29,18 +29,27 @@ pub(crate) fn publisher<R: Net<Stream = TcpStream> + Abort>(
     client
 }
 
-/// A PLAY in the session of this number, below ten.
+/// The two digits of a number in hexadecimal.
+fn digits(number: u8) -> [u8; 2] {
+    [number >> 4, number & 15].map(|digit| match digit {
+        0..=9 => b'0'.wrapping_add(digit),
+        _ => b'a'.wrapping_add(digit.wrapping_sub(10)),
+    })
+}
+
+/// A PLAY in the session of this number.
 pub(crate) fn play(number: u8) -> [u8; 79] {
     let mut text =
         *b"PLAY rtsp://127.0.0.1:8554/cam RTSP/1.0\r\nCSeq: 4\r\nSession: 000000010000abcd\r\n\r\n";
-    text[66] = b'0'.wrapping_add(number);
+    text[65..67].copy_from_slice(&digits(number));
     text
 }
 
-/// A request in the session of this number, below ten.
+/// A request in the session of this number.
 pub(crate) fn asking(alloc: Global, method: &str, number: u8) -> Result<String, AllocError> {
+    let [high, low] = digits(number).map(|digit| char::from(digit));
     format!(in alloc;
-        "{method} rtsp://127.0.0.1:8554/cam RTSP/1.0\r\nCSeq: 7\r\nSession: 0000000{number}0000abcd\r\n\r\n"
+        "{method} rtsp://127.0.0.1:8554/cam RTSP/1.0\r\nCSeq: 7\r\nSession: 000000{high}{low}0000abcd\r\n\r\n"
     )
 }
 
@@ -57,7 +66,7 @@ pub(crate) fn player<R: Net<Stream = TcpStream> + Abort>(
     client
 }
 
-/// The status that a request in the session of this number, below ten, is answered by.
+/// The status that a request in the session of this number is answered by.
 pub(crate) fn status_in(
     rt: &impl Abort,
     alloc: Global,
@@ -123,10 +132,11 @@ pub(crate) fn publish(rt: &impl Abort, alloc: Global, camera: &mut Client, from:
     }
 }
 
-/// RTP packets of twelve bytes, as frames on channel 0, whose numbers go up from 0.
-pub(crate) fn small_frames(alloc: Global, count: u16) -> Result<Vec<u8>, AllocError> {
+/// So many RTP packets of twelve bytes, as frames on channel 0, with the numbers from this one on.
+pub(crate) fn small_frames(alloc: Global, from: u16, count: u16) -> Result<Vec<u8>, AllocError> {
     let mut frames = Vec::new(alloc);
-    for number in 0..count {
+    for place in 0..count {
+        let number = from.wrapping_add(place);
         let mut frame = *b"\x24\x00\x00\x0c\x80\x60\x00\x00\x00\x00\x23\x28\x00\x00\x00\x00";
         frame[6..8].copy_from_slice(&number.to_be_bytes());
         frames.extend_from_slice(&frame)?;

@@ -1,42 +1,59 @@
 //! Writers that send the frames of many players, over loopback.
 use crate::loopback::{Client, OPTIONS, Set, start};
-use crate::scripted::{asking, number_in, player, publish, publisher, status_in};
+use crate::scripted::{asking, number_in, player, publish, publisher, small_frames, status_in};
 use crate::serving_tests::{BATCH, PUBLISHED};
 use relay_server::OpenGate;
 use std::alloc::Global;
 use std::net::{Net, SocketAddr, TcpStream};
 use std::process::Abort;
 
-/// Of six players, whose sessions have the numbers from 2 on, the last two read nothing.
-const PLAYERS: u8 = 6;
+/// So many players read nothing: their sessions have the numbers from 2 on.
+const STALLED: u8 = 10;
 
-const READERS: usize = 4;
+/// So many come behind them, and read.
+const READERS: u8 = 30;
 
-/// More packets than a system's buffers mostly hold.
-const BESIDE: u16 = 1_000;
+/// More packets of 6,000 bytes than a system's buffers mostly hold.
+const FILLING: u16 = 1_000;
 
-/// Whether a player reads just these packets next.
+/// Players whose sessions have so many numbers from this one on.
+fn players<R: Net<Stream = TcpStream> + Abort>(
+    rt: &R,
+    alloc: Global,
+    addr: SocketAddr,
+    from: u8,
+    count: u8,
+) -> Vec<Client> {
+    let mut players = Vec::new(alloc);
+    for place in 0..count {
+        let player = player(rt, alloc, addr, from.wrapping_add(place));
+        players.push(player).expect(rt, "memory");
+    }
+    players
+}
+
+/// Whether a player reads just these packets of twelve bytes next.
 fn reads(rt: &impl Abort, player: &mut Client, from: u16) -> bool {
     for place in 0..BATCH {
-        if number_in(player.bytes(rt, 6004).as_slice()) != from.wrapping_add(place) {
+        if number_in(player.bytes(rt, 16).as_slice()) != from.wrapping_add(place) {
             return false;
         }
     }
     true
 }
 
-/// Publishes, and whether each player that reads has read each batch before the next one is published.
+/// Publishes, and whether each of these players has read each batch before the next one is published.
 fn all_read_each_batch(
     rt: &impl Abort,
     alloc: Global,
     camera: &mut Client,
     players: &mut [Client],
-    count: u16,
 ) -> bool {
     let mut from = 0u16;
-    for _ in 0..count / BATCH {
-        publish(rt, alloc, camera, from, BATCH);
-        for player in players.iter_mut().take(READERS) {
+    for _ in 0..PUBLISHED / BATCH {
+        let frames = small_frames(alloc, from, BATCH).expect(rt, "memory");
+        camera.say(rt, frames.as_slice());
+        for player in players.iter_mut() {
             if !reads(rt, player, from) {
                 return false;
             }
@@ -46,26 +63,25 @@ fn all_read_each_batch(
     true
 }
 
-fn four_read_beside_two<R: Net<Stream = TcpStream> + Abort>(
+fn thirty_read_beside_ten<R: Net<Stream = TcpStream> + Abort>(
     rt: &R,
     alloc: Global,
     addr: SocketAddr,
 ) {
     let mut camera = publisher(rt, alloc, addr);
-    let mut players = Vec::new(alloc);
-    for number in 0..PLAYERS {
-        let player = player(rt, alloc, addr, number.wrapping_add(2));
-        players.push(player).expect(rt, "memory");
-    }
-    assert!(rt; all_read_each_batch(rt, alloc, &mut camera, players.as_mut_slice(), BESIDE));
+    let _stalled = players(rt, alloc, addr, 2, STALLED);
+    publish(rt, alloc, &mut camera, 0, FILLING);
+    camera.ask(rt, OPTIONS);
+    let mut readers = players(rt, alloc, addr, STALLED.wrapping_add(2), READERS);
+    assert!(rt; all_read_each_batch(rt, alloc, &mut camera, readers.as_mut_slice()));
 }
 
-/// Two writers have three players each, one of which takes nothing any more.
+/// Two writers have twenty players each, some five of which take nothing any more.
 #[test]
-fn four_players_read_all_beside_two_that_stall(rt: HostRuntime) {
+fn thirty_players_read_all_beside_ten_that_stall(rt: HostRuntime) {
     let alloc = rt.alloc();
-    let server = start(rt, alloc, Set::of(7, 6).by(2), OpenGate);
-    four_read_beside_two(&rt, alloc, server.addr);
+    let server = start(rt, alloc, Set::of(41, 40).by(2), OpenGate);
+    thirty_read_beside_ten(&rt, alloc, server.addr);
     server.end(&rt);
 }
 
