@@ -154,7 +154,7 @@ fn count_lines(lines: &[String]) -> (Option<usize>, u64) {
 
 /// Waits until so many packets are told lost. How many players' lines came before the first that says how many more there are.
 fn wait_for_lost<S: Wait + Clock + Abort>(rt: &S, served: &Kept<S>, lost: u64) -> Option<usize> {
-    for _ in 0..500 {
+    for _ in 0..1_500 {
         let lines = served.lines().expect(rt, "memory");
         let (before, told) = count_lines(lines.as_slice());
         if told >= lost {
@@ -185,14 +185,15 @@ fn many_players<R: Net<Stream = TcpStream> + Abort>(
     players
 }
 
-/// The ring keeps one packet, and players are woken once all ten have come.
+/// The ring keeps one packet, and players are woken once all ten have come. Reports are far apart, so that none is likely to fall
+/// into the moment in which the players take.
 #[test]
 fn a_hundred_lines_are_told_at_once_and_the_others_later(rt: HostRuntime) {
     let alloc = rt.alloc();
     let served = Kept::new(rt, alloc);
     let (listener, addr) = listening(&rt);
     let set = Set {
-        report: Some(500),
+        report: Some(3_000),
         keep: 1,
         gather: 100,
         ..Set::of(PLAYERS as u64 + 1, PLAYERS).by(2)
