@@ -2,16 +2,17 @@
 use crate::dial::Dial;
 use crate::kept::Kept;
 use crate::leaving_tests::{plays_at_last, stalled};
-use crate::loopback::{ANNOUNCE, Client, MODES, OPTIONS, Set, listening, start, start_on};
+use crate::loopback::{ANNOUNCE, Client, MODES, OPTIONS, Set, listening, start, start_on, status};
 use crate::scripted::{FRAME, Peers, passes_on, play, player, publisher, status_in};
 use log::Log;
-use relay_server::OpenGate;
+use relay_server::{Gate, OpenGate};
 use std::alloc::Global;
 use std::io::Eprint;
 use std::net::{Net, SocketAddr, TcpListener, TcpStream};
 use std::process::Abort;
 use std::random::RandomSource;
-use std::sync::Wait;
+use std::sync::atomic::{AtomicBool, Ordering};
+use std::sync::{Arc, Wait};
 use std::thread;
 use std::thread::Threads;
 use std::time::{Clock, Duration};
@@ -209,6 +210,109 @@ fn a_stalled_player_loses_its_seat_too(rt: HostRuntime) {
         let server = start(rt, alloc, Set::of(3, 1).by(writers).timed(dial), OpenGate);
         stalled_player_expires(&rt, alloc, server.addr, dial);
         server.end(&rt);
+    }
+}
+
+/// Sets its word once connection 2 is answered for the third time.
+#[derive(Drop)]
+struct Third {
+    asked: Arc<AtomicBool, Global>,
+}
+
+impl Gate for Third {
+    fn pass(&self, conn: u64, turn: u64) {
+        if conn == 2 && turn == 2 {
+            self.asked.store(true, Ordering::SeqCst);
+        }
+    }
+}
+
+/// Waits until a word is set, for at most ten seconds.
+fn wait_for<R: Clock>(rt: &R, word: &AtomicBool) -> bool {
+    for _ in 0..10_000u32 {
+        if word.load(Ordering::SeqCst) {
+            return true;
+        }
+        thread::sleep(rt, Duration::from_millis(1));
+    }
+    false
+}
+
+/// Whether these are frames of 6,000 bytes of data on a player's channel, the last of which may be cut.
+fn are_frames(bytes: &[u8]) -> bool {
+    let head: &[u8] = b"\x24\x04\x17\x70";
+    bytes.chunks(6004).all(|frame| frame.starts_with(head.get(..frame.len()).unwrap_or(head)))
+}
+
+/// The first player has stopped reading, so that its reply mostly waits behind frames while its session's time passes. Nobody waits
+/// for it. Then it reads the reply between whole frames, and its seat is free.
+fn reads_late<R: Net<Stream = TcpStream> + Clock + Abort>(
+    rt: &R,
+    alloc: Global,
+    addr: SocketAddr,
+    dial: Dial,
+    asked: &AtomicBool,
+) -> SocketAddr {
+    let mut peers = stalled(rt, alloc, addr);
+    peers.first.say(rt, OPTIONS);
+    assert!(rt; wait_for(rt, asked));
+    dial.pass(rt, ALIVE);
+    assert!(rt; peers.camera.status_of(rt, OPTIONS) == 200);
+    assert!(rt; peers.second.status_of(rt, &play(3)) == 453);
+    dial.pass(rt, EXPIRED);
+    assert!(rt; peers.camera.status_of(rt, OPTIONS) == 200);
+    assert!(rt; peers.first.frames(rt) > 0);
+    assert!(rt; status(peers.first.head(rt).as_slice()) == 200);
+    assert!(rt; are_frames(peers.first.bytes(rt, usize::MAX).as_slice()));
+    assert!(rt; plays_at_last(rt, &mut peers.second, 3) == 200);
+    peers.first.addr(rt)
+}
+
+/// It comes to a server that has this runtime, which then ends. Tells who it was.
+fn reads_late_from<R, S>(rt: &R, served: S, alloc: Global, writers: usize) -> SocketAddr
+where
+    R: Threads
+        + Wait
+        + Clock
+        + RandomSource
+        + Abort
+        + Net<Listener = TcpListener, Stream = TcpStream>,
+    S: Threads + Wait + Clock + Log + Eprint + Copy + Send + Sync + 'static,
+{
+    let (listener, addr) = listening(rt);
+    let dial = Dial::new(rt, alloc);
+    let set = Set::of(3, 1).by(writers).timed(dial);
+    let asked = Arc::new(alloc, AtomicBool::new(false)).expect(rt, "memory");
+    let gate = Third {
+        asked: Arc::try_clone(&asked).expect(rt, "a count of its users"),
+    };
+    let server = start_on(rt, served, alloc, listener, addr, set, gate);
+    let first = reads_late(rt, alloc, addr, dial, &asked);
+    server.end(rt);
+    first
+}
+
+/// How many warnings tell of a peer.
+fn warnings_of(lines: &[String], peer: &str) -> usize {
+    lines
+        .iter()
+        .filter(|line| line.as_str().starts_with("[WARN ") && line.as_str().contains(peer))
+        .count()
+}
+
+#[test]
+fn a_reply_that_waits_is_whole_and_then_the_session_has_expired(rt: HostRuntime) {
+    let alloc = rt.alloc();
+    for writers in MODES {
+        let served = Kept::new(rt, alloc);
+        let first = reads_late_from(&rt, served, alloc, writers);
+        let peer = format!(in alloc; " {first}: ").expect(&rt, "memory");
+        let want = format!(in alloc;
+            "[WARN  relay_server::server] {first}: session expired"
+        ).expect(&rt, "memory");
+        let lines = served.lines().expect(&rt, "memory");
+        assert!(rt; warnings_of(lines.as_slice(), peer.as_str()) == 1);
+        assert!(rt; lines.iter().any(|line| line.as_str() == want.as_str()));
     }
 }
 
