@@ -8,6 +8,8 @@ mod account_tests;
 #[cfg(test)]
 mod beside_tests;
 #[cfg(test)]
+mod book_tests;
+#[cfg(test)]
 mod connection_tests;
 #[cfg(test)]
 mod devices;
