@@ -22,7 +22,7 @@ use std::time::Clock;
 
 /// What a connection is told that says this, by a clock that leaps when its fourth message comes: it was asked when the
 /// connection came, too.
-fn told<R>(
+pub(crate) fn told<R>(
     rt: R,
     alloc: Global,
     shared: SharedRings<OneWord>,
@@ -85,16 +85,18 @@ fn a_cameras_mount_has_ended_with_its_session(rt: HostRuntime) {
 }
 
 /// In the player's session, and in the next one of all.
-const PLAY: &[u8] = b"PLAY rtsp://h/a RTSP/1.0\nCSeq: 3\nSession: 000000020000abcd\n\n";
+pub(crate) const PLAY: &[u8] = b"PLAY rtsp://h/a RTSP/1.0\nCSeq: 3\nSession: 000000020000abcd\n\n";
 
-const PLAY_AGAIN: &[u8] = b"PLAY rtsp://h/a RTSP/1.0\nCSeq: 6\nSession: 000000030000abcd\n\n";
+pub(crate) const PLAY_AGAIN: &[u8] =
+    b"PLAY rtsp://h/a RTSP/1.0\nCSeq: 6\nSession: 000000030000abcd\n\n";
 
-const PLAYER_PAUSE: &[u8] = b"PAUSE rtsp://h/a RTSP/1.0\nCSeq: 4\nSession: 000000020000abcd\n\n";
+pub(crate) const PLAYER_PAUSE: &[u8] =
+    b"PAUSE rtsp://h/a RTSP/1.0\nCSeq: 4\nSession: 000000020000abcd\n\n";
 
 const OPTIONS: &[u8] = b"OPTIONS * RTSP/1.0\nCSeq: 1\n\n";
 
 /// Connection 1, which records by this clock. Once it is let on it asks to pause, and once that is set it closes.
-fn camera<R>(
+pub(crate) fn camera<R>(
     rt: R,
     alloc: Global,
     shared: &SharedRings<OneWord>,
@@ -157,7 +159,7 @@ fn an_expired_mounts_player_meets_the_end(rt: HostRuntime) {
 }
 
 /// How many replies have a status.
-fn replies(told: &[u8], head: &[u8]) -> usize {
+pub(crate) fn replies(told: &[u8], head: &[u8]) -> usize {
     let mut count = 0usize;
     for at in 0..told.len() {
         if told[at..].starts_with(head) {

@@ -32,6 +32,8 @@ mod serving;
 #[cfg(test)]
 mod silence_tests;
 #[cfg(test)]
+mod slow_reply_tests;
+#[cfg(test)]
 mod speed_tests;
 #[cfg(test)]
 mod stalled_tests;

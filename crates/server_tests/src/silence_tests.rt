@@ -24,7 +24,7 @@ use std::thread::Threads;
 use std::time::Clock;
 
 /// It is looked for every two seconds, and a connection without a session is hung up after a minute.
-const SILENCE: Silence = Silence {
+pub(crate) const SILENCE: Silence = Silence {
     looks: 2_000,
     idle: Some(60_000),
 };
@@ -314,6 +314,41 @@ const INTERRUPTED: [Row; 3] = [
 #[test]
 fn only_an_interrupted_read_is_made_again(rt: HostRuntime) {
     rows_hold(rt, rt.alloc(), &INTERRUPTED);
+}
+
+/// A camera whose reads are interrupted so often, each so many milliseconds after the one before, and what comes then.
+fn serve_interrupted<R>(rt: R, alloc: Global, times: u64, apart: u64, last: Step) -> Served
+where
+    R: Threads + Wait + Clock + RandomSource + Abort + Copy + Drop + Send + 'static,
+{
+    let mut then: Vec<Step> = Vec::new(alloc);
+    for turn in 1..times.saturating_add(1) {
+        let step = (turn.saturating_mul(apart), Err(ErrorKind::Interrupted));
+        then.push(step).expect(&rt, "memory");
+    }
+    then.push(last).expect(&rt, "memory");
+    serve(rt, alloc, &RECORDS, then.as_slice())
+}
+
+/// However often it is interrupted.
+#[test]
+fn a_read_that_is_interrupted_is_made_again_each_time(rt: HostRuntime) {
+    let served = serve_interrupted(rt, rt.alloc(), 1_000, 0, (0, Ok(PAUSE)));
+    assert!(rt; served.outcome.end == ConnectionEnd::Done);
+    assert!(rt; served.told.as_slice().ends_with(PAUSED));
+}
+
+/// They come each second, more often than it is looked, until the time is over. What waits then is heard first; and where nothing
+/// does, the first read that is left alone finds that the session has expired.
+#[test]
+fn interruptions_put_the_look_off_and_keep_nothing(rt: HostRuntime) {
+    let alloc = rt.alloc();
+    let asking = serve_interrupted(rt, alloc, 70, 1_000, (70_000, Ok(PAUSE)));
+    assert!(rt; asking.outcome.end == ConnectionEnd::Done);
+    assert!(rt; asking.told.as_slice().ends_with(NO_SESSION));
+    let silent = serve_interrupted(rt, alloc, 70, 1_000, (72_000, SILENT));
+    assert!(rt; silent.outcome.end == ConnectionEnd::Expired);
+    assert!(rt; silent.moment == 72_000);
 }
 
 /// A camera that comes to record when the clock has gone on.

@@ -1,0 +1,304 @@
+//! Sessions whose time is over while a reply is being written.
+ghost use Rattle.std.specs.Prelude.{◌≤◌};
+
+use crate::account_tests::SETUP_OUT;
+use crate::connection_tests::{ANNOUNCE, ANNOUNCED, IN_SESSION, PAUSE, RECORD, SET_UP, SETUP};
+use crate::devices::{Bytes, flag, joined};
+use crate::expiry_tests::{
+    NO_SESSION, PAUSED, PLAY, PLAY_AGAIN, PLAYER_PAUSE, camera, replies, told,
+};
+use crate::moments::Dial;
+use crate::rings::{Owned, Rings};
+use crate::serving::{SharedRings, book_of, sent_on, shared_over};
+use crate::silence_tests::SILENCE;
+use crate::steps::{SILENT, Step, Stepped};
+use crate::words::OneWord;
+use interleaved::{Reading, TryWrite, Writing};
+use packet_ring::Pass;
+use relay_server::{
+    ConnectionEnd, Events, Hearing, Seat, SharedBook, Watched, WritingSide, run_connection,
+};
+use session_state::Moments;
+use std::alloc::Global;
+use std::io;
+use std::io::Write;
+use std::process::Abort;
+use std::random::RandomSource;
+use std::sync::atomic::Ordering;
+use std::sync::{Arc, Mutex, Wait};
+use std::thread::Threads;
+use std::time::Clock;
+
+/// The moment from which on a socket takes a byte at a time. The request comes then whose reply is slow.
+const SLOW_FROM: u64 = 1_000;
+
+/// How a socket takes the bytes of a slow reply.
+#[derive(Clone, Copy, Drop)]
+struct Slow {
+    /// For each of them it takes so many milliseconds.
+    pace: u64,
+    /// After so many bytes it takes all that come, or none.
+    bytes: usize,
+    fails: bool,
+}
+
+/// Keeps what is written for whoever shares it, and moves its clock on.
+#[derive(Drop)]
+struct Dripping<R> {
+    rt: R,
+    kept: Bytes,
+    clock: Dial,
+    slow: Slow,
+}
+
+impl<R> Dripping<R> {
+    /// How many of so many bytes are taken.
+    fn taken(&mut self, len: usize) -> usize
+        ensures { result ≤ len }
+    {
+        let now = self.clock.now();
+        if len == 0 || now < SLOW_FROM {
+            return len;
+        }
+        if self.slow.bytes > 0 {
+            self.slow.bytes -= 1;
+            self.clock.set(now.saturating_add(self.slow.pace));
+            return 1;
+        }
+        if self.slow.fails { 0 } else { len }
+    }
+}
+
+impl<R: Wait> Write for Dripping<R> {
+    fn write(&mut self, buf: &[u8]) -> io::Result<usize> {
+        let count = self.taken(buf.len());
+        self.kept.lock(&self.rt).extend_from_slice(&buf[..count])?;
+        Ok(count)
+    }
+
+    fn flush(&mut self) -> io::Result<()> {
+        Ok(())
+    }
+}
+
+impl<R: Wait> TryWrite for Dripping<R> {}
+
+/// How a connection has ended, and what it was told.
+#[derive(Drop)]
+struct Served {
+    end: ConnectionEnd,
+    told: Vec<u8>,
+}
+
+/// Serves this connection of a book, from which this comes, and then that.
+fn serve<R>(
+    rt: R,
+    alloc: Global,
+    book: &SharedBook<Seat<Owned<Pass>>>,
+    shared: SharedRings<OneWord>,
+    conn: u64,
+    first: &[Step],
+    row: &Row,
+) -> Served
+where
+    R: Threads + Wait + Clock + Abort + Copy + Drop + Send + 'static,
+{
+    let bytes = Arc::new(alloc, Mutex::new(Vec::new(alloc))).expect(&rt, "memory");
+    let clock = Dial::new(&rt, alloc);
+    let sink = Dripping {
+        rt,
+        kept: Arc::try_clone(&bytes).expect(&rt, "a count of its users"),
+        clock,
+        slow: row.slow,
+    };
+    let hearing = Hearing::new(alloc, clock).expect(&rt, "memory");
+    let source = Stepped::new(&rt, alloc, clock, first, row.then);
+    let watched = Watched::new(rt, source, book, conn, &hearing, SILENCE).expect(&rt, "memory");
+    let outcome = run_connection(
+        rt,
+        alloc,
+        shared,
+        conn,
+        Reading::new(watched),
+        sent_on(WritingSide::new(alloc, Writing::new(sink), 16)),
+        Events::none(),
+        hearing,
+    );
+    Served {
+        end: outcome.end,
+        told: Vec::from_slice(alloc, bytes.lock(&rt).as_slice()).expect(&rt, "memory"),
+    }
+}
+
+/// What comes after the slow reply, how the connection ends, and what it is told from that reply on.
+#[derive(Clone, Copy)]
+struct Row {
+    slow: Slow,
+    then: &'static [Step],
+    end: ConnectionEnd,
+    told: &'static [&'static [u8]],
+}
+
+/// The bytes of a reply in a session.
+const REPLY: usize = 55;
+
+/// The reply is written within the session's time, and in more than that.
+const IN_TIME: Slow = Slow {
+    pace: 1_000,
+    bytes: REPLY,
+    fails: false,
+};
+
+const TOO_SLOW: Slow = Slow {
+    pace: 2_000,
+    bytes: REPLY,
+    fails: false,
+};
+
+/// Its front is written when the time is over, and nothing more.
+const CUT: Slow = Slow {
+    pace: 2_000,
+    bytes: 40,
+    fails: true,
+};
+
+/// A camera that records, and asks for nothing in its session.
+const CAMERA: [Step; 4] = [
+    (0, Ok(ANNOUNCE)),
+    (0, Ok(SETUP)),
+    (0, Ok(RECORD)),
+    (
+        SLOW_FROM,
+        Ok(b"GET_PARAMETER rtsp://h/a RTSP/1.0\nCSeq: 4\nSession: 000000010000abcd\n\n"),
+    ),
+];
+
+/// The session's time counts from the request, not from its reply. What has come meanwhile is heard, and finds no session; and
+/// nothing comes.
+const CAMERAS: [Row; 5] = [
+    Row {
+        slow: IN_TIME,
+        then: &[(60_999, Ok(PAUSE))],
+        end: ConnectionEnd::Done,
+        told: &[PAUSED, PAUSED],
+    },
+    Row {
+        slow: IN_TIME,
+        then: &[(61_000, Ok(PAUSE))],
+        end: ConnectionEnd::Done,
+        told: &[PAUSED, NO_SESSION],
+    },
+    Row {
+        slow: TOO_SLOW,
+        then: &[(112_000, Ok(PAUSE)), (112_000, Ok(ANNOUNCE))],
+        end: ConnectionEnd::Done,
+        told: &[PAUSED, NO_SESSION, ANNOUNCED],
+    },
+    Row {
+        slow: TOO_SLOW,
+        then: &[(112_000, SILENT)],
+        end: ConnectionEnd::Expired,
+        told: &[PAUSED],
+    },
+    Row {
+        slow: CUT,
+        then: &[],
+        end: ConnectionEnd::WriteFailed,
+        told: &[b"RTSP/1.0 200 OK\r\nCSeq: 4\r\nSession: 00000"],
+    },
+];
+
+/// Its name is free once its connection has ended.
+#[test]
+fn a_camera_is_told_its_slow_reply_whole(rt: HostRuntime) {
+    let alloc = rt.alloc();
+    let first = joined(&rt, alloc, &[ANNOUNCED, SET_UP, IN_SESSION]);
+    for (place, row) in CAMERAS.iter().enumerate() {
+        let book = book_of(&rt, alloc, 1, 2);
+        let theirs = Arc::try_clone(&book).expect(&rt, "a count of its users");
+        let shared = shared_over(&rt, alloc, theirs, Rings::of(&rt, alloc, 1), OneWord);
+        let theirs = Arc::try_clone(&shared).expect(&rt, "a count of its users");
+        let served = serve(rt, alloc, &book, theirs, 1, &CAMERA, row);
+        let last = joined(&rt, alloc, row.told);
+        let all = joined(&rt, alloc, &[first.as_slice(), last.as_slice()]);
+        assert!(rt; served.end == row.end, "row {place}: {}", served.end);
+        assert!(rt; served.told.as_slice() == all.as_slice(), "row {place}");
+        assert!(rt; shared.recorded(&rt) == 0, "row {place}");
+        let other = told(rt, alloc, shared, 2, &[ANNOUNCE], 0);
+        assert!(rt; other.as_slice() == ANNOUNCED, "row {place}");
+    }
+}
+
+/// A player that asks for nothing in its session.
+const PLAYER: [Step; 3] = [
+    (0, Ok(SETUP_OUT)),
+    (0, Ok(PLAY)),
+    (
+        SLOW_FROM,
+        Ok(b"GET_PARAMETER rtsp://h/a RTSP/1.0\nCSeq: 4\nSession: 000000020000abcd\n\n"),
+    ),
+];
+
+/// The reply to it, and to a PAUSE.
+const ANSWERED: &[u8] = b"RTSP/1.0 200 OK\r\nCSeq: 4\r\nSession: 000000020000abcd\r\n\r\n";
+
+/// As the camera's.
+const PLAYERS: [Row; 4] = [
+    Row {
+        slow: IN_TIME,
+        then: &[(60_999, Ok(PLAYER_PAUSE))],
+        end: ConnectionEnd::Done,
+        told: &[ANSWERED, ANSWERED],
+    },
+    Row {
+        slow: TOO_SLOW,
+        then: &[(112_000, Ok(PLAYER_PAUSE))],
+        end: ConnectionEnd::Done,
+        told: &[ANSWERED, NO_SESSION],
+    },
+    Row {
+        slow: TOO_SLOW,
+        then: &[(112_000, SILENT)],
+        end: ConnectionEnd::Expired,
+        told: &[ANSWERED],
+    },
+    Row {
+        slow: CUT,
+        then: &[],
+        end: ConnectionEnd::WriteFailed,
+        told: &[b"RTSP/1.0 200 OK\r\nCSeq: 4\r\nSession: 00000"],
+    },
+];
+
+/// The only seat is free, with its pass, once the connection of the player that had it has ended, and its camera's session goes on.
+#[test]
+fn a_player_is_told_its_slow_reply_whole(rt: HostRuntime) {
+    let alloc = rt.alloc();
+    for (place, row) in PLAYERS.iter().enumerate() {
+        let book = book_of(&rt, alloc, 1, 3);
+        let theirs = Arc::try_clone(&book).expect(&rt, "a count of its users");
+        let shared = shared_over(&rt, alloc, theirs, Rings::of(&rt, alloc, 1), OneWord);
+        let close = flag(&rt, alloc);
+        let camera = camera(rt, alloc, &shared, Dial::STILL, &close);
+        let theirs = Arc::try_clone(&shared).expect(&rt, "a count of its users");
+        let served = serve(rt, alloc, &book, theirs, 2, &PLAYER, row);
+        assert!(rt; served.end == row.end, "row {place}: {}", served.end);
+        let last = joined(&rt, alloc, row.told);
+        assert!(rt;
+            served.told.as_slice().ends_with(last.as_slice()),
+            "row {place}"
+        );
+        let next = told(rt, alloc, shared, 3, &[SETUP_OUT, PLAY_AGAIN], 0);
+        assert!(rt;
+            replies(next.as_slice(), b"RTSP/1.0 200 ") == 2,
+            "row {place}"
+        );
+        close.store(true, Ordering::SeqCst);
+        let (end, _, written) = camera.end(&rt);
+        assert!(rt; end == ConnectionEnd::Done, "row {place}");
+        assert!(rt;
+            written.lock(&rt).as_slice().ends_with(PAUSED),
+            "row {place}"
+        );
+    }
+}
