@@ -6,7 +6,7 @@ use session_state::Given;
 use std::alloc::Global;
 
 /// The request that a text is. `None` where it isn't one, and where memory runs out.
-fn request_of(alloc: Global, text: &[u8]) -> Option<Request> {
+pub(crate) fn request_of(alloc: Global, text: &[u8]) -> Option<Request> {
     let mut units = Reader::new(alloc).feed(text).ok()?.units;
     match units.pop() {
         Some(Unit::Message(request)) => Some(request),

@@ -2,6 +2,7 @@
 use crate::asking::{connects, is_accepted, status_of};
 use session_lock::{AskFault, Book};
 use session_state::{Act, ConnectFault};
+use std::alloc::Global;
 use std::collections::hash_map::RandomState;
 use std::test::Fail;
 
@@ -69,6 +70,96 @@ fn comings_and_requests_cut_the_entries_off(rt: HostRuntime) -> Result<(), Fail>
     assert!(rt; status_of(&mut book, alloc, 3, OPTIONS) == Some(200) && book.kept() == 1);
     assert!(rt; !book.base().is_open(2) && book.base().is_open(3));
     assert!(rt; book.connect() == Ok(4) && book.kept() == 2);
+    Ok(())
+}
+
+/// How many entries a server's book keeps before it cuts them off.
+const FORTY: usize = 40;
+
+/// What a book has to keep: so many entries, after a base at which this connection alone was open, or none.
+#[derive(Clone, Copy, Drop)]
+struct Wanted {
+    kept: usize,
+    open: Option<u64>,
+}
+
+impl Wanted {
+    /// After one more coming or request, before which this connection alone was open, or none.
+    fn after(self, open: Option<u64>) -> Wanted {
+        if self.kept >= FORTY {
+            return Wanted { kept: 1, open };
+        }
+        self.with_one()
+    }
+
+    /// With one entry more.
+    fn with_one(self) -> Wanted {
+        Wanted {
+            kept: self.kept.saturating_add(1),
+            open: self.open,
+        }
+    }
+}
+
+/// Whether a book keeps this, and one entry at most beside those that it may.
+fn keeps(book: &Book<u16>, wanted: Wanted) -> bool {
+    let base = book.base();
+    let is_its_base = match wanted.open {
+        Some(conn) => base.count_open() == 1 && base.is_open(conn),
+        None => base.count_open() == 0,
+    };
+    let kept = book.kept();
+    is_its_base && kept == wanted.kept && book.entries().len() == kept && kept <= FORTY + 1
+}
+
+/// A connection comes, asks once and hangs up. What the book keeps then, where it kept after each of these what it has to.
+fn visited(book: &mut Book<u16>, alloc: Global, conn: u64, before: Wanted) -> Option<Wanted> {
+    let come = before.after(None);
+    if book.connect() != Ok(conn) || !keeps(book, come) {
+        return None;
+    }
+    let asked = come.after(Some(conn));
+    if status_of(book, alloc, conn, OPTIONS) != Some(200) || !keeps(book, asked) {
+        return None;
+    }
+    let left = asked.with_one();
+    if book.hangup(conn) == Act::None && keeps(book, left) {
+        Some(left)
+    } else {
+        None
+    }
+}
+
+/// Three calls each, more than five thousand in all.
+const VISITS: u64 = 1_700;
+
+#[test]
+fn a_book_of_forty_entries_does_not_grow(rt: HostRuntime) -> Result<(), Fail> {
+    let alloc = rt.alloc();
+    let mut book: Book<u16> = Book::with_cut(alloc, 1, RandomState::new(&rt)?, FORTY);
+    let mut wanted = Wanted {
+        kept: 0,
+        open: None,
+    };
+    for conn in 1..=VISITS {
+        wanted = visited(&mut book, alloc, conn, wanted).ok_or("it keeps something else")?;
+    }
+    Ok(())
+}
+
+#[test]
+fn who_has_left_is_kept_until_the_next_comes(rt: HostRuntime) -> Result<(), Fail> {
+    let alloc = rt.alloc();
+    let mut book: Book<u16> = Book::with_cut(alloc, 1, RandomState::new(&rt)?, FORTY);
+    assert!(rt; connects(&mut book, 1024));
+    // Before the 41st there were 40, and so before each fortieth after it.
+    assert!(rt; book.kept() == 24 && book.base().count_open() == 1000);
+    for conn in 1..1025 {
+        assert!(rt; book.hangup(conn) == Act::None);
+    }
+    assert!(rt; book.kept() == 24 + 1024 && book.base().count_open() == 1000);
+    assert!(rt; book.connect() == Ok(1025));
+    assert!(rt; book.kept() == 1 && book.base().count_open() == 0);
     Ok(())
 }
 
