@@ -7,7 +7,7 @@ use base_syntax::Items;
 use relay_talk::{FixedWord, TalkEnd};
 use rtsp_message::{Reader, Request, Unit};
 use session_lock::{Answer, AskFault, Book};
-use session_state::{Act, ConnectFault, Given};
+use session_state::{Act, ConnectFault, Given, Session, State};
 use std::alloc::Global;
 use std::collections::hash_map::RandomState;
 use std::test::Fail;
@@ -105,7 +105,7 @@ fn a_talk_tells_of_a_refusal_and_goes_on(rt: HostRuntime) -> Result<(), Fail> {
 }
 
 /// What connections 1 and 2 ask, each answered with 200, with the act and the pass that is handed out.
-const ASKED: [(u64, &[u8], Act, Option<u16>); 5] = [
+const ASKED: [(u64, &[u8], Act, Option<u16>); 6] = [
     (
         1,
         b"ANNOUNCE rtsp://h/a RTSP/1.0\nCSeq: 1\nContent-Length: 26\n\nv=0\nm=audio 0 RTP/AVP 0  \n",
@@ -126,13 +126,19 @@ const ASKED: [(u64, &[u8], Act, Option<u16>); 5] = [
     ),
     (
         2,
-        b"SETUP rtsp://h/a/trackID=0 RTSP/1.0\nCSeq: 1\nTransport: RTP/AVP/TCP\n\n",
+        b"DESCRIBE rtsp://h/a RTSP/1.0\nCSeq: 1\n\n",
         Act::None,
         None,
     ),
     (
         2,
-        b"PLAY rtsp://h/a RTSP/1.0\nCSeq: 2\nSession: 0000000200000007\n\n",
+        b"SETUP rtsp://h/a/trackID=0 RTSP/1.0\nCSeq: 2\nTransport: RTP/AVP/TCP\n\n",
+        Act::None,
+        None,
+    ),
+    (
+        2,
+        b"PLAY rtsp://h/a RTSP/1.0\nCSeq: 3\nSession: 0000000200000007\n\n",
         Act::Play { mount: 1, seat: 0 },
         Some(10),
     ),
@@ -155,12 +161,41 @@ fn offer_of(alloc: Global, text: &[u8]) -> Result<Option<Vec<u16>>, Fail> {
     Ok(Some(vec![in alloc; 10]?))
 }
 
+/// The state of a session, where there is one.
+fn state_of(session: Option<&Session>) -> Option<State> {
+    Some(session?.state)
+}
+
+/// What is seen of a book, which a refusal leaves as it was: how many entries it keeps, how many connections and mounts had
+/// come to its base, and the sessions of connections 1 and 2.
+#[derive(Clone, Copy, PartialEq, Drop)]
+struct Seen {
+    kept: usize,
+    opened: usize,
+    next_mount: u64,
+    states: [Option<State>; 2],
+}
+
+/// What is seen of a book. Nothing where its entries aren't as many as it says.
+fn look_at(book: &Book<u16>) -> Option<Seen> {
+    let kept = book.kept();
+    if book.entries().len() != kept {
+        return None;
+    }
+    Some(Seen {
+        kept,
+        opened: book.base().count_open(),
+        next_mount: book.base().next_mount(),
+        states: [state_of(book.session_of(1)), state_of(book.session_of(2))],
+    })
+}
+
 /// The next connection's number, asked for once more where memory is refused. Nothing where the refusal changed the book.
 fn comes_at_last(book: &mut Book<u16>) -> Option<u64> {
-    let kept = book.kept();
+    let before = look_at(book)?;
     match book.connect() {
         Ok(conn) => Some(conn),
-        Err(ConnectFault::OutOfMemory) if book.kept() == kept => book.connect().ok(),
+        Err(ConnectFault::OutOfMemory) if look_at(book) == Some(before) => book.connect().ok(),
         Err(_) => None,
     }
 }
@@ -174,7 +209,7 @@ fn answer_at_last(
     request: &Request,
     offer: Option<Vec<u16>>,
 ) -> Option<Answer<u16>> {
-    let kept = book.kept();
+    let before = look_at(book)?;
     let is_offered = offer.is_some();
     let given = Given {
         word: 7,
@@ -184,7 +219,7 @@ fn answer_at_last(
     match book.ask(conn, request, &given, offer) {
         Ok(answer) => Some(answer),
         Err(AskFault::NoMemory { back }) => {
-            if book.kept() != kept || back.is_some() != is_offered {
+            if look_at(book) != Some(before) || back.is_some() != is_offered {
                 return None;
             }
             book.ask(conn, request, &given, back).ok()
@@ -210,23 +245,59 @@ fn is_answered(
     }
 }
 
-/// Whether two connections come, and all that they ask is answered.
-fn plays(book: &mut Book<u16>, alloc: Global) -> Result<bool, Fail> {
-    if comes_at_last(book) != Some(1) || comes_at_last(book) != Some(2) {
+/// How many connections come: more than a cutting book has room for at once, and than its world has.
+const COME: u64 = 16;
+
+/// How many entries are kept after a coming or a request, by a book that cuts off so many or more.
+fn kept_after(kept: usize, cut: usize) -> usize {
+    if kept < cut {
+        kept.saturating_add(1)
+    } else {
+        1
+    }
+}
+
+/// Whether as many connections come, and each is written down.
+fn all_come(book: &mut Book<u16>, cut: usize) -> bool {
+    for number in 1..=COME {
+        let kept = kept_after(book.kept(), cut);
+        if comes_at_last(book) != Some(number) || book.kept() != kept {
+            return false;
+        }
+    }
+    true
+}
+
+/// Whether all come, and what two of them ask is answered and written down.
+fn plays(book: &mut Book<u16>, alloc: Global, cut: usize) -> Result<bool, Fail> {
+    if !all_come(book, cut) {
         return Ok(false);
     }
     for asked in &ASKED {
-        if !is_answered(book, alloc, asked)? {
+        let kept = kept_after(book.kept(), cut);
+        if !is_answered(book, alloc, asked)? || book.kept() != kept {
             return Ok(false);
         }
     }
-    Ok(book.kept() == 7)
+    Ok(true)
 }
+
+/// A book that cuts nothing off here.
+const NO_CUT: usize = 4096;
 
 #[test]
 fn a_refused_call_of_the_book_is_made_again(rt: HostRuntime) -> Result<(), Fail> {
     let mut book: Book<u16> = Book::new(rt.alloc(), 1, RandomState::new(&rt)?);
-    assert!(rt; plays(&mut book, rt.alloc())?);
+    assert!(rt; plays(&mut book, rt.alloc(), NO_CUT)?);
+    Ok(())
+}
+
+/// Each call but the first copies the world.
+#[test]
+fn a_refused_cut_is_made_again(rt: HostRuntime) -> Result<(), Fail> {
+    let mut book: Book<u16> = Book::with_cut(rt.alloc(), 1, RandomState::new(&rt)?, 1);
+    assert!(rt; plays(&mut book, rt.alloc(), 1)?);
+    assert!(rt; state_of(book.base().session_of(2)) == Some(State::Ready));
     Ok(())
 }
 
@@ -237,7 +308,7 @@ fn leave(book: &mut Book<u16>) -> bool {
         && book.give_back(1, 0, 11) == Some(11)
         && book.hangup(2) == Act::None
         && book.hangup(1) == Act::End
-        && book.kept() == 10
+        && book.kept() == 25
 }
 
 /// A hang-up and the return of a seat take no memory. In a run in which the request behind them is refused they answer the
@@ -245,8 +316,43 @@ fn leave(book: &mut Book<u16>) -> bool {
 #[test]
 fn who_leaves_the_book_takes_no_memory(rt: HostRuntime) -> Result<(), Fail> {
     let mut book: Book<u16> = Book::new(rt.alloc(), 1, RandomState::new(&rt)?);
-    assert!(rt; plays(&mut book, rt.alloc())?);
+    assert!(rt; plays(&mut book, rt.alloc(), NO_CUT)?);
     assert!(rt; leave(&mut book));
     let _behind = Vec::from_elem(rt.alloc(), 0u8, 1).is_ok();
+    Ok(())
+}
+
+/// Whether a player's session expires, its seat comes back once, and it and its camera leave, where nothing of this cuts.
+fn leave_uncut(book: &mut Book<u16>) -> bool {
+    book.expire(2, 0, 59_999).is_none()
+        && book.expire(2, 0, 60_000) == Some(Act::Stop { mount: 1, seat: 0 })
+        && book.expire(2, 0, 60_000).is_none()
+        && book.give_back(1, 0, 10).is_none()
+        && book.give_back(1, 0, 11) == Some(11)
+        && book.hangup(2) == Act::None
+        && book.hangup(1) == Act::End
+        && book.hangup(1) == Act::None
+        && book.kept() == 5
+        && state_of(book.base().session_of(2)) == Some(State::Ready)
+}
+
+/// The status of what connection 3 asks of the mount that has ended.
+fn status_behind(book: &mut Book<u16>, alloc: Global) -> Result<Option<u16>, Fail> {
+    let request = request_of(alloc, b"DESCRIBE rtsp://h/a RTSP/1.0\nCSeq: 1\n\n")?;
+    let Some(answer) = answer_at_last(book, alloc, 3, &request, None) else {
+        return Ok(None);
+    };
+    Ok(Some(answer.reply.status.code()))
+}
+
+/// So they do, and an expiry, where each coming and request cuts. The next coming makes the request for memory behind them.
+#[test]
+fn who_leaves_between_cuts_takes_no_memory(rt: HostRuntime) -> Result<(), Fail> {
+    let mut book: Book<u16> = Book::with_cut(rt.alloc(), 1, RandomState::new(&rt)?, 1);
+    assert!(rt; plays(&mut book, rt.alloc(), 1)?);
+    assert!(rt; leave_uncut(&mut book));
+    assert!(rt; comes_at_last(&mut book) == Some(COME + 1));
+    assert!(rt; book.kept() == 1 && book.base().count_open() == 14);
+    assert!(rt; status_behind(&mut book, rt.alloc())? == Some(404));
     Ok(())
 }
