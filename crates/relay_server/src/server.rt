@@ -10,7 +10,7 @@ use crate::options::Options;
 use crate::refusal::Refusal;
 use crate::refusing::{Refusing, tell_unavailable};
 use crate::reports::Reports;
-use crate::shared::{Shared, SharedBook};
+use crate::shared::{Shared, SharedBook, let_in};
 use crate::watched::{Silence, Watched};
 use interleaved::{Reading, Writing};
 use log::{Log, info, warn};
@@ -223,7 +223,7 @@ where
     if server.shared.live.load(Ordering::SeqCst) >= MOST_LIVE {
         return Err(Refusal::Full);
     }
-    let conn = server.shared.book.lock(&rt).connect()?;
+    let conn = let_in(&rt, &server.shared.book)?;
     let started = start(rt, alloc, server, conn, stream, peer);
     if started.is_err() {
         let _ = server.shared.book.lock(&rt).hangup(conn);

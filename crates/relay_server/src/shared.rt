@@ -3,6 +3,7 @@ ghost use Rattle.std.specs.Prelude.{◌≤◌};
 
 use relay_fanout::{Maker, Offers, RecordingMounts, Seat, WakeSignal, wake_players};
 use session_lock::Book;
+use session_state::ConnectFault;
 use std::alloc::{AllocError, Global};
 use std::collections::hash_map::RandomState;
 use std::sync::atomic::AtomicU64;
@@ -29,6 +30,17 @@ pub fn shared_book<P: Drop>(
         Ok(shared) => Ok(shared),
         Err(_) => Err(AllocError),
     }
+}
+
+/// Lets a connection into a book.
+pub(crate) fn let_in<P: Drop>(rt: &impl Wait, book: &SharedBook<P>) -> Result<u64, ConnectFault> {
+    let mut book = book.lock(rt);
+    let came = book.connect();
+    let retired = book.retired();
+    drop(book);
+    // Without the lock: it may be the last to hold the descriptions of many mounts that have ended.
+    drop(retired);
+    came
 }
 
 /// What all threads of a server share.

@@ -109,6 +109,14 @@ impl<P: Drop> Book<P> {
         self.entries.base()
     }
 
+    /// The base that a newer one has replaced since this was asked last: whoever keeps the book under a lock gives its memory
+    /// back after the lock, since it may be the last to hold mounts that have ended. Nobody has to ask: the next base drops it.
+    pub fn retired(&mut self) -> Option<World>
+        ensures unchanged { self.new ≡ self.old }
+    {
+        self.entries.retired()
+    }
+
     /// Whether a connection is open.
     pub fn is_open(&self, conn: u64) -> bool
         ensures { result ≡ is_open conn self.now.history }

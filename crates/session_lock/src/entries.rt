@@ -7,6 +7,7 @@ use rtsp_message::{Reply, Request};
 use session_state::{Entry, Method, World, read_method};
 use std::alloc::{AllocError, Global};
 use std::marker::Model;
+use std::mem;
 
 /// The history as it is written down: its newest entries, and the world that those before them led to.
 #[derive(Drop)]
@@ -14,6 +15,8 @@ pub(crate) struct Entries {
     // How many entries are kept, or more, when all are cut off before the next one.
     cut: usize,
     base: World,
+    // The base before it, until it is taken or another one follows.
+    retired: Option<World>,
     // The newest entry is the last.
     entries: Vec<Entry>,
     history: Chronicle<Entry>,
@@ -41,6 +44,7 @@ impl Entries {
         Entries {
             cut,
             base,
+            retired: None,
             entries: Vec::new(alloc),
             history: Chronicle::new(),
         }
@@ -66,6 +70,13 @@ impl Entries {
         ensures { result.now ≡ self.now.base }
     {
         &self.base
+    }
+
+    /// The base that a newer one has replaced since this was asked last. Nothing else changes.
+    pub(crate) fn retired(&mut self) -> Option<World>
+        ensures { self.new ≡ self.old }
+    {
+        self.retired.take()
     }
 
     /// A copy of the world as it stands now, where all entries are cut off before the next one: it is their new base.
@@ -101,7 +112,7 @@ impl Entries {
         ensures { Adds next entry self.old self.new }
     {
         if let Some(base) = next {
-            self.base = base;
+            self.retired = Some(mem::replace(&mut self.base, base));
             self.entries.clear();
         }
         self.history = self.history.and(&entry);

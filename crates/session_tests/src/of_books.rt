@@ -62,6 +62,9 @@ fn comings_and_requests_cut_the_entries_off(rt: HostRuntime) -> Result<(), Fail>
         assert!(rt; book.connect().is_ok());
         assert!(rt; book.kept() == kept);
     }
+    // The base before it comes out once.
+    assert!(rt; book.retired().is_some_and(|base| !base.is_open(1)));
+    assert!(rt; book.retired().is_none());
     // It stood at the base.
     assert!(rt; book.base().is_open(2) && !book.base().is_open(3));
     assert!(rt; book.hangup(2) == Act::None && book.kept() == 2);
@@ -69,6 +72,7 @@ fn comings_and_requests_cut_the_entries_off(rt: HostRuntime) -> Result<(), Fail>
     assert!(rt; book.base().is_open(2));
     assert!(rt; status_of(&mut book, alloc, 3, OPTIONS) == Some(200) && book.kept() == 1);
     assert!(rt; !book.base().is_open(2) && book.base().is_open(3));
+    assert!(rt; book.retired().is_some_and(|base| base.is_open(2)));
     assert!(rt; book.connect() == Ok(4) && book.kept() == 2);
     Ok(())
 }

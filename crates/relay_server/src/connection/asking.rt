@@ -176,7 +176,10 @@ where
             self.part = part_of(self.alloc, session);
         }
         self.session = session.map(SessionSnapshot::of);
+        let retired = book.retired();
         drop(book);
+        // Without the lock: it may be the last to hold the descriptions of many mounts that have ended.
+        drop(retired);
         match asked {
             Ok(answer) => Ok(answer),
             Err(
