@@ -1,10 +1,13 @@
 //! Packets that are looked at where they lie.
 use crate::running_tests::{ROOM, is_packet, packet, publish_all, sent, took};
 use cursor::{Account, Lend, Refused, Taken, Tap, Visit};
+use interleaved::{Failed, Sink};
 use packet_ring::{Publisher, Subscriber, new};
+use player::relay_out_held;
 use std::process::Abort;
 use std::sync::Wait;
 use std::thread;
+use transport_header::{ChannelPair, TrackChannels};
 
 /// Publishes three packets while it looks at one, and keeps the answers and what it saw: the tag, the first
 /// byte and how many there are.
@@ -57,6 +60,58 @@ fn lent_while_published(rt: HostRuntime) {
     assert!(rt; took(&mut seat, &mut buf) == packet(2, 1) && buf[0] == b'C');
     assert!(rt; took(&mut seat, &mut buf) == packet(3, 1) && buf[0] == b'D');
     assert!(rt; took(&mut seat, &mut buf) == Some(Taken::Empty));
+}
+
+/// Takes all that is written, publishes three packets when it is first written to, and keeps the answers.
+#[derive(Drop)]
+struct PublishingSink<'a> {
+    publisher: &'a mut Publisher,
+    answers: Option<[Result<u64, Refused>; 3]>,
+}
+
+impl Sink for PublishingSink<'_> {
+    ghost use Rattle.std.specs.Prelude.{None, false};
+
+    ghost written = { λ _. None };
+
+    ghost failed = { λ _. false };
+
+    fn write(&mut self, bytes: &[u8]) -> Result<usize, Failed> {
+        if self.answers.is_none() {
+            let second = sent(self.publisher, b"B");
+            let third = sent(self.publisher, b"C");
+            self.answers = Some([second, third, sent(self.publisher, b"D")]);
+        }
+        Ok(bytes.len())
+    }
+
+    fn has_failed(&self) -> bool {
+        false
+    }
+}
+
+/// A frame that is written from where its packet lies holds that place meanwhile.
+#[test]
+fn held_while_its_frame_is_written(rt: HostRuntime) {
+    let (mut publisher, mut passes) = new(rt.alloc(), 2, 1, ROOM).expect(&rt, "memory");
+    let mut seat = passes.pop().expect(&rt, "no pass").attach();
+    let mut channels = TrackChannels::new();
+    let pair = ChannelPair {
+        first: 4,
+        second: 5,
+    };
+    // The packets are RTCP of track 1.
+    if channels.may_have(1, pair) {
+        channels.set(1, pair);
+    }
+    assert!(rt; sent(&mut publisher, b"A") == Ok(0));
+    let mut sink = PublishingSink {
+        publisher: &mut publisher,
+        answers: None,
+    };
+    let report = relay_out_held(&mut seat, &mut sink, &channels, 1);
+    assert!(rt; report.sent == 1);
+    assert!(rt; sink.answers == Some([Ok(1), Ok(2), Err(Refused::Pinned { pins: 1 })]));
 }
 
 /// So many packets are published while one is looked at.

@@ -153,12 +153,12 @@ fn limits(rt: HostRuntime) {
     }
 }
 
-/// Rings of the shortest and of the longest packets: a packet of just that many bytes comes out as it went in, and
-/// one byte more is refused.
+/// Rings of the shortest and of the longest packets, and the largest ring of all, whose memory is untouched but for a packet's: a
+/// packet of just that many bytes comes out as it went in, and one byte more is refused.
 #[test]
 fn packet_limits(rt: HostRuntime) {
-    for most in [1, 65_535] {
-        let (mut publisher, mut passes) = new(rt.alloc(), 2, 1, most).expect(&rt, "memory");
+    for (keep, seats, most) in [(2, 1, 1), (2, 1, 65_535), (4095, 1024, 65_535)] {
+        let (mut publisher, mut passes) = new(rt.alloc(), keep, seats, most).expect(&rt, "memory");
         let mut seat = passes.pop().expect(&rt, "no pass").attach();
         let mut bytes = Vec::new(rt.alloc());
         for place in 0..most + 1 {
