@@ -1,5 +1,7 @@
 //! Connections whose silence is looked for while they are read.
-use crate::connection_tests::{ANNOUNCE, ANNOUNCED, IN_SESSION, PAUSE, RECORD, SET_UP, SETUP};
+use crate::connection_tests::{
+    ANNOUNCE, ANNOUNCED, IN_SESSION, NO_RING, PAUSE, RECORD, SET_UP, SETUP,
+};
 use crate::devices::joined;
 use crate::expiry_tests::{NO_SESSION, PAUSED};
 use crate::kept::{Kept, lines_to, verbose};
@@ -144,6 +146,25 @@ const SILENT_CAMERAS: [Row; 2] = [
 #[test]
 fn silence_is_looked_for_before_a_read_and_not_behind_it(rt: HostRuntime) {
     rows_hold(rt, rt.alloc(), &SILENT_CAMERAS);
+}
+
+/// The second ring is refused, so that an ANNOUNCE at 40,000 is answered 503, and a PAUSE 59,999 milliseconds later in the session.
+#[test]
+fn a_request_without_an_answer_of_the_book_is_heard(rt: HostRuntime) {
+    let alloc = rt.alloc();
+    let book = book_of(&rt, alloc, 1, 1);
+    let theirs = Arc::try_clone(&book).expect(&rt, "a count of its users");
+    let rings = Rings::refusing(&rt, alloc, Some(1));
+    let shared = shared_over(&rt, alloc, theirs, rings, OneWord);
+    let then = [(40_000, Ok(ANNOUNCE)), (99_999, Ok(PAUSE))];
+    let served = serve_over(rt, alloc, &book, shared, &RECORDS, &then, Events::none());
+    let told = joined(
+        &rt,
+        alloc,
+        &[ANNOUNCED, SET_UP, IN_SESSION, NO_RING, PAUSED],
+    );
+    assert!(rt; served.outcome.end == ConnectionEnd::Done);
+    assert!(rt; served.told.as_slice() == told.as_slice());
 }
 
 /// What comes when a camera's time is over, and how its connection ends: in silence, and by a request.
