@@ -116,6 +116,20 @@ fn a_refused_connection_leaves_its_place(rt: HostRuntime) {
     server.end(&rt);
 }
 
+/// Its peer is told so, and a line tells why.
+#[test]
+fn a_connection_of_a_full_server_is_refused(rt: HostRuntime) {
+    let alloc = rt.alloc();
+    let (listener, addr) = listening(&rt);
+    let served = Kept::new(rt, alloc);
+    let server = start_on(&rt, served, alloc, listener, addr, Set::of(1, 1), OpenGate);
+    assert!(rt; server.fill(&rt) == 1024);
+    let _late = late_is_refused(&rt, alloc, server.addr);
+    server.end(&rt);
+    let lines = served.lines().expect(&rt, "memory");
+    assert!(rt; all_told(lines.as_slice(), " refused: too many connections") == Some(1));
+}
+
 /// A player that has the only seat is hung up after the reply to its PLAY, and another one has the seat then. Tells who it was.
 fn seat_is_free_again<R: Net<Stream = TcpStream> + Clock + Abort>(
     rt: &R,

@@ -45,6 +45,10 @@ with_left counts left keep = record counts {
   lost = capped (counts.lost + left.lost + (left.left - keep));
 }
 
+-- the account of a seat that is sent nothing more: what was left for later is lost
+abbrev pub with_rest_lost : Left → Left
+with_rest_lost account = record { taken = account.taken; lost = capped (account.lost + account.left); left = 0 }
+
 -- the counts with so many milliseconds for which packets waited
 abbrev pub with_wait : Counts → (milliseconds : ℕ) → Counts
 with_wait counts milliseconds = record counts { slowed = capped (counts.slowed + milliseconds) }

@@ -1,6 +1,6 @@
 //! What became of the packets of a connection.
 ghost use Rattle.std.specs.Prelude.{◌≡◌, ◌<◌, ◌↔◌, IsTrue};
-ghost use Rattle.relay_accounts.specs.Counting.{counted_since, losses, nothing_counted, with_left, with_report, with_strangers, with_wait};
+ghost use Rattle.relay_accounts.specs.Counting.{counted_since, losses, nothing_counted, with_left, with_report, with_rest_lost, with_strangers, with_wait};
 ghost use Rattle.relay_accounts.specs.Reporting.{lost_by_now};
 
 use cursor::Left;
@@ -26,8 +26,8 @@ pub struct Counts {
     /// sixteen of them go nowhere.
     pub taken: u64,
     /// The packets of any track that this player lost, since it was too far behind: those that a take told lost, and those
-    /// after its cursor that the ring kept no longer when it left its seat. What the ring still kept then is in no
-    /// count.
+    /// after its cursor that the ring kept no longer when it left its seat. What the ring still kept for a player that left by
+    /// itself is in no count; it is lost to one that was given up after its mount's end.
     pub lost: u64,
     /// For how many milliseconds in all its packets waited for the players that keep up.
     pub slowed: u64,
@@ -113,6 +113,17 @@ impl Counts {
         ensures { IsTrue result ↔ (0 < losses self.now) }
     {
         self.pinned > 0 || self.oversize > 0 || self.bad_rtp > 0 || self.unkept > 0 || self.lost > 0
+    }
+}
+
+/// The account of a player that is sent nothing more of its mount: what it hadn't taken is lost to it.
+pub fn given_up(left: Left) -> Left
+    ensures { result ≡ with_rest_lost left }
+{
+    Left {
+        taken: left.taken,
+        lost: left.lost.saturating_add(left.left),
+        left: 0,
     }
 }
 

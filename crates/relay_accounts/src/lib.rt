@@ -13,7 +13,7 @@ mod points;
 mod tally;
 
 pub use backlog::{Backlog, Waiting};
-pub use counts::{Counts, lost_so_far};
+pub use counts::{Counts, given_up, lost_so_far};
 pub use ending::{ConnectionEnd, FrameEnd, end_of, status_of};
 pub use heard::Heard;
 pub use incoming::{publish_frames, skip_frames};

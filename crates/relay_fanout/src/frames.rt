@@ -113,7 +113,7 @@ impl<T: Lend + Leave + Drop, W: Sink + Drop, H: HangUp + Drop> SharedPlayer<T, W
         end
     }
 
-    /// Puts a tap in that a frame thread will take from.
+    /// Puts a tap in, which a frame thread or a writer will take from.
     pub fn put(&self, rt: &impl Wait, tap: T) {
         self.phase.begin(rt);
         *self.tap.lock(rt) = TapPlace::Attached(tap);

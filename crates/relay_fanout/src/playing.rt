@@ -10,7 +10,7 @@ use cursor::{Left, Tap};
 use interleaved::{Gathering, TrySink};
 use pacing::Patience;
 use player::{OutStop, relay_out};
-use relay_accounts::FrameEnd;
+use relay_accounts::{FrameEnd, given_up};
 use std::alloc::Global;
 use std::mem;
 use std::sync::{Arc, Wait};
@@ -24,7 +24,7 @@ pub enum TapPlace<T> {
     /// Its frames are taken from it.
     Attached(T),
     /// Its mount has ended, and it was left with this account, so that nothing is kept of the mount's packets for a
-    /// player that stays.
+    /// player that stays. What it hadn't taken is lost.
     Left(Left),
 }
 
@@ -32,7 +32,7 @@ impl<T: Leave + Drop> TapPlace<T> {
     /// The tap is left for good, if it is here.
     pub(crate) fn leave(&mut self) {
         let left = match mem::replace(self, TapPlace::Nowhere) {
-            TapPlace::Attached(tap) => TapPlace::Left(tap.leave_for_good()),
+            TapPlace::Attached(tap) => TapPlace::Left(given_up(tap.leave_for_good())),
             other => other,
         };
         *self = left;
@@ -161,7 +161,7 @@ impl<T: Tap + Leave + Drop> Playing<T> {
                 self.come_back(rt);
                 self.take(rt, &mut sink, buf, wakes)
             }
-            // Its packets aren't kept longer for who takes them so slowly; what it hadn't taken is counted as lost.
+            // Its packets aren't kept longer for who takes them so slowly.
             (Ok(_), None) if self.is_late(now, most) => Some(FrameEnd::Ended),
             (Ok(_), end) => end,
         };

@@ -33,8 +33,7 @@ impl RecordingMounts {
         })
     }
 
-    /// A mount is being recorded. Where memory is refused, its points aren't told and its players aren't woken by
-    /// the waker.
+    /// A mount is being recorded. Where memory is refused, its points aren't told and the waking thread doesn't wake its players.
     pub fn add(
         &self,
         rt: &impl Wait,

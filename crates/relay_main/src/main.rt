@@ -1,15 +1,14 @@
 //! A live relay for RTSP 1.0 (RFC 2326).
 #![tactic(auto)]
 
-mod moments;
 mod serve;
 pub mod task;
 
 use interleaved::{Reading, Writing};
-use moments::ClockMoments;
 use rand::make_rng;
 use rand::rngs::StdRng;
 use relay_command::{Asked, exit_code, read_words};
+use relay_server::ClockMoments;
 use relay_talk::{DrawnWords, Ended, FixedWord, NoWords, WordSource, do_talk, word_source};
 use ring_steps::Actor;
 use serve::serve;

@@ -3,12 +3,11 @@ ghost use Rattle.std.specs.Prelude.{◌≡◌};
 ghost use Rattle.relay_command.specs.Serving.{IsInRange};
 ghost use Rattle.relay_main.specs.Served.{milliseconds_of, told_to};
 
-use crate::moments::ClockMoments;
 use log::{Log, warn};
 use rand::make_rng;
 use rand::rngs::StdRng;
 use relay_command::Settings;
-use relay_server::{OpenGate, Options, RingMaker, run_server, shared_book};
+use relay_server::{ClockMoments, OpenGate, Options, RingMaker, run_server, shared_book};
 use relay_talk::{DrawnWords, NoWords};
 use std::alloc::Global;
 use std::collections::hash_map::RandomState;

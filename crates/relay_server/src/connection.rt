@@ -55,6 +55,40 @@ pub(crate) struct Connection<R, M: Maker, V, G, W: Sink, H, N> {
     hearing: Hearing<N>,
 }
 
+impl<R, M: Maker, V, G, W: Sink, H, N> Connection<R, M, V, G, W, H, N> {
+    /// Nothing has come on it.
+    fn new(
+        rt: R,
+        alloc: Global,
+        shared: Arc<Shared<M, V, G>, Global>,
+        player: Arc<SharedPlayer<M::Out, W, H>, Global>,
+        writers: Option<Arc<Writers<M::Out, W, H>, Global>>,
+        conn: u64,
+        events: Events<R>,
+        hearing: Hearing<N>,
+    ) -> Connection<R, M, V, G, W, H, N> {
+        Connection {
+            rt,
+            alloc,
+            shared,
+            player,
+            writers,
+            conn,
+            turns: 0,
+            session: None,
+            part: None,
+            publishing: None,
+            mount: None,
+            frames: None,
+            is_over: false,
+            torn_down: false,
+            counts: Counts::new(),
+            events,
+            hearing,
+        }
+    }
+}
+
 /// Where a connection's replies and frames go: its writing side, what ends it, and the writers that send its frames, or `None` where a
 /// thread of its own does.
 #[derive(Drop)]
@@ -96,14 +130,8 @@ where
     let player = match Arc::new(alloc, SharedPlayer::new(writing, wire)) {
         Ok(player) => player,
         Err(refused) => {
-            turn_away(
-                &rt,
-                &shared,
-                conn,
-                &refused.value,
-                &mut reader,
-                hearing.watch(),
-            );
+            let watch = hearing.watch();
+            turn_away(&rt, &shared, conn, &refused.value, &mut reader, watch);
             return Outcome {
                 end: ConnectionEnd::OutOfMemory,
                 counts: Counts::new(),
@@ -111,25 +139,7 @@ where
             };
         }
     };
-    let mut connection = Connection {
-        rt,
-        alloc,
-        shared,
-        player,
-        writers,
-        conn,
-        turns: 0,
-        session: None,
-        part: None,
-        publishing: None,
-        mount: None,
-        frames: None,
-        is_over: false,
-        torn_down: false,
-        counts: Counts::new(),
-        events,
-        hearing,
-    };
+    let mut connection = Connection::new(rt, alloc, shared, player, writers, conn, events, hearing);
     let end = connection.run(reader);
     Outcome {
         end,

@@ -2,6 +2,7 @@
 #![tactic(auto)]
 
 mod accepts;
+mod clock_moments;
 mod connection;
 mod events;
 mod gate;
@@ -18,6 +19,7 @@ mod shared;
 mod watched;
 
 pub use accepts::Accepts;
+pub use clock_moments::ClockMoments;
 pub use connection::{Outgoing, run_connection};
 pub use events::Events;
 pub use gate::{Gate, OpenGate};

@@ -231,6 +231,14 @@ where
     started
 }
 
+/// One more owner of what may be there.
+fn share<T>(shared: &Option<Arc<T, Global>>) -> Result<Option<Arc<T, Global>>, AllocError> {
+    match shared {
+        Some(shared) => Ok(Some(Arc::try_clone(shared)?)),
+        None => Ok(None),
+    }
+}
+
 /// Starts the thread of a connection.
 fn start<R, V, G, N>(
     rt: R,
@@ -247,31 +255,19 @@ where
     N: Moments + Copy + Send + Sync + 'static,
 {
     let hearing = Hearing::new(alloc, server.moments)?;
+    let socket = Socket::of(stream)?;
     let book = &server.shared.book;
-    let watched = Watched::new(
-        rt,
-        Socket::of(stream)?,
-        book,
-        conn,
-        &hearing,
-        server.silence,
-    )?;
+    let watched = Watched::new(rt, socket, book, conn, &hearing, server.silence)?;
     let reader = Reading::new(watched);
     let writer = Writing::new(Socket::of(stream)?);
     let wire = Socket::of(stream)?;
-    let writers = match &server.writers {
-        Some(writers) => Some(Arc::try_clone(writers)?),
-        None => None,
-    };
+    let writers = share(&server.writers)?;
     let longest = server.shared.maker.packet_bytes();
     let theirs = Arc::try_clone(&server.shared)?;
     let same = Arc::try_clone(&server.shared)?;
     let lines = Arc::try_clone(&server.lines)?;
     let is_verbose = server.is_verbose;
-    let reports = match &server.reports {
-        Some(reports) => Some(Arc::try_clone(reports)?),
-        None => None,
-    };
+    let reports = share(&server.reports)?;
     server.shared.live.fetch_add(1, Ordering::SeqCst);
     let run = move || {
         let outgoing = Outgoing {

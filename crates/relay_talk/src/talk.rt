@@ -56,7 +56,8 @@ pub fn run_talk<R: Source + Drop, W: Sink, V: Words, N: Moments>(
     (end, intake.into_source())
 }
 
-/// Answers the messages of an intake, one after another. Each answer is written before more is read.
+/// Answers the messages of an intake, one after another. Each answer is written before more is read. No clause tells
+/// of that order; `prompt_tests` of `talk_tests` show it.
 fn answer_all<R: Source + Drop, W: Sink, V: Words, N: Moments>(
     talker: &mut Talker,
     intake: &mut Intake<R>,

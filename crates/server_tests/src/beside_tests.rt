@@ -70,7 +70,7 @@ fn a_refused_ring_leaves_another_connection_recording(rt: HostRuntime) {
         &rt,
         alloc,
         book_of(&rt, alloc, 1, 2),
-        Rings::refusing(&rt, alloc, Some(1)),
+        Rings::refusing(&rt, alloc, 1..2),
         OneWord,
     );
     let camera = recording(rt, alloc, &shared);

@@ -44,7 +44,10 @@ where
 {
     let book = book_of(&rt, alloc, 1, 1);
     let theirs = Arc::try_clone(&book).expect(&rt, "a count of its users");
-    let rings = Rings::refusing(&rt, alloc, peer.refused);
+    let refused = peer
+        .refused
+        .map_or(0..0, |number| number..number.saturating_add(1));
+    let rings = Rings::refusing(&rt, alloc, refused);
     let shared = shared_over(&rt, alloc, theirs, rings, OneWord);
     let bytes = Arc::new(alloc, Mutex::new(Vec::new(alloc))).expect(&rt, "memory");
     let line = line_to(rt, alloc, &bytes, peer.room);

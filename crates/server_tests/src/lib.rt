@@ -10,6 +10,8 @@ mod beside_tests;
 #[cfg(test)]
 mod book_tests;
 #[cfg(test)]
+mod clock_tests;
+#[cfg(test)]
 mod connection_tests;
 #[cfg(test)]
 mod devices;
@@ -18,7 +20,13 @@ mod expiry_tests;
 #[cfg(test)]
 mod kept;
 #[cfg(test)]
+mod looking_tests;
+#[cfg(test)]
 mod moments;
+#[cfg(test)]
+mod offers_tests;
+#[cfg(test)]
+mod pace_tests;
 #[cfg(test)]
 mod pacing_tests;
 #[cfg(test)]
@@ -35,6 +43,8 @@ mod silence_tests;
 mod slow_reply_tests;
 #[cfg(test)]
 mod speed_tests;
+#[cfg(test)]
+mod stage;
 #[cfg(test)]
 mod stalled_tests;
 #[cfg(test)]

@@ -1,9 +1,10 @@
-//! Rings, of which one is refused memory, and the last owner of which is seen to go, for tests.
+//! Rings, of which some are refused memory, and the last owner of which is seen to go, for tests.
 use crate::devices::{Count, Flag, count, flag};
 use cursor::{Account, Feed, Left, Lend, Refused, Taken, Tap, Visit};
 use packet_ring::{Pass, Publisher, Subscriber};
 use relay_fanout::{Leave, Maker, RingMaker};
 use std::alloc::{AllocError, Global};
+use std::ops::Range;
 use std::process::Abort;
 use std::sync::Arc;
 use std::sync::atomic::Ordering;
@@ -87,7 +88,7 @@ impl<T: Leave> Leave for Owned<T> {
     }
 }
 
-/// Makes rings, of which one is refused memory.
+/// Makes rings, of which some are refused memory.
 #[derive(Drop)]
 pub(crate) struct Rings {
     maker: RingMaker,
@@ -95,8 +96,8 @@ pub(crate) struct Rings {
     pub(crate) made: Count,
     /// Set once a ring has no owner any more.
     pub(crate) gone: Flag,
-    /// Which one is refused, counted from 0.
-    refused: Option<u64>,
+    /// Which ones are refused, counted from 0.
+    refused: Range<u64>,
 }
 
 impl Rings {
@@ -106,7 +107,7 @@ impl Rings {
             maker: RingMaker::new(keep.clamp(1, 4095), seats.min(1024), 16),
             made: count(rt, alloc),
             gone: flag(rt, alloc),
-            refused: None,
+            refused: 0..0,
         }
     }
 
@@ -115,8 +116,8 @@ impl Rings {
         Rings::keeping(rt, alloc, seats, 4)
     }
 
-    /// Rings of one seat, of which this one is refused.
-    pub(crate) fn refusing(rt: &impl Abort, alloc: Global, refused: Option<u64>) -> Rings {
+    /// Rings of one seat, of which these are refused.
+    pub(crate) fn refusing(rt: &impl Abort, alloc: Global, refused: Range<u64>) -> Rings {
         Rings {
             refused,
             ..Rings::of(rt, alloc, 1)
@@ -133,7 +134,7 @@ impl Maker for Rings {
 
     fn make(&self, alloc: Global) -> Result<(Owned<Publisher>, Vec<Owned<Pass>>), AllocError> {
         let place = self.made.fetch_add(1, Ordering::SeqCst);
-        if self.refused == Some(place) {
+        if self.refused.contains(&place) {
             return Err(AllocError);
         }
         let (inner, passes) = self.maker.make(alloc)?;

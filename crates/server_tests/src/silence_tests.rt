@@ -154,7 +154,7 @@ fn a_request_without_an_answer_of_the_book_is_heard(rt: HostRuntime) {
     let alloc = rt.alloc();
     let book = book_of(&rt, alloc, 1, 1);
     let theirs = Arc::try_clone(&book).expect(&rt, "a count of its users");
-    let rings = Rings::refusing(&rt, alloc, Some(1));
+    let rings = Rings::refusing(&rt, alloc, 1..2);
     let shared = shared_over(&rt, alloc, theirs, rings, OneWord);
     let then = [(40_000, Ok(ANNOUNCE)), (99_999, Ok(PAUSE))];
     let served = serve_over(rt, alloc, &book, shared, &RECORDS, &then, Events::none());

@@ -1,4 +1,4 @@
-//! The moments of the program's clock.
+//! The moments of a clock.
 ghost use Rattle.std.specs.Prelude.{◌≡◌, ◌≤◌};
 
 use session_state::Moments;
@@ -6,7 +6,7 @@ use std::time::{Clock, Instant};
 
 /// Milliseconds since these moments were made. Where the clock can't be read the last one is told again.
 #[derive(Clone, Copy, Drop)]
-pub(crate) struct ClockMoments<R> {
+pub struct ClockMoments<R> {
     rt: R,
     began: Option<Instant>,
     last: u64,
@@ -14,7 +14,7 @@ pub(crate) struct ClockMoments<R> {
 
 impl<R: Clock> ClockMoments<R> {
     /// The first moment is 0.
-    pub(crate) fn new(rt: R) -> ClockMoments<R> {
+    pub fn new(rt: R) -> ClockMoments<R> {
         let began = Instant::now(&rt).ok();
         ClockMoments { rt, began, last: 0 }
     }
