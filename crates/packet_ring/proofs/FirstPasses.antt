@@ -27,7 +27,7 @@ pub rest_views : (n k : ℕ) → k < n → (vs : List View) (v : View) (ws : Lis
 rest_views n k lt vs v ws all cut = ap rest_of (sym cut ∙ all ∙ one_less n k lt)
 
 pub pass_of : (z : RingId) (t : Token) → t.id ≡ z → t.me.view ≡ inr new_seat → t.me.seen ≡ [] → passing_of t 0 ≡ new_pass z
-pass_of z t same new none i = record { ring = same i; seen = []; closed = ends_at (none i) 0; loads = (seat_of (new i)).loads; found = record { length = (seat_of (new i)).seen; closed = (seat_of (new i)).saw_closed } }
+pass_of z t same new none i = record { ring = same i; seen = []; closed = ends_at (none i) 0; loads = (seat_of (new i)).loads; misses = (seat_of (new i)).misses; found = record { length = (seat_of (new i)).seen; closed = (seat_of (new i)).saw_closed } }
 
 pub one_more : (z : RingId) (ps : List Passing) (k : ℕ) (p : Passing) → ps ≡ replicate k (new_pass z) → p ≡ new_pass z → ps ++ p ∷ [] ≡ replicate (k + 1) (new_pass z)
 one_more z ps k p are is = ap (λ (u : List Passing × Passing). u.0 ++ u.1 ∷ []) {x = (ps, p)} {y = (replicate k (new_pass z), new_pass z)} (λ i. (are i, is i)) ∙ replicate_more k (new_pass z)

@@ -78,7 +78,7 @@ module _ (keep : ℕ) (x : Seat) (old : Knows) (found : ℕ) (first : Knows) (lo
     (most unit word : ℕ) (pinned unpinned : Knows) (step : Pins most unit (seat_of first.view) first word pinned) (back : Unpins (missed (seat_of pinned.view)) pinned unpinned)
     (later : ℕ) (next : Knows) (load_again : Loads keep (second_seen keep) (seat_of unpinned.view) unpinned later next) where
   abbrev y : Seat
-  y = record (looked load.head x) { phase = seating.Missed }
+  y = record (looked load.head x) { phase = seating.Missed; misses = x.misses + 1 }
 
   is_missed : seat_of unpinned.view ≡ y
   is_missed = ap seat_of back.view ∙ ap (λ (v : View). missed (seat_of v)) step.view ∙ ap missed is_found

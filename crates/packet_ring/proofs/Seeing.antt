@@ -18,7 +18,7 @@ use Rattle.packet_ring.specs.Rule.{Knows, View}
 use Rattle.packet_ring.specs.Steps.{HasSeen, ends_at, lost_to, seat_of}
 use Rattle.packet_ring.specs.Tokens.{FirstKept, FoundNone, GotPacket, Looked, LostSome, Takes}
 use Rattle.packet_ring.specs.Views.{RingId, IsReceipted, IsSeated, IsSubscribed, found_by, keep_of, packet_from, packets_from, seen_by, subscribing_of}
-use Rattle.packet_ring.specs.Calls.{LoadsFor, SeesOn, TakesNext, WasKept, head_of, log_with}
+use Rattle.packet_ring.specs.Calls.{LooksFor, SeesOn, TakesNext, WasKept, head_of, log_with}
 use Rattle.packet_ring.specs.declared.block.Token.{Token}
 use Rattle.packet_ring.proofs.Pinned.{or_packet}
 use mathlib.Core.Logic.{dite}
@@ -86,7 +86,7 @@ module _ (z : RingId) (t t' : Token) (known seen keep : ℕ) (a : Account) (is :
         counts = (at ∙ c, refl);
         sees = sees z t t' seating.Between known seen got.head is.seated got.looked_at;
         found = (ap (λ (v : View). (seat_of v).seen) got.view ∙ got.looked_at.size ∙ sym many, λ was. got.looked_at.ended (sym (ap (λ (v : View). (seat_of v).saw_closed) got.view) ∙ was));
-        loads = ap (λ (v : View). (seat_of v).loads) got.view;
+        looks = record { loads = ap (λ (v : View). (seat_of v).loads) got.view; misses = ap (λ (v : View). (seat_of v).misses) got.view };
         ring = same;
       }
 
@@ -98,19 +98,23 @@ module _ (z : RingId) (t t' : Token) (known seen keep : ℕ) (a : Account) (is :
         counts = refl;
         sees = sees z t t' seating.Between known seen lost.head is.seated lost.looked_at;
         found = finds_log t.me t' seen lost.head lost.looked_at (found_head lost.view) lost.mark;
-        loads = loaded lost.view;
+        looks = loaded lost.view;
         ring = same;
       } where
         Left : Type 0
-        Left = (t'.me.view ≡ inr (lost_to lost.head x count)) ⊎ ((t'.me.view ≡ inr (lost_to lost.head (record x { loads = x.loads + 1 }) count)) × FirstKept keep (cursor x) seen t.me)
+        Left = (t'.me.view ≡ inr (lost_to lost.head x count)) ⊎ ((t'.me.view ≡ inr (lost_to lost.head (record x { loads = x.loads + 1; misses = x.misses + 1 }) count)) × FirstKept keep (cursor x) seen t.me)
 
         found_head : Left → found_by t' ≡ lost.head
         found_head (inl v) = ap (λ (w : View). let h : Head = record { length = (seat_of w).seen; closed = (seat_of w).saw_closed } in h) v
         found_head (inr v) = ap (λ (w : View). let h : Head = record { length = (seat_of w).seen; closed = (seat_of w).saw_closed } in h) v.0
 
-        loaded : Left → LoadsFor (Lost count) (subscribing_of t known a) (subscribing_of t' seen (record a { lost = a.lost + count }))
-        loaded (inl v) = inl (ap (λ (w : View). (seat_of w).loads) v)
-        loaded (inr v) = inr (ap (λ (w : View). (seat_of w).loads) v.0 ∙ (let r : x.loads + 1 + 1 ≡ x.loads + 2 = omega arith in r), kept_first v.1)
+        loaded : Left → LooksFor (Lost count) (subscribing_of t known a) (subscribing_of t' seen (record a { lost = a.lost + count }))
+        loaded (inl v) = inl (record { loads = ap (λ (w : View). (seat_of w).loads) v; misses = ap (λ (w : View). (seat_of w).misses) v })
+        loaded (inr v) = inr (record {
+          loads = ap (λ (w : View). (seat_of w).loads) v.0 ∙ (let r : x.loads + 1 + 1 ≡ x.loads + 2 = omega arith in r);
+          misses = ap (λ (w : View). (seat_of w).misses) v.0;
+          first = kept_first v.1;
+        })
           where
             kept_first : FirstKept keep (cursor x) seen t.me → WasKept (keep_of t.id) (length (seen_by t known)) (cursor_of a) (length (seen_by t' seen))
             kept_first k = let c = at_cursor in let e = sized in let now : length (seen_by t' seen) ≡ seen = seen_size t'.me.seen seen lost.looked_at.has.within in let was : length (seen_by t known) ≡ known = seen_size t.me.seen known is.seated.has.within in
@@ -132,10 +136,10 @@ module _ (z : RingId) (t t' : Token) (known seen : ℕ) (a : Account) (is : IsSu
   found_end_of closed none = finds_log t.me t' seen none.head none.looked_at (ap (λ (w : View). let h : Head = record { length = (seat_of w).seen; closed = (seat_of w).saw_closed } in h) none.view) (none.mark ∙ sym none.saw)
 
   pub takes_empty : FoundNone false seen (seat_of t.me.view) t.me t'.me → TakesNext (subscribing_of t known a) Empty (subscribing_of t' seen a)
-  takes_empty none = record { event = (found_end false none, none.mark, refl); counts = refl; sees = sees z t t' seating.Between known seen none.head is.seated none.looked_at; found = found_end_of false none; loads = ap (λ (v : View). (seat_of v).loads) none.view; ring = same }
+  takes_empty none = record { event = (found_end false none, none.mark, refl); counts = refl; sees = sees z t t' seating.Between known seen none.head is.seated none.looked_at; found = found_end_of false none; looks = record { loads = ap (λ (v : View). (seat_of v).loads) none.view; misses = ap (λ (v : View). (seat_of v).misses) none.view }; ring = same }
 
   pub takes_ended : FoundNone true seen (seat_of t.me.view) t.me t'.me → TakesNext (subscribing_of t known a) Ended (subscribing_of t' seen a)
-  takes_ended none = record { event = (found_end true none, none.mark, refl); counts = refl; sees = sees z t t' seating.Between known seen none.head is.seated none.looked_at; found = found_end_of true none; loads = ap (λ (v : View). (seat_of v).loads) none.view; ring = same }
+  takes_ended none = record { event = (found_end true none, none.mark, refl); counts = refl; sees = sees z t t' seating.Between known seen none.head is.seated none.looked_at; found = found_end_of true none; looks = record { loads = ap (λ (v : View). (seat_of v).loads) none.view; misses = ap (λ (v : View). (seat_of v).misses) none.view }; ring = same }
 
 -- the logs that a publisher tells by its receipts
 pub more_published : (log : List (List ℕ)) (p : List ℕ) (count : ℕ) → count ≡ length log → HasSeen count log → 1 ≤ length p → HasSeen (count + 1) (log ++ p ∷ [])

@@ -42,11 +42,21 @@ pub record WasKept (keep known cursor seen : ℕ) : Type 0 where
   pub kept : first - keep ≤ cursor
   pub there : cursor < first
 
--- how many loads a take makes: one, or two where it lost packets after a pin that failed, of a packet that the
--- first load found kept
-abbrev pub LoadsFor : Delivery → (old new : Subscribing) → Type 0
-LoadsFor (Lost k) old new = (new.loads ≡ old.loads + 1) ⊎ ((new.loads ≡ old.loads + 2) × WasKept (keep_of old.ring) (length old.seen) (cursor_of old.account) (length new.seen))
-LoadsFor d old new = new.loads ≡ old.loads + 1
+-- a take that made one load, and of which no pin failed
+pub record LooksOnce (old new : Subscribing) : Type 0 where
+  pub loads : new.loads ≡ old.loads + 1
+  pub misses : new.misses ≡ old.misses
+
+-- a take that made a second load, since one pin failed, of a packet that the first load found kept
+pub record LooksTwice (old new : Subscribing) : Type 0 where
+  pub loads : new.loads ≡ old.loads + 2
+  pub misses : new.misses ≡ old.misses + 1
+  pub first : WasKept (keep_of old.ring) (length old.seen) (cursor_of old.account) (length new.seen)
+
+-- a take looks once, or, where it lost packets, perhaps twice
+abbrev pub LooksFor : Delivery → (old new : Subscribing) → Type 0
+LooksFor (Lost k) old new = LooksOnce old new ⊎ LooksTwice old new
+LooksFor d old new = LooksOnce old new
 
 -- a take of a subscriber: its answer is the broadcast log's at what its last load saw
 pub record TakesNext (old : Subscribing) (answer : Delivery) (new : Subscribing) : Type 0 where
@@ -54,7 +64,7 @@ pub record TakesNext (old : Subscribing) (answer : Delivery) (new : Subscribing)
   pub counts : Counts old.account answer new.account
   pub sees : SeesOn old.seen old.closed new.seen new.closed
   pub found : FindsLog answer new.found new.seen new.closed
-  pub loads : LoadsFor answer old new
+  pub looks : LooksFor answer old new
   pub ring : new.ring ≡ old.ring
 
 -- a publish that appended this packet, which is no longer than the ring takes, after fewer than 2 ^ 46 others

@@ -118,7 +118,7 @@ pub record IsPublisher (number : ℕ) (me : Knows) (phase : PublisherPhase) : Ty
 
 -- a seat's view after the unpin of a pin that failed, and after the unpin with which it took this packet
 abbrev pub missed : Seat → Seat
-missed x = record x { phase = seating.Missed }
+missed x = record x { phase = seating.Missed; misses = x.misses + 1 }
 
 abbrev pub took : Seat → (packet : List ℕ) → Seat
 took x p = record x { phase = seating.Between; account = record x.account { taken = x.account.taken + 1 }; length = length p; read = p }

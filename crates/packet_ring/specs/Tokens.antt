@@ -71,7 +71,7 @@ pub record LostSome (keep count seen : ℕ) (x : Seat) (me next : Knows) : Type 
   pub behind : cursor x < seen - keep
   pub lost : count ≡ seen - keep - cursor x
   pub mark : ends_at next.seen seen ≡ head.closed
-  pub view : (next.view ≡ inr (lost_to head x count)) ⊎ ((next.view ≡ inr (lost_to head (record x { loads = x.loads + 1 }) count)) × FirstKept keep (cursor x) seen me)
+  pub view : (next.view ≡ inr (lost_to head x count)) ⊎ ((next.view ≡ inr (lost_to head (record x { loads = x.loads + 1; misses = x.misses + 1 }) count)) × FirstKept keep (cursor x) seen me)
   pub right : next.right ≡ no_right
 
 -- what a take gives, where the last of its loads saw a log of so many packets

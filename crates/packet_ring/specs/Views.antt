@@ -74,12 +74,14 @@ abbrev pub number_of : Receipted → ℕ
 number_of r = if r.closed then length r.log else length r.log - 1
 
 -- a pass: its ring, the longest log that it has seen or was told of, whether that is closed, how many loads
--- its seat made, and the head that the last of them found (before any, that of an empty open log)
+-- its seat made and how many pins of it failed, and the head that the last load found (before any, that of an
+-- empty open log)
 pub record Passing : Type 0 where
   pub ring : RingId
   pub seen : List Packet
   pub closed : Bool
   pub loads : ℕ
+  pub misses : ℕ
   pub found : Head
 
 -- a subscriber: the same, and its attachment's account
@@ -88,6 +90,7 @@ pub record Subscribing : Type 0 where
   pub seen : List Packet
   pub closed : Bool
   pub loads : ℕ
+  pub misses : ℕ
   pub found : Head
   pub account : Account
 
@@ -104,14 +107,14 @@ abbrev pub found_by : Token → Head
 found_by t = record { length = (seat_of t.me.view).seen; closed = (seat_of t.me.view).saw_closed }
 
 abbrev pub passing_of : Token → (known : ℕ) → Passing
-passing_of t known = record { ring = t.id; seen = seen_by t known; closed = ends_at t.me.seen known; loads = (seat_of t.me.view).loads; found = found_by t }
+passing_of t known = record { ring = t.id; seen = seen_by t known; closed = ends_at t.me.seen known; loads = (seat_of t.me.view).loads; misses = (seat_of t.me.view).misses; found = found_by t }
 
 abbrev pub subscribing_of : Token → (known : ℕ) → Account → Subscribing
-subscribing_of t known a = record { ring = t.id; seen = seen_by t known; closed = ends_at t.me.seen known; loads = (seat_of t.me.view).loads; found = found_by t; account = a }
+subscribing_of t known a = record { ring = t.id; seen = seen_by t known; closed = ends_at t.me.seen known; loads = (seat_of t.me.view).loads; misses = (seat_of t.me.view).misses; found = found_by t; account = a }
 
 -- a pass that did nothing yet
 abbrev pub new_pass : RingId → Passing
-new_pass z = record { ring = z; seen = []; closed = false; loads = 0; found = record { length = 0; closed = false } }
+new_pass z = record { ring = z; seen = []; closed = false; loads = 0; misses = 0; found = record { length = 0; closed = false } }
 
 -- a token of this ring is its publisher's, between two calls, and so many packets were published
 pub record IsPublishing (z : RingId) (t : Token) (count : ℕ) : Type 0 where

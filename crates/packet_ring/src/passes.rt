@@ -36,7 +36,7 @@ impl Pass {
     /// Attaches the seat. It reads from the end of the log as this call's one load saw it.
     pub fn attach(self) -> Subscriber
         ensures ring { result.ring ≡ self.ring }
-        ensures loads { result.loads ≡ self.loads + 1 }
+        ensures loads { (result.loads ≡ self.loads + 1) × (result.misses ≡ self.misses) }
         ensures sees { SeesOn self.seen self.closed result.seen result.closed }
         ensures found { result.found ≡ head_of result.seen result.closed }
         ensures account { result.account ≡ record { start = length result.seen; taken = 0; lost = 0 } }
@@ -48,7 +48,7 @@ impl Pass {
     /// saw it, but from none that the ring doesn't keep then, and from the first where there are fewer.
     pub fn attach_back(self, back: u64) -> Subscriber
         ensures ring { result.ring ≡ self.ring }
-        ensures loads { result.loads ≡ self.loads + 1 }
+        ensures loads { (result.loads ≡ self.loads + 1) × (result.misses ≡ self.misses) }
         ensures sees { SeesOn self.seen self.closed result.seen result.closed }
         ensures found { result.found ≡ head_of result.seen result.closed }
         ensures account { result.account ≡ record { start = back_from (keep_of self.ring) back (length result.seen); taken = 0; lost = 0 } }

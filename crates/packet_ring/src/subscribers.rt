@@ -41,7 +41,7 @@ impl Subscriber {
     /// in the log as this call's one load saw it.
     pub fn detach(self) -> (Pass, Left)
         ensures ring { result.0.ring ≡ self.ring }
-        ensures loads { result.0.loads ≡ self.loads + 1 }
+        ensures loads { (result.0.loads ≡ self.loads + 1) × (result.0.misses ≡ self.misses) }
         ensures sees { SeesOn self.seen self.closed result.0.seen result.0.closed }
         ensures found { result.0.found ≡ head_of result.0.seen result.0.closed }
         ensures account { (result.1.taken ≡ self.account.taken) × (result.1.lost ≡ self.account.lost) }

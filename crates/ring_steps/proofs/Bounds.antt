@@ -39,6 +39,7 @@ seat_bounds s i h room within =
     let there = seat_there s i within in
     let x = seat_at s i in
     let loads = room.counts.loads i x there in
+    let misses = room.counts.misses i x there in
     let size = h.slots.numbers.size in
     let log = room.counts.log in
     let seen = h.slots.seen i x there in
@@ -51,7 +52,7 @@ seat_bounds s i h room within =
     let few = pins_most s.keep s.seats j in
     let seats = room.size.seats in
     let keep = room.size.keep in
-    record { there = within; loads = omega arith; small = omega arith; within = omega arith; keep = omega arith; slot = omega arith; pins = omega arith }
+    record { there = within; loads = omega arith; misses = omega arith; small = omega arith; within = omega arith; keep = omega arith; slot = omega arith; pins = omega arith }
 
 pub reading_pin : (s : State) (i : ℕ) → Invariant s → i < length s.seats → (seat_at s i).phase ≡ seating.Reading → 1 ≤ (word s (place s (cursor (seat_at s i)))).pins
 reading_pin s i h within phase = some_pin s i (seat_at s i) h (seat_there s i within) (rw phase (one_at _ _ refl))

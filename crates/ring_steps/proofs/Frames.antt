@@ -44,7 +44,7 @@ publisher_frame phase call s o acts = absurd acts
 abbrev pub Sees : State → Seat → Seat → Type 0
 Sees s x y = ((y.seen ≡ x.seen) × (y.saw_closed ≡ x.saw_closed)) ⊎ ((y.seen ≡ s.head.length) × (y.saw_closed ≡ s.head.closed))
 
--- a step of a seat changes its view alone, and raises its loads by one at most
+-- a step of a seat changes its view alone, and raises its loads and its misses by one at most
 pub record SeatFrame (call : SeatCall) (s : State) (i : ℕ) (x : Seat) (o : Outcome) : Type 0 where
   pub view : Seat
   pub seats : o.state.seats ≡ slice_set s.seats i view
@@ -52,6 +52,7 @@ pub record SeatFrame (call : SeatCall) (s : State) (i : ℕ) (x : Seat) (o : Out
   pub log : o.state.log ≡ s.log
   pub publisher : o.state.publisher ≡ s.publisher
   pub loads : view.loads ≤ x.loads + 1
+  pub misses : view.misses ≤ x.misses + 1
   pub sees : Sees s x view
   pub agrees : (own : List SeatCall) (n : ℕ) → slice_get own n ≡ Some call → SeatAgrees x.phase own n → SeatAgrees view.phase own (answered n o.answer)
 
@@ -65,29 +66,29 @@ taken own n at attached = attached_at own n Take at ∙ attached
 
 pub seat_frame : (phase : SeatPhase) (call : SeatCall) (s : State) (i : ℕ) (x : Seat) (o : Outcome) → x.phase ≡ phase → SeatActs phase call s i x o → SeatFrame call s i x o
 seat_frame seating.Out (Attach back) s i x o phase acts =
-    rw acts (record { view = _; seats = refl; keep = refl; log = refl; publisher = refl; loads = omega arith; sees = inr (refl, refl); agrees = λ own n at ag. attached_at own n (Attach back) at })
+    rw acts (record { view = _; seats = refl; keep = refl; log = refl; publisher = refl; loads = omega arith; misses = omega arith; sees = inr (refl, refl); agrees = λ own n at ag. attached_at own n (Attach back) at })
 seat_frame seating.Between Detach s i x o phase acts =
-    rw acts (record { view = _; seats = refl; keep = refl; log = refl; publisher = refl; loads = omega arith; sees = inr (refl, refl); agrees = λ own n at ag. attached_at own n Detach at })
+    rw acts (record { view = _; seats = refl; keep = refl; log = refl; publisher = refl; loads = omega arith; misses = omega arith; sees = inr (refl, refl); agrees = λ own n at ag. attached_at own n Detach at })
 seat_frame seating.Between Take s i x o phase acts =
     rw acts (by_test (s.head.length == cursor x)
-    (λ e. rw e (record { view = _; seats = refl; keep = refl; log = refl; publisher = refl; loads = omega arith; sees = inr (refl, refl); agrees = λ own n at ag. (rw phase (taken own n at (rw phase at ag))) }))
+    (λ e. rw e (record { view = _; seats = refl; keep = refl; log = refl; publisher = refl; loads = omega arith; misses = omega arith; sees = inr (refl, refl); agrees = λ own n at ag. (rw phase (taken own n at (rw phase at ag))) }))
     (λ e. rw e (by_test (nat_lt (cursor x) (floor s s.head.length))
-    (λ f. rw f (record { view = _; seats = refl; keep = refl; log = refl; publisher = refl; loads = omega arith; sees = inr (refl, refl); agrees = λ own n at ag. taken own n at (rw phase at ag) }))
-    (λ f. rw f (record { view = _; seats = refl; keep = refl; log = refl; publisher = refl; loads = omega arith; sees = inr (refl, refl); agrees = λ own n at ag. going_on own n at (rw phase at ag) })))))
+    (λ f. rw f (record { view = _; seats = refl; keep = refl; log = refl; publisher = refl; loads = omega arith; misses = omega arith; sees = inr (refl, refl); agrees = λ own n at ag. taken own n at (rw phase at ag) }))
+    (λ f. rw f (record { view = _; seats = refl; keep = refl; log = refl; publisher = refl; loads = omega arith; misses = omega arith; sees = inr (refl, refl); agrees = λ own n at ag. going_on own n at (rw phase at ag) })))))
 seat_frame seating.Found Take s i x o phase acts =
     rw acts (by_test (holds (word s (place s (cursor x))) (cursor x))
-    (λ e. rw e (record { view = _; seats = refl; keep = refl; log = refl; publisher = refl; loads = omega arith; sees = inl (refl, refl); agrees = λ own n at ag. (rw phase at ag) }))
-    (λ e. rw e (record { view = _; seats = refl; keep = refl; log = refl; publisher = refl; loads = omega arith; sees = inl (refl, refl); agrees = λ own n at ag. (rw phase at ag) })))
+    (λ e. rw e (record { view = _; seats = refl; keep = refl; log = refl; publisher = refl; loads = omega arith; misses = omega arith; sees = inl (refl, refl); agrees = λ own n at ag. (rw phase at ag) }))
+    (λ e. rw e (record { view = _; seats = refl; keep = refl; log = refl; publisher = refl; loads = omega arith; misses = omega arith; sees = inl (refl, refl); agrees = λ own n at ag. (rw phase at ag) })))
 seat_frame seating.Holding Take s i x o phase acts =
-    rw acts (record { view = _; seats = refl; keep = refl; log = refl; publisher = refl; loads = omega arith; sees = inl (refl, refl); agrees = λ own n at ag. (rw phase at ag) })
+    rw acts (record { view = _; seats = refl; keep = refl; log = refl; publisher = refl; loads = omega arith; misses = omega arith; sees = inl (refl, refl); agrees = λ own n at ag. (rw phase at ag) })
 seat_frame seating.Reading Take s i x o phase acts =
     rw acts (by_test (nat_lt (length x.read) x.length)
-    (λ e. rw e (record { view = _; seats = refl; keep = refl; log = refl; publisher = refl; loads = omega arith; sees = inl (refl, refl); agrees = λ own n at ag. ag }))
-    (λ e. rw e (record { view = _; seats = refl; keep = refl; log = refl; publisher = refl; loads = omega arith; sees = inl (refl, refl); agrees = λ own n at ag. taken own n at (rw phase at ag).attached })))
+    (λ e. rw e (record { view = _; seats = refl; keep = refl; log = refl; publisher = refl; loads = omega arith; misses = omega arith; sees = inl (refl, refl); agrees = λ own n at ag. ag }))
+    (λ e. rw e (record { view = _; seats = refl; keep = refl; log = refl; publisher = refl; loads = omega arith; misses = omega arith; sees = inl (refl, refl); agrees = λ own n at ag. taken own n at (rw phase at ag).attached })))
 seat_frame seating.Failed Take s i x o phase acts =
-    rw acts (record { view = _; seats = refl; keep = refl; log = refl; publisher = refl; loads = omega arith; sees = inl (refl, refl); agrees = λ own n at ag. (rw phase at ag) })
+    rw acts (record { view = _; seats = refl; keep = refl; log = refl; publisher = refl; loads = omega arith; misses = omega arith; sees = inl (refl, refl); agrees = λ own n at ag. (rw phase at ag) })
 seat_frame seating.Missed Take s i x o phase acts =
-    rw acts (record { view = _; seats = refl; keep = refl; log = refl; publisher = refl; loads = omega arith; sees = inr (refl, refl); agrees = λ own n at ag. taken own n at (rw phase at ag).attached })
+    rw acts (record { view = _; seats = refl; keep = refl; log = refl; publisher = refl; loads = omega arith; misses = omega arith; sees = inr (refl, refl); agrees = λ own n at ag. taken own n at (rw phase at ag).attached })
 seat_frame phase call s i x o eq acts = absurd acts
 
 -- the publisher's phase is again one within its next call

@@ -108,7 +108,7 @@ sound_ready calls so sound few =
       invariant = sound.invariant;
       room = record {
         size = sound.size;
-        counts = record { log = omega arith; failed = omega arith; loads = λ i x there. (let loads = counts.loads i x there in omega arith) };
+        counts = record { log = omega arith; failed = omega arith; loads = λ i x there. (let loads = counts.loads i x there in omega arith); misses = λ i x there. (let misses = counts.misses i x there in omega arith) };
       };
       agrees = sound.agrees;
     }

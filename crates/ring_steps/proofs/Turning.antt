@@ -105,7 +105,7 @@ move_counts P calls old t new n move h =
     let frame = publisher_frame old.ring.publisher.phase move.call old.ring (outcome_of new.ring t) move.step in
     let log = h.log in
     let failed = h.failed in
-    record { log = omega arith; failed = omega arith; loads = rw frame.seats (λ i x at. let loads = h.loads i x at in omega arith) }
+    record { log = omega arith; failed = omega arith; loads = rw frame.seats (λ i x at. let loads = h.loads i x at in omega arith); misses = rw frame.seats (λ i x at. let misses = h.misses i x at in omega arith) }
 move_counts (Seat i) calls old t new n move h =
     let x = move.step.view in
     let frame = seat_frame x.phase move.call old.ring i x (outcome_of new.ring t) refl move.step.acts in
@@ -113,10 +113,13 @@ move_counts (Seat i) calls old t new n move h =
     let failed = h.failed in
     let loads = h.loads i x move.step.there in
     let more = frame.loads in
+    let misses = h.misses i x move.step.there in
+    let missed = frame.misses in
     record {
       log = rw frame.log (omega arith);
       failed = rw frame.publisher (omega arith);
       loads = rw frame.seats (each_set (λ (y : views.Seat). y.loads ≤ n + 1) old.ring.seats i frame.view (λ k z at. let low = h.loads k z at in omega arith) (omega arith));
+      misses = rw frame.seats (each_set (λ (y : views.Seat). y.misses ≤ n + 1) old.ring.seats i frame.view (λ k z at. let low = h.misses k z at in omega arith) (omega arith));
     }
 
 -- so a run counts as many as it has turns
@@ -128,7 +131,7 @@ ran_counts calls old (t ∷ ts) new n ran h =
 
 -- nothing is counted at the start
 pub start_counts : (keep seats : ℕ) → CountsTo 0 (start keep seats).ring
-start_counts keep seats = record { log = omega arith; failed = omega arith; loads = each_new (λ (x : views.Seat). x.loads ≤ 0) seats (omega arith) }
+start_counts keep seats = record { log = omega arith; failed = omega arith; loads = each_new (λ (x : views.Seat). x.loads ≤ 0) seats (omega arith); misses = each_new (λ (x : views.Seat). x.misses ≤ 0) seats (omega arith) }
 
 -- a run keeps the ring's size
 keep_stays : (actor : Actor) (calls : Calls) (old : At) (t : Turn) (new : At) → MoveBy actor calls old t new → new.ring.keep ≡ old.ring.keep

@@ -16,6 +16,7 @@ use Rattle.ring_steps.specs.Slots.{EachSeat}
 pub record SeatBounds (s : State) (i : ℕ) : Type 0 where
   pub there : i < length s.seats
   pub loads : (seat_at s i).loads < 2 ^ 63
+  pub misses : (seat_at s i).misses < 2 ^ 63
   pub small : s.head.length < 2 ^ 62
   pub within : cursor (seat_at s i) ≤ s.head.length
   pub keep : s.keep < 2 ^ 32
@@ -33,6 +34,7 @@ pub record CountsTo (n : ℕ) (s : State) : Type 0 where
   pub log : length s.log ≤ n
   pub failed : s.publisher.failed ≤ n
   pub loads : EachSeat s (λ x. x.loads ≤ n)
+  pub misses : EachSeat s (λ x. x.misses ≤ n)
 
 -- the ring is of a size that may be made
 pub record IsOfSize (s : State) : Type 0 where

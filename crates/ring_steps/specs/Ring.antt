@@ -71,6 +71,7 @@ new_seat = record {
   seen = 0;
   saw_closed = false;
   loads = 0;
+  misses = 0;
   length = 0;
   read = [];
 }

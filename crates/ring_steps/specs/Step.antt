@@ -119,9 +119,9 @@ unpin s i x = unpin_to s i x
     (record x { phase = seating.Between; account = record x.account { taken = x.account.taken + 1 } })
     (Some (Taken (Got (cursor x) (record { tag = 0; bytes = x.read }))))
 
--- the unpin after a pin that failed
+-- the unpin after a pin that failed, which it counts
 abbrev pub unpin_failed : State → (seat : ℕ) → Seat → Outcome
-unpin_failed s i x = unpin_to s i x (record x { phase = seating.Missed }) None
+unpin_failed s i x = unpin_to s i x (record x { phase = seating.Missed; misses = x.misses + 1 }) None
 
 -- READS of a length cell and of one byte
 abbrev pub read_length : State → (seat : ℕ) → Seat → Outcome

@@ -49,6 +49,7 @@ impl Ring {
                 seen: 0,
                 saw_closed: false,
                 loads: 0,
+                misses: 0,
                 length: 0,
                 read: Bytes::empty(alloc),
             })?;

@@ -52,6 +52,7 @@ impl Ring {
             && self.log.len() as u64 <= 1 << 60
             && self.publisher.failed <= 1 << 60
             && self.loads_fit()
+            && self.misses_fit()
     }
 
     /// Whether no seat counted too many loads.
@@ -60,6 +61,18 @@ impl Ring {
     {
         for seat in &self.seats {
             if seat.loads > 1 << 60 {
+                return false;
+            }
+        }
+        true
+    }
+
+    /// Whether no seat counted too many failed pins.
+    fn misses_fit(&self) -> bool
+        ensures { IsTrue result ↔ EachSeat self.now (λ x. x.misses ≤ 2 ^ 60) }
+    {
+        for seat in &self.seats {
+            if seat.misses > 1 << 60 {
                 return false;
             }
         }

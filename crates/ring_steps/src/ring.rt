@@ -208,7 +208,9 @@ impl Ring {
         let place = self.place(cursor);
         let word = self.slots[place].word;
         self.slots[place].word.pins = word.pins - 1;
-        self.seats[seat].phase = SeatPhase::Missed;
+        let view = &mut self.seats[seat];
+        view.phase = SeatPhase::Missed;
+        view.misses += 1;
         Stepped {
             saw: Observed::Unpin(word),
             answer: None,

@@ -63,6 +63,8 @@ pub struct Seat {
     pub saw_closed: bool,
     /// How many loads the seat made.
     pub loads: u64,
+    /// How many failed pins it took back.
+    pub misses: u64,
     /// The length cell as it was read.
     pub length: usize,
     /// The bytes read so far.
