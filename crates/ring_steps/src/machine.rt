@@ -1,5 +1,5 @@
 ghost use Rattle.std.specs.Prelude.{◌≡◌, ◌≤◌, ◌<◌, ◌^◌, ◌++◌, ◌∷◌, [], length, slice_get, slice_set, IfOk, OnOk, is_some};
-ghost use Rattle.ring_steps.specs.Ring.{empty_ring};
+ghost use Rattle.ring_steps.specs.Ring.{empty_ring, fresh_slot, new_publisher, new_seat};
 ghost use Rattle.ring_steps.specs.Slots.{Invariant};
 
 use super::ring::Ring;
@@ -27,32 +27,11 @@ impl Ring {
     {
         let mut slots = Vec::new(alloc);
         for _ in 0..keep + 1 {
-            slots.push(Slot {
-                word: Word {
-                    pins: 0,
-                    writing: false,
-                    number: 0,
-                },
-                len: 0,
-                bytes: Bytes::empty(alloc),
-            })?;
+            slots.push(Slot::fresh(alloc))?;
         }
         let mut views = Vec::new(alloc);
         for _ in 0..seats {
-            views.push(Seat {
-                phase: SeatPhase::Out,
-                account: Account {
-                    start: 0,
-                    taken: 0,
-                    lost: 0,
-                },
-                seen: 0,
-                saw_closed: false,
-                loads: 0,
-                misses: 0,
-                length: 0,
-                read: Bytes::empty(alloc),
-            })?;
+            views.push(Seat::new(alloc))?;
         }
         Ok(Ring {
             alloc,
@@ -63,15 +42,63 @@ impl Ring {
             },
             slots,
             log: Vec::new(alloc),
-            publisher: Publisher {
-                closed: false,
-                phase: PublisherPhase::Between,
-                packet: Bytes::empty(alloc),
-                written: 0,
-                failed: 0,
-                pins: 0,
-            },
+            publisher: Publisher::new(alloc),
             seats: views,
         })
+    }
+}
+
+impl Slot {
+    /// A slot to which no packet came.
+    fn fresh(alloc: Global) -> Slot
+        ensures { result ≡ fresh_slot }
+    {
+        Slot {
+            word: Word {
+                pins: 0,
+                writing: false,
+                number: 0,
+            },
+            len: 0,
+            bytes: Bytes::empty(alloc),
+        }
+    }
+}
+
+impl Seat {
+    /// The view of a seat that did nothing yet.
+    fn new(alloc: Global) -> Seat
+        ensures { result ≡ new_seat }
+    {
+        Seat {
+            phase: SeatPhase::Out,
+            account: Account {
+                start: 0,
+                taken: 0,
+                lost: 0,
+            },
+            seen: 0,
+            saw_closed: false,
+            loads: 0,
+            misses: 0,
+            length: 0,
+            read: Bytes::empty(alloc),
+        }
+    }
+}
+
+impl Publisher {
+    /// The view of a publisher that did nothing yet.
+    fn new(alloc: Global) -> Publisher
+        ensures { result ≡ new_publisher }
+    {
+        Publisher {
+            closed: false,
+            phase: PublisherPhase::Between,
+            packet: Bytes::empty(alloc),
+            written: 0,
+            failed: 0,
+            pins: 0,
+        }
     }
 }
