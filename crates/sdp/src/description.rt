@@ -1,9 +1,11 @@
 //! A description of a session.
 ghost use Rattle.std.specs.Prelude.{◌≡◌, ◌<◌, ◌≤◌, length, IfOk};
 ghost use Rattle.sdp.specs.Sections.{AreGood};
+ghost use Rattle.sdp.specs.Written.{description_text};
 
 use crate::sections::Sections;
 use crate::track::Track;
+use crate::writing::text_of;
 use base_syntax::Bytes;
 use std::alloc::{AllocError, Global};
 use std::marker::Model;
@@ -12,22 +14,31 @@ use std::sync::Arc;
 /// A description that was read: good lines, with a track or more among them (RFC 4566, 5).
 #[derive(Drop)]
 pub struct Description {
-    // Copies share them: a text may have thousands of lines.
-    sections: Arc<Sections, Global>,
+    // Copies share it: a description may have thousands of lines.
+    shared: Arc<Shared, Global>,
+}
+
+/// What the copies of a description share.
+#[derive(Drop)]
+struct Shared {
+    sections: Sections,
+    // What players are given of them: made once, though each player asks for it.
+    text: Bytes,
 }
 
 impl Model for Description {
-    ghost use Rattle.std.specs.Prelude.{◌<◌, length};
+    ghost use Rattle.std.specs.Prelude.{◌≡◌, ◌<◌, length};
     ghost use Rattle.std.specs.Arc.{arc_value};
     ghost use Rattle.sdp.specs.declared.sections.Sections.{Sections};
 
     ghost Value = { Sections };
 
     ghost use Rattle.sdp.specs.Sections.{AreGood};
+    ghost use Rattle.sdp.specs.Written.{description_text};
 
-    ghost view = { λ d. arc_value d.sections };
+    ghost view = { λ d. (arc_value d.shared).sections };
 
-    ghost invariant = { λ d. AreGood (arc_value d.sections) × (0 < length (arc_value d.sections).tracks) };
+    ghost invariant = { λ d. AreGood (arc_value d.shared).sections × (0 < length (arc_value d.shared).sections.tracks) × ((arc_value d.shared).text ≡ description_text (arc_value d.shared).sections) };
 }
 
 impl Description {
@@ -37,8 +48,9 @@ impl Description {
         requires some { 0 < length sections.tracks }
         ensures { IfOk result (λ description. description ≡ sections) }
     {
+        let text = Bytes::new(text_of(alloc, &sections)?);
         Ok(Description {
-            sections: Arc::new(alloc, sections)?,
+            shared: Arc::new(alloc, Shared { sections, text })?,
         })
     }
 
@@ -47,7 +59,7 @@ impl Description {
         ensures { IfOk result (λ copied. copied ≡ self.now) }
     {
         Ok(Description {
-            sections: self.sections.clone()?,
+            shared: self.shared.clone()?,
         })
     }
 
@@ -57,13 +69,20 @@ impl Description {
         ensures some { 0 < length result.now }
         ensures most { length result.now ≤ 16 }
     {
-        self.sections.tracks.as_slice()
+        self.shared.sections.tracks.as_slice()
     }
 
     /// The lines in front of the first track, as they were announced.
     pub fn session(&self) -> &[Bytes]
         ensures { result.now ≡ self.now.session }
     {
-        self.sections.session.as_slice()
+        self.shared.sections.session.as_slice()
+    }
+
+    /// The text that players are given.
+    pub(crate) fn text(&self) -> &[u8]
+        ensures { result.now ≡ description_text self.now }
+    {
+        self.shared.text.as_slice()
     }
 }

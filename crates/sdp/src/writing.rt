@@ -6,6 +6,7 @@ ghost use Rattle.sdp.specs.Written.{written, without_controls, track_control, tr
 
 use crate::description::Description;
 use crate::field::control_value;
+use crate::sections::Sections;
 use crate::track::Track;
 use base_syntax::Bytes;
 use itoa::Buffer;
@@ -58,26 +59,36 @@ fn write_tracks(out: &mut Vec<u8>, tracks: &[Track]) -> Result<(), AllocError>
     Ok(())
 }
 
-/// How many bytes lines take, but for control attributes, each with CRLF.
+/// How many bytes lines take, each with CRLF.
 fn len_of(lines: &[Bytes]) -> usize {
     let mut len = 0usize;
     for line in lines {
-        if control_value(line.as_slice()).is_some() {
-            continue;
-        }
         len = len.saturating_add(line.len()).saturating_add(2);
     }
     len
 }
 
-/// How many bytes the text of a description takes at most: its length, or a few bytes more.
-fn room_for(description: &Description) -> usize {
-    let mut room = len_of(description.session()).saturating_add(CONTROL_LEN);
-    for track in description.tracks() {
+/// How many bytes the text of these sections takes at most. Announced controls count, though they aren't written:
+/// they are few, and lines needn't be told apart twice.
+fn room_for(sections: &Sections) -> usize {
+    let mut room = len_of(sections.session.as_slice()).saturating_add(CONTROL_LEN);
+    for track in sections.tracks.as_slice() {
         let lines = len_of(track.lines.as_slice());
         room = room.saturating_add(lines).saturating_add(CONTROL_LEN);
     }
     room
+}
+
+/// The text of the description that has these sections.
+pub(crate) fn text_of(alloc: Global, sections: &Sections) -> Result<Vec<u8>, AllocError>
+    ensures { IfOk result (λ out. out.items ≡ description_text sections.now) }
+{
+    // A text that grows would be copied again and again.
+    let mut out = Vec::with_capacity(alloc, room_for(sections))?;
+    write_lines(&mut out, sections.session.as_slice())?;
+    write_control(&mut out, b"*")?;
+    write_tracks(&mut out, sections.tracks.as_slice())?;
+    Ok(out)
 }
 
 /// The text of a description for players: its lines without the announced controls, with the control `*` for
@@ -86,10 +97,5 @@ fn room_for(description: &Description) -> usize {
 pub fn write(alloc: Global, description: &Description) -> Result<Vec<u8>, AllocError>
     ensures { IfOk result (λ out. out.items ≡ description_text description.now) }
 {
-    // A text that grows would be copied again and again.
-    let mut out = Vec::with_capacity(alloc, room_for(description))?;
-    write_lines(&mut out, description.session())?;
-    write_control(&mut out, b"*")?;
-    write_tracks(&mut out, description.tracks())?;
-    Ok(out)
+    Vec::from_slice(alloc, description.text())
 }
