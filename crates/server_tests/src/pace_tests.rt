@@ -173,7 +173,7 @@ fn a_player_that_comes_back_is_waited_for_again(rt: HostRuntime) {
 /// later than a publisher waits.
 const WAITS: [u64; 4] = [3, 6, 9, 12];
 
-/// For how many milliseconds the bursts of a second wait for these players, who have taken all before the next one, and in how many
+/// For how many milliseconds fifteen bursts wait for these players, who have taken all before the next one, and in how many
 /// milliseconds.
 fn waited_for_bursts<R>(rt: R, alloc: Global) -> (u64, u64)
 where
@@ -181,7 +181,7 @@ where
 {
     let mut stage = staged(rt, alloc, WAITS.len(), &WAITS, false);
     let began = Instant::now(&rt).expect(&rt, "a clock");
-    while passed(&rt, began) < 1_000 {
+    for _ in 0..15u32 {
         publish(&rt, &mut stage.feed, KEEP);
         thread::sleep(&rt, Duration::from_millis(60));
     }
@@ -208,7 +208,10 @@ where
 {
     let mut stage = staged(rt, alloc, 1, &[wait], false);
     let began = Instant::now(&rt).expect(&rt, "a clock");
-    while passed(&rt, began) < 1_000 {
+    for _ in rt.forever() {
+        if passed(&rt, began) >= 1_000 {
+            break;
+        }
         publish(&rt, &mut stage.feed, KEEP);
     }
     stage.end(&rt).0
@@ -241,7 +244,10 @@ impl Feed for Pinned {
 
     ghost publish_gives = { λ _ _ _ _. ⊤ };
 
-    fn publish(&mut self, _tag: u8, _bytes: &[u8]) -> Result<u64, Refused> {
+    fn publish(&mut self, _tag: u8, bytes: &[u8]) -> Result<u64, Refused> {
+        if bytes.len() > 16 {
+            return Err(Refused::TooLong);
+        }
         Err(Refused::Pinned { pins: 1 })
     }
 

@@ -104,7 +104,8 @@ where
     R: Threads + Wait + Clock + Abort + Copy + Drop + Send + Sync + 'static,
 {
     let packets = small_frames(alloc, BEFORE + MEANWHILE).expect(&rt, "memory");
-    let (first, then) = packets.as_slice().split_at(FIRST);
+    let first = packets.as_slice().get(..FIRST).unwrap_or(b"");
+    let then = packets.as_slice().get(FIRST..).unwrap_or(b"");
     let Stage {
         maker,
         mut feed,
@@ -157,7 +158,8 @@ where
     R: Threads + Wait + Clock + Abort + Copy + Drop + Send + Sync + 'static,
 {
     let packets = small_frames(alloc, BEFORE + LATE).expect(&rt, "memory");
-    let (first, then) = packets.as_slice().split_at(FIRST);
+    let first = packets.as_slice().get(..FIRST).unwrap_or(b"");
+    let then = packets.as_slice().get(FIRST..).unwrap_or(b"");
     let Stage {
         maker: _,
         feed,
