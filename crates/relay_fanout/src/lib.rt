@@ -5,10 +5,10 @@
 mod closing;
 mod frames;
 mod maker;
-mod moments;
 mod mount_signal;
 mod offers;
 mod pace;
+mod pauses;
 mod phase;
 mod playing;
 mod posting;

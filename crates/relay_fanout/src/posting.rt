@@ -2,8 +2,8 @@
 ghost use Rattle.std.specs.Prelude.{◌≡◌, false};
 ghost use Rattle.pacing.specs.Insisting.{PublishesAtLast};
 
-use crate::moments::Moments;
 use crate::mount_signal::MountSignal;
+use crate::pauses::Pauses;
 use crate::wake_signal::WakeSignal;
 use crate::writing_side::TAKES;
 use cursor::{Feed, Refused};
@@ -27,7 +27,7 @@ const LOOKS: [u64; 4] = [8, 10, 12, 14];
 #[derive(Drop)]
 pub struct Posting<R, F> {
     rt: R,
-    feed: Insisting<F, Moments<R>>,
+    feed: Insisting<F, Pauses<R>>,
     signal: Arc<MountSignal, Global>,
     wake_signal: Arc<WakeSignal, Global>,
     /// Whether the waking thread knows of the mount; else its players are woken at each packet.
@@ -66,7 +66,7 @@ impl<R: Clock + Copy + Drop, F: Drop> Posting<R, F> {
     {
         Posting {
             rt,
-            feed: Insisting::new(feed, Moments::new(rt)),
+            feed: Insisting::new(feed, Pauses::new(rt)),
             signal,
             wake_signal,
             posted: false,

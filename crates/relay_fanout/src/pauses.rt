@@ -16,19 +16,19 @@ const MOST: u64 = 20;
 /// processor in the middle of a copy gets on first, and then moments pass. Once 20 milliseconds have, it pauses no more, and
 /// the tries that are left follow at once. No lock is held meanwhile.
 #[derive(Drop)]
-pub(crate) struct Moments<R> {
+pub(crate) struct Pauses<R> {
     rt: R,
     /// When the first pause of this publish began, where the clock can be read.
     began: Option<Instant>,
 }
 
-impl<R> Moments<R> {
-    pub(crate) fn new(rt: R) -> Moments<R> {
-        Moments { rt, began: None }
+impl<R> Pauses<R> {
+    pub(crate) fn new(rt: R) -> Pauses<R> {
+        Pauses { rt, began: None }
     }
 }
 
-impl<R: Clock> Moments<R> {
+impl<R: Clock> Pauses<R> {
     /// Whether the tries of this publish may pause longer.
     fn has_time(&self) -> bool {
         match (self.began, Instant::now(&self.rt)) {
@@ -38,7 +38,7 @@ impl<R: Clock> Moments<R> {
     }
 }
 
-impl<R: Clock> Pause for Moments<R> {
+impl<R: Clock> Pause for Pauses<R> {
     fn pause(&mut self, number: u32) {
         if number == 0 {
             self.began = Instant::now(&self.rt).ok();
