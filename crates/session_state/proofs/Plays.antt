@@ -26,7 +26,8 @@ pub record IsTaken (seats : ℕ) (history : History) (mount seat : ℕ) : Type 0
   pub free : is_out mount seat history ≡ false
 
 module _ (mount seat : ℕ) where
-  no_play : (act other : Act) → act ≡ other → is_play_of mount seat other ≡ false → is_play_of mount seat act ≡ true → ⊥
+  -- an act that takes no seat is none that does
+  pub no_play : (act other : Act) → act ≡ other → is_play_of mount seat other ≡ false → is_play_of mount seat act ≡ true → ⊥
   no_play act other is none plays = let same = ap (is_play_of mount seat) is in absurd (cc)
 
   pub records : (state : Option State) → is_play_of mount seat (record_act state) ≡ false
@@ -99,14 +100,13 @@ module _ (mount seat : ℕ) where
       answers_play (record { seats = seats; history = history; conn = conn; request = request; mounts = is.mounts; session = is.session }) given reply act is.answered plays
 
   -- whether a seat is out after an entry that moves it, or doesn't
-  abbrev after_move : (is : Bool) → Entry → History → Bool
+  abbrev pub after_move : (is : Bool) → Entry → History → Bool
   after_move is entry before = option_map_or (λ one. is_play_of mount seat (act_of one)) (cond is (Some entry) (last_of (takes_or_gives_back mount seat) before)) false
 
   -- after an entry that takes a seat of the mount's, or gives one back, or does neither
-  moved : (seats : ℕ) (before : History) (entry : Entry) (is : Bool) → (is ≡ true → is_play_of mount seat (act_of entry) ≡ true → seat < seats) → (is_out mount seat before ≡ true → seat < seats)
-      → after_move is entry before ≡ true → seat < seats
-  moved seats before entry true takes earlier out = takes refl out
-  moved seats before entry false takes earlier out = earlier out
+  pub moved : (P : Type 0) (before : History) (entry : Entry) (is : Bool) → (is ≡ true → is_play_of mount seat (act_of entry) ≡ true → P) → (is_out mount seat before ≡ true → P) → after_move is entry before ≡ true → P
+  moved P before entry true takes earlier out = takes refl out
+  moved P before entry false takes earlier out = earlier out
 
   -- a seat that is out is one of the mount's
   pub out_below : (seats : ℕ) (history : History) → IsLegal seats history → is_out mount seat history ≡ true → seat < seats
@@ -115,5 +115,5 @@ module _ (mount seat : ℕ) where
   out_below seats (HangUp who act ∷ before) legal out = out_below seats before legal.0 out
   out_below seats (Expire who heard now act ∷ before) legal out = out_below seats before legal.0 out
   out_below seats (Request who request given reply act ∷ before) legal out =
-      moved seats before (Request who request given reply act) (is_play_of mount seat act) (λ is plays. (plays_free seats before who request given reply act legal.1 plays).few) (out_below seats before legal.0) out
-  out_below seats (Back of given ∷ before) legal out = moved seats before (Back of given) (of == mount && given == seat) (λ is plays. absurd (cc)) (out_below seats before legal.0) out
+      moved (seat < seats) before (Request who request given reply act) (is_play_of mount seat act) (λ is plays. (plays_free seats before who request given reply act legal.1 plays).few) (out_below seats before legal.0) out
+  out_below seats (Back of given ∷ before) legal out = moved (seat < seats) before (Back of given) (of == mount && given == seat) (λ is plays. absurd (cc)) (out_below seats before legal.0) out
