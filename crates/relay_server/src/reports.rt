@@ -69,7 +69,45 @@ struct Player {
     left: Option<u64>,
 }
 
+impl Mount {
+    /// A connection's mount of this number and name, of which nothing was told.
+    fn new(
+        alloc: Global,
+        conn: u64,
+        number: u64,
+        name: &[u8],
+        signal: &Arc<MountSignal, Global>,
+    ) -> Result<Mount, AllocError> {
+        let name = Bytes::from_slice(alloc, name)?;
+        let signal = Arc::try_clone(signal)?;
+        Ok(Mount {
+            conn,
+            number,
+            name,
+            signal,
+            told: MountTally::new(),
+            has_ended: false,
+        })
+    }
+}
+
 impl Player {
+    /// A connection's player in this seat, of which nothing was told.
+    fn new(alloc: Global, conn: u64, seat: ReportedSeat<'_>) -> Result<Player, AllocError> {
+        let name = Bytes::from_slice(alloc, seat.name)?;
+        let signal = Arc::try_clone(seat.signal)?;
+        Ok(Player {
+            conn,
+            peer: seat.peer,
+            mount: seat.mount,
+            name,
+            seat: seat.seat,
+            signal,
+            told: 0,
+            left: None,
+        })
+    }
+
     /// How many packets it has lost so far, of a ring that keeps so many.
     fn lost(&self, keep: u64) -> u64 {
         match self.left {
@@ -124,16 +162,8 @@ impl Reports {
         name: &[u8],
         signal: &Arc<MountSignal, Global>,
     ) -> Result<(), AllocError> {
-        let mount = Mount {
-            conn,
-            number,
-            name: Bytes::from_slice(alloc, name)?,
-            signal: Arc::try_clone(signal)?,
-            told: MountTally::new(),
-            has_ended: false,
-        };
-        self.list.lock(rt).mounts.push(mount)?;
-        Ok(())
+        let mount = Mount::new(alloc, conn, number, name, signal)?;
+        self.list.lock(rt).add_mount(mount)
     }
 
     /// A connection's mount has ended, if it has one.
@@ -149,18 +179,8 @@ impl Reports {
         conn: u64,
         seat: ReportedSeat<'_>,
     ) -> Result<(), AllocError> {
-        let player = Player {
-            conn,
-            peer: seat.peer,
-            mount: seat.mount,
-            name: Bytes::from_slice(alloc, seat.name)?,
-            seat: seat.seat,
-            signal: Arc::try_clone(seat.signal)?,
-            told: 0,
-            left: None,
-        };
-        self.list.lock(rt).players.push(player)?;
-        Ok(())
+        let player = Player::new(alloc, conn, seat)?;
+        self.list.lock(rt).add_player(player)
     }
 
     /// A connection has left its seat, where it had lost so many packets.
@@ -189,6 +209,16 @@ impl Reports {
 }
 
 impl List {
+    fn add_mount(&mut self, mount: Mount) -> Result<(), AllocError> {
+        self.mounts.push(mount)?;
+        Ok(())
+    }
+
+    fn add_player(&mut self, player: Player) -> Result<(), AllocError> {
+        self.players.push(player)?;
+        Ok(())
+    }
+
     /// The mount stays until it is told of, where packets came since.
     fn end_mount(&mut self, conn: u64) {
         let ended = self.mounts.iter().filter(|mount| mount.has_ended).count();
