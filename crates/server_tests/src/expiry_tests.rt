@@ -6,26 +6,25 @@ use crate::devices::{Flag, Staged, flag, has_come, joined, wait_for};
 use crate::moments::{Dial, Leaping};
 use crate::rings::Rings;
 use crate::serving::{
-    Serving, SharedRings, Watch, book_of, line_to, sent_on, serve_in_thread, serve_source,
-    shared_over,
+    Serving, SharedRings, Watch, book_of, line_to, serve_in_thread, serve_source, shared_over,
+    told_by,
 };
 use crate::words::OneWord;
-use interleaved::ListSource;
-use relay_server::{ConnectionEnd, Events, Hearing, run_connection};
+use relay_server::ConnectionEnd;
 use std::alloc::Global;
 use std::process::Abort;
 use std::random::RandomSource;
 use std::sync::atomic::Ordering;
-use std::sync::{Arc, Mutex, Wait};
+use std::sync::{Arc, Wait};
 use std::thread::Threads;
 use std::time::Clock;
 
 /// What a connection is told that says this, by a clock that leaps when its fourth message comes: it was asked when the
 /// connection came, too.
-pub(crate) fn told<R>(
+fn told<R>(
     rt: R,
     alloc: Global,
-    shared: SharedRings<OneWord>,
+    shared: &SharedRings<OneWord>,
     conn: u64,
     said: &[&[u8]],
     moment: u64,
@@ -33,23 +32,8 @@ pub(crate) fn told<R>(
 where
     R: Threads + Wait + Clock + Abort + Copy + Drop + Send + 'static,
 {
-    let bytes = Arc::new(alloc, Mutex::new(Vec::new(alloc))).expect(&rt, "memory");
-    let line = line_to(rt, alloc, &bytes, 10_000);
-    let source = ListSource::new(joined(&rt, alloc, said), 7, None);
     let clock = Leaping { before: 4, moment };
-    let hearing = Hearing::new(alloc, clock).expect(&rt, "memory");
-    let outcome = run_connection(
-        rt,
-        alloc,
-        shared,
-        conn,
-        source,
-        sent_on(line),
-        Events::none(),
-        hearing,
-    );
-    assert!(rt; outcome.end == ConnectionEnd::Done);
-    Vec::from_slice(alloc, bytes.lock(&rt).as_slice()).expect(&rt, "memory")
+    told_by(rt, alloc, shared, conn, joined(&rt, alloc, said), clock)
 }
 
 /// A camera that is told this once it has recorded, and asks to pause and announces its mount again.
@@ -60,7 +44,7 @@ where
     let book = book_of(&rt, alloc, 1, 1);
     let shared = shared_over(&rt, alloc, book, Rings::of(&rt, alloc, 1), OneWord);
     let said = [ANNOUNCE, SETUP, RECORD, PAUSE, ANNOUNCE];
-    let told = told(rt, alloc, shared, 1, said.as_slice(), moment);
+    let told = told(rt, alloc, &shared, 1, said.as_slice(), moment);
     let first = joined(&rt, alloc, &[ANNOUNCED, SET_UP, IN_SESSION]);
     let last = joined(&rt, alloc, last);
     assert!(rt;
@@ -185,7 +169,7 @@ where
         SETUP_OUT,
         PLAY_AGAIN,
     ];
-    let told = told(rt, alloc, shared, 2, said.as_slice(), moment);
+    let told = told(rt, alloc, &shared, 2, said.as_slice(), moment);
     assert!(rt; replies(told.as_slice(), b"RTSP/1.0 200 ") == good);
     assert!(rt; replies(told.as_slice(), b"RTSP/1.0 454 ") == without);
     camera.end(&rt);

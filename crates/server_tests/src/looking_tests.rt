@@ -6,19 +6,19 @@ use crate::devices::{Count, Staged, count, has_come, joined};
 use crate::moments::Dial;
 use crate::rings::{Owned, Rings};
 use crate::serving::{
-    Serving, SharedRings, Watch, book_of, line_to, sent_on, serve_in_thread, shared_over,
+    Serving, SharedRings, Watch, book_of, line_to, serve_here, serve_in_thread, shared_over,
 };
 use crate::silence_tests::SILENCE;
 use crate::steps::{SILENT, Step, Stepped};
 use crate::words::OneWord;
 use interleaved::Reading;
 use packet_ring::Pass;
-use relay_server::{ConnectionEnd, Events, Hearing, Seat, Silence, Watched, run_connection};
+use relay_server::{ConnectionEnd, Events, Hearing, Seat, Silence, Watched};
 use std::alloc::Global;
 use std::io::Read;
 use std::process::Abort;
 use std::sync::atomic::Ordering;
-use std::sync::{Arc, Mutex, Wait};
+use std::sync::{Arc, Wait};
 use std::thread;
 use std::thread::Threads;
 use std::time::{Clock, Duration};
@@ -125,21 +125,13 @@ fn a_connection_is_told_of_by_its_last_session(rt: HostRuntime) {
     let shared = shared_over(&rt, alloc, theirs, Rings::of(&rt, alloc, 1), OneWord);
     let camera = recording(rt, alloc, &shared);
     let other = other_camera(rt, alloc, &shared);
-    let bytes = Arc::new(alloc, Mutex::new(Vec::new(alloc))).expect(&rt, "memory");
     let clock = Dial::new(&rt, alloc);
     let hearing = Hearing::new(alloc, clock).expect(&rt, "memory");
     let source = Stepped::new(&rt, alloc, clock, &TWO_MOUNTS, &[]);
     let watched = Watched::new(rt, source, &book, 2, &hearing, STAYS).expect(&rt, "memory");
-    let outcome = run_connection(
-        rt,
-        alloc,
-        shared,
-        2,
-        Reading::new(watched),
-        sent_on(line_to(rt, alloc, &bytes, 10_000)),
-        Events::none(),
-        hearing,
-    );
+    let reading = Reading::new(watched);
+    let served = serve_here(rt, alloc, &shared, 2, reading, Events::none(), hearing);
+    let outcome = served.outcome;
     assert!(rt; outcome.end == ConnectionEnd::Done);
     let part = outcome.part.expect(&rt, "a part in a mount");
     assert!(rt; part.name.as_slice() == b"b".as_slice());

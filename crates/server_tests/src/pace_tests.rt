@@ -1,19 +1,16 @@
 //! A publisher, and the players that it is slowed to.
 use crate::devices::has_come;
 use crate::packets::FRAME;
-use crate::stage::{LONGEST, Seated, Writer};
+use crate::stage::{KEEP, Mount, Seated, Writer};
 use cursor::{Feed, Left, Refused};
 use packet_ring::Publisher;
-use relay_fanout::{Maker, MountSignal, Posting, RingMaker, WakeSignal, Writers};
+use relay_fanout::{MountSignal, Posting, WakeSignal};
 use std::alloc::Global;
 use std::process::Abort;
 use std::sync::{Arc, Wait};
 use std::thread;
 use std::thread::{JoinHandle, Threads};
 use std::time::{Clock, Duration, Instant};
-
-/// How many packets the ring keeps.
-const KEEP: u64 = 64;
 
 /// How many packets come at once: more than are kept.
 const BURST: u64 = 160;
@@ -36,31 +33,28 @@ fn staged<R>(rt: R, alloc: Global, seats: usize, waits: &[u64], by_writer: bool)
 where
     R: Threads + Wait + Clock + Abort + Copy + Drop + Send + Sync + 'static,
 {
-    let maker = RingMaker::new(KEEP as usize, seats.min(1024), LONGEST);
-    let wake_signal = Arc::new(alloc, WakeSignal::new()).expect(&rt, "memory");
-    let (feed, mut passes) = maker.make(alloc).expect(&rt, "memory");
-    let theirs = Arc::try_clone(&wake_signal).expect(&rt, "a count of its users");
-    let signal = MountSignal::new(alloc, seats, theirs).expect(&rt, "memory");
-    let signal = Arc::new(alloc, signal).expect(&rt, "memory");
-    let theirs = Arc::try_clone(&wake_signal).expect(&rt, "a count of its users");
-    let writers = Writers::new(alloc, 1, theirs, 20_000).expect(&rt, "memory");
-    let writers = Arc::new(alloc, writers).expect(&rt, "memory");
-    let theirs = Arc::try_clone(&writers).expect(&rt, "a count of its users");
-    let writer = thread::spawn(&rt, move || theirs.write_all(&rt, alloc, 0));
+    let mut mount = Mount::new(&rt, alloc, seats, 20_000);
+    let writer = mount.start_writer(rt, alloc);
     let mut players: Vec<Seated<R>> = Vec::new(alloc);
     for wait in waits {
-        let tap = maker.attach(passes.pop().expect(&rt, "a seat"));
-        let mut player = Seated::new(rt, alloc, &signal, passes.len(), tap, *wait);
+        let mut player = mount.seat(rt, alloc, *wait);
         player.let_on(None);
         if by_writer {
-            player.give_to(&rt, &writers);
+            player.give_to(&rt, &mount.writers);
         } else {
             player.start(rt, alloc);
         }
         players.push(player).expect(&rt, "memory");
     }
-    let theirs = Arc::try_clone(&signal).expect(&rt, "a count of its users");
-    let mut feed = Posting::new(rt, feed, theirs, wake_signal, KEEP);
+    let Mount {
+        maker: _,
+        publisher,
+        passes: _,
+        wake_signal,
+        signal,
+        writers,
+    } = mount;
+    let mut feed = Posting::new(rt, publisher, signal, wake_signal, KEEP);
     publish(&rt, &mut feed, 1);
     for player in &players {
         assert!(rt; has_come(&rt, &player.bytes, FRAME.len(), FRAME));
@@ -69,7 +63,7 @@ where
         feed,
         players,
         writers,
-        writer: writer.expect(&rt, "a thread"),
+        writer,
     }
 }
 

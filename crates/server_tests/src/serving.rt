@@ -1,14 +1,15 @@
 //! Connections over devices in memory, for tests.
 use crate::devices::{Bytes, Flag, Manner, Open, Staged, Written, flag};
 use crate::rings::{Owned, Rings};
-use interleaved::{Reading, Sink, Writing};
+use crate::words::OneWord;
+use interleaved::{ListSource, Reading, Sink, Source, Writing};
 use packet_ring::Pass;
 use relay_server::{
     ConnectionEnd, Counts, Events, Hearing, OpenGate, Outcome, Outgoing, Seat, Shared, SharedBook,
     WritingSide, run_connection,
 };
 use session_lock::Book;
-use session_state::Words;
+use session_state::{Moments, Words};
 use std::alloc::Global;
 use std::collections::hash_map::RandomState;
 use std::process::Abort;
@@ -112,6 +113,66 @@ pub(crate) fn sent_on<T, W: Sink>(line: WritingSide<W>) -> Outgoing<T, W, Open> 
         wire: Open,
         writers: None,
     }
+}
+
+/// How a connection has ended, and what it was told.
+#[derive(Drop)]
+pub(crate) struct Served {
+    pub(crate) outcome: Outcome,
+    pub(crate) told: Vec<u8>,
+}
+
+/// Serves a connection in this thread, whose peer says what this source gives and takes all that is written.
+pub(crate) fn serve_here<R, S, N>(
+    rt: R,
+    alloc: Global,
+    shared: &SharedRings<OneWord>,
+    conn: u64,
+    source: S,
+    events: Events<R>,
+    hearing: Hearing<N>,
+) -> Served
+where
+    R: Threads + Wait + Clock + Abort + Copy + Drop + Send + 'static,
+    S: Source + Drop,
+    N: Moments + Drop,
+{
+    let bytes = Arc::new(alloc, Mutex::new(Vec::new(alloc))).expect(&rt, "memory");
+    let line = line_to(rt, alloc, &bytes, 10_000);
+    let shared = Arc::try_clone(shared).expect(&rt, "a count of its users");
+    let outcome = run_connection(
+        rt,
+        alloc,
+        shared,
+        conn,
+        source,
+        sent_on(line),
+        events,
+        hearing,
+    );
+    let told = Vec::from_slice(alloc, bytes.lock(&rt).as_slice()).expect(&rt, "memory");
+    Served { outcome, told }
+}
+
+/// What a connection is told that says this by such a clock, and closes.
+pub(crate) fn told_by<R, N>(
+    rt: R,
+    alloc: Global,
+    shared: &SharedRings<OneWord>,
+    conn: u64,
+    said: Vec<u8>,
+    clock: N,
+) -> Vec<u8>
+where
+    R: Threads + Wait + Clock + Abort + Copy + Drop + Send + 'static,
+    N: Moments + Drop,
+{
+    let hearing = Hearing::new(alloc, clock).expect(&rt, "memory");
+    let source = ListSource::new(said, 7, None);
+    let events = Events::none();
+    let Served { outcome, told } = serve_here(rt, alloc, shared, conn, source, events, hearing);
+    assert!(rt; outcome.end == ConnectionEnd::Done);
+    told
 }
 
 /// Serves a connection in a thread of its own.

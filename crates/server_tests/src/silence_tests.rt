@@ -8,20 +8,18 @@ use crate::kept::{Kept, lines_to, verbose};
 use crate::moments::Dial;
 use crate::packets::FRAME;
 use crate::rings::{Owned, Rings};
-use crate::serving::{SharedRings, book_of, line_to, sent_on, shared_over};
+use crate::serving::{Served, SharedRings, book_of, serve_here, shared_over};
 use crate::steps::{SILENT, Step, Stepped};
 use crate::words::OneWord;
 use interleaved::Reading;
 use packet_ring::Pass;
-use relay_server::{
-    ConnectionEnd, Events, Hearing, Outcome, Seat, SharedBook, Silence, Watched, run_connection,
-};
+use relay_server::{ConnectionEnd, Events, Hearing, Seat, SharedBook, Silence, Watched};
 use session_state::Moments;
 use std::alloc::Global;
 use std::io::ErrorKind;
 use std::process::Abort;
 use std::random::RandomSource;
-use std::sync::{Arc, Mutex, Wait};
+use std::sync::{Arc, Wait};
 use std::thread::Threads;
 use std::time::Clock;
 
@@ -33,8 +31,8 @@ pub(crate) const SILENCE: Silence = Silence {
 
 /// How a connection has ended and at which moment, and what it was told.
 #[derive(Drop)]
-struct Served {
-    outcome: Outcome,
+struct Ended {
+    end: ConnectionEnd,
     moment: u64,
     told: Vec<u8>,
 }
@@ -44,46 +42,36 @@ fn serve_over<R>(
     rt: R,
     alloc: Global,
     book: &SharedBook<Seat<Owned<Pass>>>,
-    shared: SharedRings<OneWord>,
+    shared: &SharedRings<OneWord>,
     first: &[Step],
     then: &[Step],
     events: Events<R>,
-) -> Served
+) -> Ended
 where
     R: Threads + Wait + Clock + Abort + Copy + Drop + Send + 'static,
 {
-    let bytes = Arc::new(alloc, Mutex::new(Vec::new(alloc))).expect(&rt, "memory");
-    let line = line_to(rt, alloc, &bytes, 10_000);
     let mut clock = Dial::new(&rt, alloc);
     let hearing = Hearing::new(alloc, clock).expect(&rt, "memory");
     let source = Stepped::new(&rt, alloc, clock, first, then);
     let watched = Watched::new(rt, source, book, 1, &hearing, SILENCE).expect(&rt, "memory");
-    let outcome = run_connection(
-        rt,
-        alloc,
-        shared,
-        1,
-        Reading::new(watched),
-        sent_on(line),
-        events,
-        hearing,
-    );
-    Served {
-        outcome,
+    let reading = Reading::new(watched);
+    let Served { outcome, told } = serve_here(rt, alloc, shared, 1, reading, events, hearing);
+    Ended {
+        end: outcome.end,
         moment: clock.now(),
-        told: Vec::from_slice(alloc, bytes.lock(&rt).as_slice()).expect(&rt, "memory"),
+        told,
     }
 }
 
 /// Serves a connection from which this comes, and then that.
-fn serve<R>(rt: R, alloc: Global, first: &[Step], then: &[Step]) -> Served
+fn serve<R>(rt: R, alloc: Global, first: &[Step], then: &[Step]) -> Ended
 where
     R: Threads + Wait + Clock + RandomSource + Abort + Copy + Drop + Send + 'static,
 {
     let book = book_of(&rt, alloc, 1, 1);
     let theirs = Arc::try_clone(&book).expect(&rt, "a count of its users");
     let shared = shared_over(&rt, alloc, theirs, Rings::of(&rt, alloc, 1), OneWord);
-    serve_over(rt, alloc, &book, shared, first, then, Events::none())
+    serve_over(rt, alloc, &book, &shared, first, then, Events::none())
 }
 
 /// A camera that records.
@@ -107,11 +95,7 @@ where
     for (place, row) in rows.iter().enumerate() {
         let served = serve(rt, alloc, row.first, row.then);
         let told = joined(&rt, alloc, row.told);
-        assert!(rt;
-            served.outcome.end == row.end,
-            "row {place}: {}",
-            served.outcome.end
-        );
+        assert!(rt; served.end == row.end, "row {place}: {}", served.end);
         assert!(rt;
             served.moment == row.moment,
             "row {place}: {}",
@@ -157,13 +141,13 @@ fn a_request_without_an_answer_of_the_book_is_heard(rt: HostRuntime) {
     let rings = Rings::refusing(&rt, alloc, 1..2);
     let shared = shared_over(&rt, alloc, theirs, rings, OneWord);
     let then = [(40_000, Ok(ANNOUNCE)), (99_999, Ok(PAUSE))];
-    let served = serve_over(rt, alloc, &book, shared, &RECORDS, &then, Events::none());
+    let served = serve_over(rt, alloc, &book, &shared, &RECORDS, &then, Events::none());
     let told = joined(
         &rt,
         alloc,
         &[ANNOUNCED, SET_UP, IN_SESSION, NO_RING, PAUSED],
     );
-    assert!(rt; served.outcome.end == ConnectionEnd::Done);
+    assert!(rt; served.end == ConnectionEnd::Done);
     assert!(rt; served.told.as_slice() == told.as_slice());
 }
 
@@ -183,10 +167,17 @@ fn an_expired_mount_is_not_recorded(rt: HostRuntime) {
         let book = book_of(&rt, alloc, 1, 1);
         let theirs = Arc::try_clone(&book).expect(&rt, "a count of its users");
         let shared = shared_over(&rt, alloc, theirs, Rings::of(&rt, alloc, 1), OneWord);
-        let theirs = Arc::try_clone(&shared).expect(&rt, "a count of its users");
         let then = [(0, Ok(FRAME)), step];
-        let served = serve_over(kept, alloc, &book, theirs, &RECORDS, &then, verbose(&lines));
-        assert!(rt; served.outcome.end == end, "{end}");
+        let served = serve_over(
+            kept,
+            alloc,
+            &book,
+            &shared,
+            &RECORDS,
+            &then,
+            verbose(&lines),
+        );
+        assert!(rt; served.end == end, "{end}");
         assert!(rt; shared.recorded(&rt) == 0, "{end}");
         assert!(rt; kept.tells_an_end(&lines), "{end}");
     }
@@ -213,7 +204,7 @@ where
         then.push((second * 1_000, Ok(piece))).expect(&rt, "memory");
     }
     let served = serve(rt, alloc, first, then.as_slice());
-    (served.outcome.end, served.moment)
+    (served.end, served.moment)
 }
 
 /// What opens a message or frame that never comes whole, and a piece more of it: of a line, a head, a body and a frame. Blank
@@ -338,7 +329,7 @@ fn only_an_interrupted_read_is_made_again(rt: HostRuntime) {
 }
 
 /// A camera whose reads are interrupted so often, each so many milliseconds after the one before, and what comes then.
-fn serve_interrupted<R>(rt: R, alloc: Global, times: u64, apart: u64, last: Step) -> Served
+fn serve_interrupted<R>(rt: R, alloc: Global, times: u64, apart: u64, last: Step) -> Ended
 where
     R: Threads + Wait + Clock + RandomSource + Abort + Copy + Drop + Send + 'static,
 {
@@ -355,7 +346,7 @@ where
 #[test]
 fn a_read_that_is_interrupted_is_made_again_each_time(rt: HostRuntime) {
     let served = serve_interrupted(rt, rt.alloc(), 1_000, 0, (0, Ok(PAUSE)));
-    assert!(rt; served.outcome.end == ConnectionEnd::Done);
+    assert!(rt; served.end == ConnectionEnd::Done);
     assert!(rt; served.told.as_slice().ends_with(PAUSED));
 }
 
@@ -365,10 +356,10 @@ fn a_read_that_is_interrupted_is_made_again_each_time(rt: HostRuntime) {
 fn interruptions_put_the_look_off_and_keep_nothing(rt: HostRuntime) {
     let alloc = rt.alloc();
     let asking = serve_interrupted(rt, alloc, 70, 1_000, (70_000, Ok(PAUSE)));
-    assert!(rt; asking.outcome.end == ConnectionEnd::Done);
+    assert!(rt; asking.end == ConnectionEnd::Done);
     assert!(rt; asking.told.as_slice().ends_with(NO_SESSION));
     let silent = serve_interrupted(rt, alloc, 70, 1_000, (72_000, SILENT));
-    assert!(rt; silent.outcome.end == ConnectionEnd::Expired);
+    assert!(rt; silent.end == ConnectionEnd::Expired);
     assert!(rt; silent.moment == 72_000);
 }
 

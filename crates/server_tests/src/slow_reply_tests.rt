@@ -4,12 +4,10 @@ ghost use Rattle.std.specs.Prelude.{◌≤◌};
 use crate::account_tests::SETUP_OUT;
 use crate::connection_tests::{ANNOUNCE, ANNOUNCED, IN_SESSION, PAUSE, RECORD, SET_UP, SETUP};
 use crate::devices::{Bytes, flag, joined};
-use crate::expiry_tests::{
-    NO_SESSION, PAUSED, PLAY, PLAY_AGAIN, PLAYER_PAUSE, camera, replies, told,
-};
-use crate::moments::Dial;
+use crate::expiry_tests::{NO_SESSION, PAUSED, PLAY, PLAY_AGAIN, PLAYER_PAUSE, camera, replies};
+use crate::moments::{Dial, Still};
 use crate::rings::{Owned, Rings};
-use crate::serving::{SharedRings, book_of, sent_on, shared_over};
+use crate::serving::{Served, SharedRings, book_of, sent_on, shared_over, told_by};
 use crate::silence_tests::SILENCE;
 use crate::steps::{SILENT, Step, Stepped};
 use crate::words::OneWord;
@@ -83,13 +81,6 @@ impl<R: Wait> Write for Dripping<R> {
 
 impl<R: Wait> TryWrite for Dripping<R> {}
 
-/// How a connection has ended, and what it was told.
-#[derive(Drop)]
-struct Served {
-    end: ConnectionEnd,
-    told: Vec<u8>,
-}
-
 /// Serves this connection of a book, from which this comes, and then that.
 fn serve<R>(
     rt: R,
@@ -125,7 +116,7 @@ where
         hearing,
     );
     Served {
-        end: outcome.end,
+        outcome,
         told: Vec::from_slice(alloc, bytes.lock(&rt).as_slice()).expect(&rt, "memory"),
     }
 }
@@ -221,10 +212,15 @@ fn a_camera_is_told_its_slow_reply_whole(rt: HostRuntime) {
         let served = serve(rt, alloc, &book, theirs, 1, &CAMERA, row);
         let last = joined(&rt, alloc, row.told);
         let all = joined(&rt, alloc, &[first.as_slice(), last.as_slice()]);
-        assert!(rt; served.end == row.end, "row {place}: {}", served.end);
+        assert!(rt;
+            served.outcome.end == row.end,
+            "row {place}: {}",
+            served.outcome.end
+        );
         assert!(rt; served.told.as_slice() == all.as_slice(), "row {place}");
         assert!(rt; shared.recorded(&rt) == 0, "row {place}");
-        let other = told(rt, alloc, shared, 2, &[ANNOUNCE], 0);
+        let said = joined(&rt, alloc, &[ANNOUNCE]);
+        let other = told_by(rt, alloc, &shared, 2, said, Still);
         assert!(rt; other.as_slice() == ANNOUNCED, "row {place}");
     }
 }
@@ -282,13 +278,18 @@ fn a_player_is_told_its_slow_reply_whole(rt: HostRuntime) {
         let camera = camera(rt, alloc, &shared, Dial::STILL, &close);
         let theirs = Arc::try_clone(&shared).expect(&rt, "a count of its users");
         let served = serve(rt, alloc, &book, theirs, 2, &PLAYER, row);
-        assert!(rt; served.end == row.end, "row {place}: {}", served.end);
+        assert!(rt;
+            served.outcome.end == row.end,
+            "row {place}: {}",
+            served.outcome.end
+        );
         let last = joined(&rt, alloc, row.told);
         assert!(rt;
             served.told.as_slice().ends_with(last.as_slice()),
             "row {place}"
         );
-        let next = told(rt, alloc, shared, 3, &[SETUP_OUT, PLAY_AGAIN], 0);
+        let said = joined(&rt, alloc, &[SETUP_OUT, PLAY_AGAIN]);
+        let next = told_by(rt, alloc, &shared, 3, said, Still);
         assert!(rt;
             replies(next.as_slice(), b"RTSP/1.0 200 ") == 2,
             "row {place}"

@@ -1,15 +1,17 @@
-//! Players of a mount without connections, whose sockets are in memory, for tests.
+//! A mount and its players without connections, whose sockets are in memory, for tests.
 use crate::devices::{Bytes, Count, Open, count};
 use cursor::{Left, Tap};
 use interleaved::{TryWrite, Writing};
-use packet_ring::Subscriber;
-use relay_fanout::{Frames, MountSignal, SharedPlayer, TapPlace, Writers, WritingSide};
+use packet_ring::{Pass, Publisher, Subscriber};
+use relay_fanout::{
+    Frames, Maker, MountSignal, RingMaker, SharedPlayer, TapPlace, WakeSignal, Writers, WritingSide,
+};
 use std::alloc::Global;
 use std::io::Write;
 use std::process::Abort;
 use std::sync::atomic::Ordering;
 use std::sync::{Arc, Mutex, Wait};
-use std::thread::Threads;
+use std::thread::{JoinHandle, Threads};
 use std::time::{Clock, Duration};
 use std::{io, thread};
 use transport_header::{ChannelPair, TrackChannels};
@@ -17,12 +19,66 @@ use transport_header::{ChannelPair, TrackChannels};
 /// A packet's frame has at most so many bytes.
 pub(crate) const LONGEST: usize = 16;
 
-/// Keeps what is written for whoever shares it, as many bytes as there is room for, each write after so many milliseconds.
+/// How many packets a ring keeps.
+pub(crate) const KEEP: u64 = 64;
+
+/// A mount without players, and one writer for them, which doesn't run yet.
+#[derive(Drop)]
+pub(crate) struct Mount<R: Wait + Clock + Drop> {
+    pub(crate) maker: RingMaker,
+    pub(crate) publisher: Publisher,
+    pub(crate) passes: Vec<Pass>,
+    pub(crate) wake_signal: Arc<WakeSignal, Global>,
+    pub(crate) signal: Arc<MountSignal, Global>,
+    pub(crate) writers: Arc<Writer<R>, Global>,
+}
+
+impl<R: Wait + Clock + Abort + Copy + Drop> Mount<R> {
+    /// A mount of so many seats, whose players are given up so many milliseconds after its end.
+    pub(crate) fn new(rt: &R, alloc: Global, seats: usize, most: u64) -> Mount<R> {
+        let wake_signal = Arc::new(alloc, WakeSignal::new()).expect(rt, "memory");
+        let theirs = Arc::try_clone(&wake_signal).expect(rt, "a count of its users");
+        let signal = MountSignal::new(alloc, seats, theirs).expect(rt, "memory");
+        let signal = Arc::new(alloc, signal).expect(rt, "memory");
+        let theirs = Arc::try_clone(&wake_signal).expect(rt, "a count of its users");
+        let writers = Writers::new(alloc, 1, theirs, most).expect(rt, "memory");
+        let writers = Arc::new(alloc, writers).expect(rt, "memory");
+        let maker = RingMaker::new(KEEP as usize, seats.min(1024), LONGEST);
+        let (publisher, passes) = maker.make(alloc).expect(rt, "memory");
+        Mount {
+            maker,
+            publisher,
+            passes,
+            wake_signal,
+            signal,
+            writers,
+        }
+    }
+
+    /// A player in the last seat that is free, each of whose writes takes so many milliseconds.
+    pub(crate) fn seat(&mut self, rt: R, alloc: Global, wait: u64) -> Seated<R> {
+        let pass = self.passes.pop().expect(&rt, "a seat");
+        let tap = self.maker.attach(pass);
+        Seated::new(rt, alloc, &self.signal, self.passes.len(), tap, wait)
+    }
+}
+
+impl<R: Threads + Wait + Clock + Abort + Copy + Drop + Send + Sync + 'static> Mount<R> {
+    /// Starts the writer.
+    pub(crate) fn start_writer(&self, rt: R, alloc: Global) -> JoinHandle<()> {
+        let theirs = Arc::try_clone(&self.writers).expect(&rt, "a count of its users");
+        thread::spawn(&rt, move || theirs.write_all(&rt, alloc, 0)).expect(&rt, "a thread")
+    }
+}
+
+/// Keeps what is written for whoever shares it, as many bytes as there is room for, each write after so many milliseconds. Counts the
+/// writes that took any.
 #[derive(Drop)]
 pub(crate) struct Valve<R> {
     rt: R,
     bytes: Bytes,
     room: Count,
+    writes: Count,
     wait: u64,
 }
 
@@ -34,6 +90,8 @@ impl<R: Wait + Clock> Write for Valve<R> {
         let room = self.room.load(Ordering::SeqCst);
         let front = buf.len().min(usize::try_from(room).unwrap_or(usize::MAX));
         self.room.fetch_sub(front as u64, Ordering::SeqCst);
+        self.writes
+            .fetch_add(u64::from(front > 0), Ordering::SeqCst);
         self.bytes.lock(&self.rt).extend_from_slice(&buf[..front])?;
         Ok(front)
     }
@@ -56,6 +114,7 @@ pub(crate) struct Seated<R: Wait + Clock + Drop> {
     pub(crate) frames: Frames,
     pub(crate) bytes: Bytes,
     pub(crate) room: Count,
+    pub(crate) writes: Count,
 }
 
 /// Track 0 on channels 0 and 1.
@@ -73,7 +132,7 @@ fn one_track() -> TrackChannels {
 
 impl<R: Wait + Clock + Abort + Copy + Drop> Seated<R> {
     /// Nobody sends its frames yet, and its socket takes nothing.
-    pub(crate) fn new(
+    fn new(
         rt: R,
         alloc: Global,
         signal: &Arc<MountSignal, Global>,
@@ -83,10 +142,12 @@ impl<R: Wait + Clock + Abort + Copy + Drop> Seated<R> {
     ) -> Seated<R> {
         let bytes = Arc::new(alloc, Mutex::new(Vec::new(alloc))).expect(&rt, "memory");
         let room = count(&rt, alloc);
+        let writes = count(&rt, alloc);
         let socket = Valve {
             rt,
             bytes: Arc::try_clone(&bytes).expect(&rt, "a count of its users"),
             room: Arc::try_clone(&room).expect(&rt, "a count of its users"),
+            writes: Arc::try_clone(&writes).expect(&rt, "a count of its users"),
             wait,
         };
         let line = WritingSide::new(alloc, Writing::new(socket), LONGEST);
@@ -99,6 +160,7 @@ impl<R: Wait + Clock + Abort + Copy + Drop> Seated<R> {
             frames: Frames::new(1, seat, signal),
             bytes,
             room,
+            writes,
         }
     }
 

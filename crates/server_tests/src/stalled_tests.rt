@@ -1,10 +1,9 @@
 //! A player at a writer, whose socket takes nothing, or next to nothing, for a while.
 use crate::devices::has_come;
 use crate::packets::{number_in, small_frames};
-use crate::stage::{LONGEST, Seated, Writer};
+use crate::stage::{KEEP, LONGEST, Mount, Seated};
 use cursor::{Feed, Left};
-use packet_ring::Publisher;
-use relay_fanout::{Maker, MountSignal, Posting, RingMaker, TapPlace, WakeSignal, Writers};
+use relay_fanout::{Maker, MountSignal, Posting, TapPlace};
 use std::alloc::Global;
 use std::process::Abort;
 use std::sync::atomic::Ordering;
@@ -12,9 +11,6 @@ use std::sync::{Arc, Wait};
 use std::thread;
 use std::thread::{JoinHandle, Threads};
 use std::time::{Clock, Duration};
-
-/// How many packets the ring keeps.
-const KEEP: u64 = 64;
 
 /// How many packets are published before the player is first looked at, and how many while its socket takes nothing.
 const BEFORE: u16 = 3;
@@ -27,15 +23,11 @@ const FRAME: usize = LONGEST;
 /// How many bytes the frames have before the player is first looked at.
 const FIRST: usize = BEFORE as usize * FRAME;
 
-/// A player at a writer, and its publisher.
+/// A player at the writer of its mount.
 #[derive(Drop)]
 struct Stage<R: Wait + Clock + Drop> {
-    maker: RingMaker,
-    feed: Publisher,
-    wake_signal: Arc<WakeSignal, Global>,
-    signal: Arc<MountSignal, Global>,
+    mount: Mount<R>,
     seated: Seated<R>,
-    writers: Arc<Writer<R>, Global>,
     writer: JoinHandle<()>,
 }
 
@@ -45,31 +37,17 @@ fn staged<R>(rt: R, alloc: Global, most: u64, frames: &[u8]) -> Stage<R>
 where
     R: Threads + Wait + Clock + Abort + Copy + Drop + Send + Sync + 'static,
 {
-    let maker = RingMaker::new(KEEP as usize, 1, FRAME);
-    let wake_signal = Arc::new(alloc, WakeSignal::new()).expect(&rt, "memory");
-    let (mut feed, mut passes) = maker.make(alloc).expect(&rt, "memory");
-    let tap = maker.attach(passes.pop().expect(&rt, "a seat"));
-    let theirs = Arc::try_clone(&wake_signal).expect(&rt, "a count of its users");
-    let signal = MountSignal::new(alloc, 1, theirs).expect(&rt, "memory");
-    let signal = Arc::new(alloc, signal).expect(&rt, "memory");
-    let mut seated = Seated::new(rt, alloc, &signal, 0, tap, 0);
-    publish(&rt, &mut feed, &signal, frames);
+    let mut mount = Mount::new(&rt, alloc, 1, most);
+    let mut seated = mount.seat(rt, alloc, 0);
+    publish(&rt, &mut mount.publisher, &mount.signal, frames);
     seated.let_on(Some(5));
-    let theirs = Arc::try_clone(&wake_signal).expect(&rt, "a count of its users");
-    let writers = Writers::new(alloc, 1, theirs, most).expect(&rt, "memory");
-    let writers = Arc::new(alloc, writers).expect(&rt, "memory");
-    seated.give_to(&rt, &writers);
-    let theirs = Arc::try_clone(&writers).expect(&rt, "a count of its users");
-    let writer = thread::spawn(&rt, move || theirs.write_all(&rt, alloc, 0));
+    seated.give_to(&rt, &mount.writers);
+    let writer = mount.start_writer(rt, alloc);
     assert!(rt; has_come(&rt, &seated.bytes, 5, frames.get(..5).unwrap_or(b"")));
     Stage {
-        maker,
-        feed,
-        wake_signal,
-        signal,
+        mount,
         seated,
-        writers,
-        writer: writer.expect(&rt, "a thread"),
+        writer,
     }
 }
 
@@ -107,24 +85,22 @@ where
     let first = packets.as_slice().get(..FIRST).unwrap_or(b"");
     let then = packets.as_slice().get(FIRST..).unwrap_or(b"");
     let Stage {
-        maker,
-        mut feed,
-        wake_signal: _,
-        signal,
+        mut mount,
         seated,
-        writers,
         writer,
     } = staged(rt, alloc, 20_000, first);
-    publish(&rt, &mut feed, &signal, then);
+    publish(&rt, &mut mount.publisher, &mount.signal, then);
     seated.let_on(None);
     let last = then.len().saturating_sub(FRAME);
     assert!(rt; has_come(&rt, &seated.bytes, 6, then.get(last..).unwrap_or(b"")));
     let bytes = Arc::try_clone(&seated.bytes).expect(&rt, "a count of its users");
-    let left = match seated.stop(&rt, &writers) {
-        TapPlace::Attached(tap) => Some(maker.detach(tap).1),
+    // The five bytes, what is left of the first frames, and sixteen packets at a time.
+    assert!(rt; seated.writes.load(Ordering::SeqCst) <= 3 + KEEP / 16);
+    let left = match seated.stop(&rt, &mount.writers) {
+        TapPlace::Attached(tap) => Some(mount.maker.detach(tap).1),
         _ => None,
     };
-    writers.stop();
+    mount.writers.stop();
     writer.join(&rt);
     assert!(rt; are_first_and_last(bytes.lock(&rt).as_slice()));
     let want = Left {
@@ -161,16 +137,20 @@ where
     let first = packets.as_slice().get(..FIRST).unwrap_or(b"");
     let then = packets.as_slice().get(FIRST..).unwrap_or(b"");
     let Stage {
-        maker: _,
-        feed,
-        wake_signal,
-        signal,
+        mount,
         seated,
-        writers,
         writer,
     } = staged(rt, alloc, MOST, first);
+    let Mount {
+        maker: _,
+        publisher,
+        passes: _,
+        wake_signal,
+        signal,
+        writers,
+    } = mount;
     let theirs = Arc::try_clone(&signal).expect(&rt, "a count of its users");
-    let mut feed = Posting::new(rt, feed, theirs, wake_signal, KEEP);
+    let mut feed = Posting::new(rt, publisher, theirs, wake_signal, KEEP);
     publish(&rt, &mut feed, &signal, then);
     let _waited = feed.end();
     for _ in 0..SINGLY {
