@@ -1,6 +1,8 @@
 //! What stands where a request for memory is refused, in a talk and in the book that it asks. `tools/refuse-memory` runs each
-//! of these once for each request that it makes, with that one refused: then it ends for want of memory before what it shows,
+//! of these once for each request that it makes, with that one refused: then it ends out of memory before what it shows,
 //! or passes.
+ghost use Rattle.std.specs.Prelude.{◌≤◌};
+
 use crate::devices::{Outcome, in_pieces, made_host, outcome_of};
 use crate::exchange_tests::{ANNOUNCED, CAMERA, DESCRIBED, IS_SET_UP, RECORDS};
 use base_syntax::Items;
@@ -10,9 +12,11 @@ use session_lock::{Answer, AskFault, Book};
 use session_state::{Act, ConnectFault, Given, Session, State};
 use std::alloc::Global;
 use std::collections::hash_map::RandomState;
+use std::process::Abort;
+use std::random::RandomSource;
 use std::test::Fail;
 
-/// What the last reply is where nothing more can be read for want of memory.
+/// What the last reply is where nothing more can be read, out of memory.
 const LAST: &[u8] = b"RTSP/1.0 503 Service Unavailable\r\n\r\n";
 
 /// What a camera is told: all replies, or with one that there was no memory for. The book hasn't heard that request, or it
@@ -57,7 +61,7 @@ const TOLD: [[&[u8]; 4]; 7] = [
     ],
 ];
 
-/// Whether a text is these parts, one behind the other.
+/// Whether a text is these parts, one after the other.
 fn is_joined(text: &[u8], parts: &[&[u8]]) -> bool {
     let mut rest = text;
     for part in parts {
@@ -144,21 +148,27 @@ const ASKED: [(u64, &[u8], Act, Option<u16>); 6] = [
     ),
 ];
 
-/// The request that a text is.
-fn request_of(alloc: Global, text: &[u8]) -> Result<Request, Fail> {
-    let mut units = Reader::new(alloc).feed(text)?.units;
+/// The last of these units, where it is a request.
+fn last_request(mut units: Vec<Unit>) -> Option<Request> {
     match units.pop() {
-        Some(Unit::Message(request)) => Ok(request),
-        _ => Err(Fail::from("a request")),
+        Some(Unit::Message(request)) => Some(request),
+        _ => None,
     }
 }
 
+/// The request that a text is.
+fn request_of(rt: &impl Abort, alloc: Global, text: &[u8]) -> Request {
+    let units = Reader::new(alloc).feed(text).expect(rt, "memory").units;
+    last_request(units).expect(rt, "a request")
+}
+
 /// The pass that an ANNOUNCE offers.
-fn offer_of(alloc: Global, text: &[u8]) -> Result<Option<Vec<u16>>, Fail> {
-    if !text.starts_with(b"ANNOUNCE") {
-        return Ok(None);
+fn offer_of(rt: &impl Abort, alloc: Global, text: &[u8]) -> Option<Vec<u16>> {
+    if text.starts_with(b"ANNOUNCE") {
+        Some(vec![in alloc; 10].expect(rt, "memory"))
+    } else {
+        None
     }
-    Ok(Some(vec![in alloc; 10]?))
 }
 
 /// The state of a session, where there is one.
@@ -230,20 +240,24 @@ fn answer_at_last(
 
 /// Whether a request is answered so.
 fn is_answered(
+    rt: &impl Abort,
     book: &mut Book<u16>,
     alloc: Global,
     asked: &(u64, &[u8], Act, Option<u16>),
-) -> Result<bool, Fail> {
+) -> bool {
     let (conn, text, act, pass) = asked;
-    let request = request_of(alloc, text)?;
-    let offer = offer_of(alloc, text)?;
+    let request = request_of(rt, alloc, text);
+    let offer = offer_of(rt, alloc, text);
     match answer_at_last(book, alloc, *conn, &request, offer) {
         Some(answer) => {
-            Ok(answer.reply.status.code() == 200 && answer.act == *act && answer.pass == *pass)
+            answer.reply.status.code() == 200 && answer.act == *act && answer.pass == *pass
         }
-        None => Ok(false),
+        None => false,
     }
 }
+
+/// A book that cuts nothing off here.
+const NO_CUT: usize = 4096;
 
 /// How many connections come: more than a cutting book has room for at once, and than its world has.
 const COME: u64 = 16;
@@ -269,36 +283,39 @@ fn all_come(book: &mut Book<u16>, cut: usize) -> bool {
 }
 
 /// Whether all come, and what two of them ask is answered and written down.
-fn plays(book: &mut Book<u16>, alloc: Global, cut: usize) -> Result<bool, Fail> {
+fn plays(rt: &impl Abort, book: &mut Book<u16>, alloc: Global, cut: usize) -> bool {
     if !all_come(book, cut) {
-        return Ok(false);
+        return false;
     }
     for asked in &ASKED {
         let kept = kept_after(book.kept(), cut);
-        if !is_answered(book, alloc, asked)? || book.kept() != kept {
-            return Ok(false);
+        if !is_answered(rt, book, alloc, asked) || book.kept() != kept {
+            return false;
         }
     }
-    Ok(true)
+    true
 }
 
-/// A book that cuts nothing off here.
-const NO_CUT: usize = 4096;
+/// A book of one seat that cuts so many entries off.
+fn book_of<R: RandomSource + Abort>(rt: &R, alloc: Global, cut: usize) -> Book<u16>
+    requires { 1 ≤ cut }
+{
+    let hasher = RandomState::new(rt).expect(rt, "random bytes");
+    Book::with_cut(alloc, 1, hasher, cut)
+}
 
 #[test]
-fn a_refused_call_of_the_book_is_made_again(rt: HostRuntime) -> Result<(), Fail> {
-    let mut book: Book<u16> = Book::new(rt.alloc(), 1, RandomState::new(&rt)?);
-    assert!(rt; plays(&mut book, rt.alloc(), NO_CUT)?);
-    Ok(())
+fn a_refused_call_of_the_book_is_made_again(rt: HostRuntime) {
+    let mut book = book_of(&rt, rt.alloc(), NO_CUT);
+    assert!(rt; plays(&rt, &mut book, rt.alloc(), NO_CUT));
 }
 
 /// Each call but the first copies the world.
 #[test]
-fn a_refused_cut_is_made_again(rt: HostRuntime) -> Result<(), Fail> {
-    let mut book: Book<u16> = Book::with_cut(rt.alloc(), 1, RandomState::new(&rt)?, 1);
-    assert!(rt; plays(&mut book, rt.alloc(), 1)?);
+fn a_refused_cut_is_made_again(rt: HostRuntime) {
+    let mut book = book_of(&rt, rt.alloc(), 1);
+    assert!(rt; plays(&rt, &mut book, rt.alloc(), 1));
     assert!(rt; state_of(book.base().session_of(2)) == Some(State::Ready));
-    Ok(())
 }
 
 /// Whether a player leaves and its seat comes back once, and then its camera leaves.
@@ -311,15 +328,14 @@ fn leave(book: &mut Book<u16>) -> bool {
         && book.kept() == 25
 }
 
-/// A hang-up and the return of a seat take no memory. In a run in which the request behind them is refused they answer the
+/// A hang-up and the return of a seat take no memory. In a run in which the next request after them is refused they answer the
 /// same.
 #[test]
-fn who_leaves_the_book_takes_no_memory(rt: HostRuntime) -> Result<(), Fail> {
-    let mut book: Book<u16> = Book::new(rt.alloc(), 1, RandomState::new(&rt)?);
-    assert!(rt; plays(&mut book, rt.alloc(), NO_CUT)?);
+fn who_leaves_the_book_takes_no_memory(rt: HostRuntime) {
+    let mut book = book_of(&rt, rt.alloc(), NO_CUT);
+    assert!(rt; plays(&rt, &mut book, rt.alloc(), NO_CUT));
     assert!(rt; leave(&mut book));
-    let _behind = Vec::from_elem(rt.alloc(), 0u8, 1).is_ok();
-    Ok(())
+    let _next = Vec::from_elem(rt.alloc(), 0u8, 1).is_ok();
 }
 
 /// Whether a player's session expires, its seat comes back once, and it and its camera leave, where nothing of this cuts.
@@ -337,22 +353,19 @@ fn leave_uncut(book: &mut Book<u16>) -> bool {
 }
 
 /// The status of what connection 3 asks of the mount that has ended.
-fn status_behind(book: &mut Book<u16>, alloc: Global) -> Result<Option<u16>, Fail> {
-    let request = request_of(alloc, b"DESCRIBE rtsp://h/a RTSP/1.0\nCSeq: 1\n\n")?;
-    let Some(answer) = answer_at_last(book, alloc, 3, &request, None) else {
-        return Ok(None);
-    };
-    Ok(Some(answer.reply.status.code()))
+fn status_after(rt: &impl Abort, book: &mut Book<u16>, alloc: Global) -> Option<u16> {
+    let request = request_of(rt, alloc, b"DESCRIBE rtsp://h/a RTSP/1.0\nCSeq: 1\n\n");
+    let answer = answer_at_last(book, alloc, 3, &request, None)?;
+    Some(answer.reply.status.code())
 }
 
-/// So they do, and an expiry, where each coming and request cuts. The next coming makes the request for memory behind them.
+/// So they do, and an expiry, where each coming and request cuts. The next coming makes the request for memory after them.
 #[test]
-fn who_leaves_between_cuts_takes_no_memory(rt: HostRuntime) -> Result<(), Fail> {
-    let mut book: Book<u16> = Book::with_cut(rt.alloc(), 1, RandomState::new(&rt)?, 1);
-    assert!(rt; plays(&mut book, rt.alloc(), 1)?);
+fn who_leaves_between_cuts_takes_no_memory(rt: HostRuntime) {
+    let mut book = book_of(&rt, rt.alloc(), 1);
+    assert!(rt; plays(&rt, &mut book, rt.alloc(), 1));
     assert!(rt; leave_uncut(&mut book));
     assert!(rt; comes_at_last(&mut book) == Some(COME + 1));
     assert!(rt; book.kept() == 1 && book.base().count_open() == 14);
-    assert!(rt; status_behind(&mut book, rt.alloc())? == Some(404));
-    Ok(())
+    assert!(rt; status_after(&rt, &mut book, rt.alloc()) == Some(404));
 }
