@@ -1,5 +1,5 @@
-use super::packets::Packet;
-use super::takes::{Delivery, Left};
+use crate::packets::Packet;
+use crate::takes::{Delivery, Left};
 
 /// A call to a broadcast log, by its publisher or by one of its seats.
 #[derive(Debug, Drop)]

@@ -1,7 +1,7 @@
 ghost use Rattle.std.specs.Prelude.{◌≡◌, length};
 
-use super::takes::copy_front;
-use super::visits::Visit;
+use crate::takes::copy_front;
+use crate::visits::Visit;
 
 /// A visitor that copies the packet that it is shown to the front of a buffer.
 #[derive(Drop)]

@@ -4,7 +4,7 @@ ghost use Rattle.cursor.specs.declared.refusals.Refused.{Refused};
 ghost use Rattle.cursor.specs.Feeds.{Appends};
 ghost use Rattle.cursor.specs.Log.{packet_of};
 
-use super::refusals::Refused;
+use crate::refusals::Refused;
 
 /// Takes packets in, one after another, until it is closed.
 pub trait Feed {

@@ -3,8 +3,8 @@ ghost use Rattle.cursor.specs.declared.calls.Answer.{Answer};
 ghost use Rattle.cursor.specs.Log.{Event, LegalHistory, Run};
 ghost use Rattle.cursor.specs.Plain.{log_of, made, MayMake, PlainRun, Replied, Replies};
 
-use super::calls::{Answer, Call};
-use super::plain_log::PlainLog;
+use crate::calls::{Answer, Call};
+use crate::plain_log::PlainLog;
 use std::alloc::{AllocError, Global};
 
 /// Makes these calls in order. Each that may be made when its turn comes is answered, and no other one.

@@ -2,9 +2,9 @@ ghost use Rattle.std.specs.Prelude.{◌≡◌, ◌≤◌};
 ghost use Rattle.cursor.specs.Taps.{FitsBuffer};
 ghost use Rattle.cursor.specs.Visits.{TakesWith};
 
-use super::takes::Taken;
-use super::taps::Tap;
-use super::visits::Visit;
+use crate::takes::Taken;
+use crate::taps::Tap;
+use crate::visits::Visit;
 
 /// A tap that lends its packets, so that none is copied.
 pub trait Lend: Tap {

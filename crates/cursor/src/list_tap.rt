@@ -1,11 +1,11 @@
 ghost use Rattle.std.specs.Prelude.{◌≡◌, ◌≤◌};
 ghost use Rattle.cursor.specs.Listed.{IsCounted};
 
-use super::copies::Copying;
-use super::lends::Lend;
-use super::takes::{Account, Delivery, Taken};
-use super::taps::Tap;
-use super::visits::Visit;
+use crate::copies::Copying;
+use crate::lends::Lend;
+use crate::takes::{Account, Delivery, Taken};
+use crate::taps::Tap;
+use crate::visits::Visit;
 use std::marker::Model;
 use std::vec;
 

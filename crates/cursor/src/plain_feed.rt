@@ -1,8 +1,8 @@
 ghost use Rattle.std.specs.Prelude.{◌≡◌, false};
 
-use super::feeds::Feed;
-use super::plain_log::PlainLog;
-use super::refusals::Refused;
+use crate::feeds::Feed;
+use crate::plain_log::PlainLog;
+use crate::refusals::Refused;
 use std::marker::Model;
 
 /// A plain log that is open, as a feed.

@@ -6,12 +6,12 @@ ghost use Rattle.cursor.specs.Plain.{empty_plain, PlainEvent, PlainMayRefuse, Is
 ghost use Rattle.cursor.specs.Taps.{delivery_of, FitsBuffer};
 ghost use Rattle.cursor.specs.Visits.{TakesWith};
 
-use super::calls::{Answer, Call};
-use super::copies::Copying;
-use super::packets::Packet;
-use super::refusals::Refused;
-use super::takes::{Account, Left, Taken};
-use super::visits::Visit;
+use crate::calls::{Answer, Call};
+use crate::copies::Copying;
+use crate::packets::Packet;
+use crate::refusals::Refused;
+use crate::takes::{Account, Left, Taken};
+use crate::visits::Visit;
 use base_syntax::Bytes;
 use std::alloc::{AllocError, Global};
 use std::marker::Model;

@@ -1,11 +1,11 @@
 ghost use Rattle.std.specs.Prelude.{◌≡◌};
 ghost use Rattle.cursor.specs.Plain.{IsAttached};
 
-use super::lends::Lend;
-use super::plain_log::PlainLog;
-use super::takes::{Account, Taken};
-use super::taps::Tap;
-use super::visits::Visit;
+use crate::lends::Lend;
+use crate::plain_log::PlainLog;
+use crate::takes::{Account, Taken};
+use crate::taps::Tap;
+use crate::visits::Visit;
 use std::marker::Model;
 
 /// A plain log with one seat that is attached, as a tap.

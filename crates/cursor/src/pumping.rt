@@ -4,9 +4,9 @@ ghost use Rattle.cursor.specs.declared.takes.Delivery.{Delivery};
 ghost use Rattle.cursor.specs.Account.{received, with_answers};
 ghost use Rattle.cursor.specs.Taps.{Takes, IsUpTo, AllGoOn};
 
-use super::packets::Packet;
-use super::takes::{Account, Delivery, Taken};
-use super::taps::Tap;
+use crate::packets::Packet;
+use crate::takes::{Account, Delivery, Taken};
+use crate::taps::Tap;
 use std::alloc::{AllocError, Global};
 
 /// There was no memory for a further take, after so many.

@@ -1,6 +1,6 @@
 ghost use Rattle.std.specs.Prelude.{◌≡◌, ◌<◌, ◌≤◌, ◌^◌, length, take};
 
-use super::packets::Packet;
+use crate::packets::Packet;
 use base_syntax::Bytes;
 
 /// What a take answers. The packet's bytes are in the buffer that was handed in.

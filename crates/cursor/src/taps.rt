@@ -4,7 +4,7 @@ ghost use Rattle.cursor.specs.declared.takes.Delivery.{Delivery};
 ghost use Rattle.cursor.specs.Account.{cursor_of};
 ghost use Rattle.cursor.specs.Taps.{delivery_of, FitsBuffer, Counts};
 
-use super::takes::{Account, Taken};
+use crate::takes::{Account, Taken};
 
 /// Gives packets out, one after another.
 pub trait Tap {

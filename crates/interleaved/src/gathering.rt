@@ -3,8 +3,8 @@ ghost use Rattle.std.specs.Prelude.{◌≡◌, ◌+◌, ◌-◌, ◌<◌, ◌≤
 ghost use Rattle.std.specs.Io.KnownBytes.{Appends, Keeps};
 ghost use Rattle.interleaved.specs.Gatherings.{gathered, Fills, PassesOn};
 
-use super::device::{Failed, Sink, TrySink};
-use super::whole_write::{WriteCut, write_all};
+use crate::device::{Failed, Sink, TrySink};
+use crate::whole_write::{WriteCut, write_all};
 use std::marker::Model;
 
 /// A sink over another one, which keeps what is written in a buffer and passes it on in one write, at

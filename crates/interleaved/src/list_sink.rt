@@ -2,7 +2,7 @@
 ghost use Rattle.std.specs.Prelude.{◌≡◌, ◌↔◌, ◌+◌, ◌<◌, ◌++◌, [], Some, true, false, min, length, take, IfOk, OnOk, OnErr, IsErr};
 ghost use Rattle.interleaved.specs.Devices.{RefusesWrite};
 
-use super::device::{Failed, Sink, TrySink};
+use crate::device::{Failed, Sink, TrySink};
 use std::alloc::{AllocError, Global};
 use std::marker::Model;
 

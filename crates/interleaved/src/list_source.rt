@@ -2,7 +2,7 @@
 ghost use Rattle.std.specs.Prelude.{◌≡◌, ◌↔◌, ◌+◌, ◌<◌, ◌≤◌, ◌⊎◌, ◌++◌, [], Some, true, false, length, take, drop, IfOk, OnOk, OnErr, IfSome, IsErr};
 ghost use Rattle.interleaved.specs.Devices.{GivesPiece, RefusesRead};
 
-use super::device::{Failed, Source};
+use crate::device::{Failed, Source};
 use std::marker::Model;
 
 /// A source that gives bytes in memory, in pieces, and can be made to fail on the way.

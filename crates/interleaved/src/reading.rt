@@ -2,7 +2,7 @@
 ghost use Rattle.std.specs.Prelude.{◌≡◌, ◌^◌, ◌≤◌, true, false};
 ghost use Rattle.std.specs.Io.KnownBytes.{Consumes};
 
-use super::device::{Failed, Source};
+use crate::device::{Failed, Source};
 use std::io::Read;
 
 /// So many bytes are given before a reading fails.

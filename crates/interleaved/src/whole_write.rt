@@ -2,7 +2,7 @@
 ghost use Rattle.std.specs.Prelude.{◌≡◌, ◌<◌, true, false, length, take, IfErr, OnOk, OnErr};
 ghost use Rattle.std.specs.Io.KnownBytes.{Appends};
 
-use super::device::{Failed, Sink};
+use crate::device::{Failed, Sink};
 use std::error::Error;
 use std::fmt;
 

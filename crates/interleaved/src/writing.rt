@@ -3,7 +3,7 @@ ghost use Rattle.std.specs.Prelude.{◌≡◌, ◌≤◌, true, false, length};
 ghost use Rattle.std.specs.Io.{WritesAtMost};
 ghost use Rattle.std.specs.Io.KnownBytes.{WriteAppends};
 
-use super::device::{Failed, Sink, TrySink};
+use crate::device::{Failed, Sink, TrySink};
 use std::io;
 use std::io::Write;
 

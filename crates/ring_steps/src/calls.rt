@@ -1,4 +1,4 @@
-use super::words::{Head, Word};
+use crate::words::{Head, Word};
 use base_syntax::Bytes;
 use cursor::Answer;
 use std::fmt;

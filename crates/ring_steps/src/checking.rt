@@ -5,10 +5,10 @@ ghost use Rattle.ring_steps.specs.Checking.{IsFirstOutOfTurn, NoneOutOfTurn};
 ghost use Rattle.ring_steps.specs.Faults.{IsRefusal};
 ghost use Rattle.ring_steps.specs.Scripts.{IsAfterClose, IsFirstBad, IsGoodConfig, IsGoodScript, IsMisplaced, IsOutOfTurn, attached_by, calls_of, is_close};
 
-use super::calls::{Actor, PublisherCall, SeatCall};
-use super::config::Config;
-use super::fault::StepFault;
-use super::script::{Script, SeatCalls};
+use crate::calls::{Actor, PublisherCall, SeatCall};
+use crate::config::Config;
+use crate::fault::StepFault;
+use crate::script::{Script, SeatCalls};
 
 /// Refuses a config that no ring has, or else the first call of the script that can't be made.
 pub(crate) fn check_input(config: &Config, script: &Script) -> Result<(), StepFault>

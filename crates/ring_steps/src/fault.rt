@@ -2,7 +2,7 @@
 ghost use Rattle.std.specs.Prelude.{◌≡◌};
 ghost use Rattle.ring_steps.specs.declared.fault.StepFault.TheVariants.{OutOfMemory};
 
-use super::calls::Actor;
+use crate::calls::Actor;
 use std::alloc::{AllocError, AllocFailed};
 use std::error::Error;
 use std::fmt;

@@ -2,9 +2,9 @@ ghost use Rattle.std.specs.Prelude.{◌≡◌, ◌≤◌, ◌<◌, ◌^◌, ◌+
 ghost use Rattle.ring_steps.specs.Ring.{empty_ring, fresh_slot, new_publisher, new_seat};
 ghost use Rattle.ring_steps.specs.Slots.{Invariant};
 
-use super::ring::Ring;
-use super::views::{Publisher, PublisherPhase, Seat, SeatPhase};
-use super::words::{Head, Slot, Word};
+use crate::ring::Ring;
+use crate::views::{Publisher, PublisherPhase, Seat, SeatPhase};
+use crate::words::{Head, Slot, Word};
 use base_syntax::Bytes;
 use cursor::Account;
 use std::alloc::{AllocError, Global};

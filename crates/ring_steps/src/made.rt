@@ -1,4 +1,4 @@
-use super::calls::{Actor, Observed};
+use crate::calls::{Actor, Observed};
 use cursor::Answer;
 
 /// A step of a run, and the answer of the call that it ended, if it ended one.

@@ -4,12 +4,12 @@ ghost use Rattle.ring_steps.specs.Faults.{HasCall, IsRefusal};
 ghost use Rattle.ring_steps.specs.Making.{FinishesOthers, Goes, GoesAlone, IsSound, SoFar, TakesTurn, calls_left, nothing_made};
 ghost use Rattle.ring_steps.specs.Scripts.{IsGoodConfig, IsGoodScript, calls_of};
 
-use super::calls::Actor;
-use super::config::Config;
-use super::fault::StepFault;
-use super::made::Made;
-use super::progress::Progress;
-use super::script::Script;
+use crate::calls::Actor;
+use crate::config::Config;
+use crate::fault::StepFault;
+use crate::made::Made;
+use crate::progress::Progress;
+use crate::script::Script;
 use std::alloc::{AllocError, Global};
 use std::marker::Model;
 

@@ -7,9 +7,9 @@ ghost use Rattle.ring_steps.specs.Runs.{At, start};
 ghost use Rattle.ring_steps.specs.Scripts.{IsGoodScript, calls_of};
 ghost use Rattle.ring_steps.specs.Slots.{Invariant};
 
-use super::calls::{Actor, Stepped};
-use super::ring::Ring;
-use super::script::Script;
+use crate::calls::{Actor, Stepped};
+use crate::ring::Ring;
+use crate::script::Script;
 use std::alloc::{AllocError, Global};
 use std::marker::Model;
 

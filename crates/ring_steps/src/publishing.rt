@@ -3,11 +3,11 @@ ghost use Rattle.ring_steps.specs.Ring.{State, slot};
 ghost use Rattle.ring_steps.specs.Bounds.{PublisherBounds};
 ghost use Rattle.ring_steps.specs.Step.{outcome, begin, write_length, write_byte, finish, append, close, next_place};
 
-use super::buffers::{byte_at, put_byte};
-use super::calls::{Observed, Stepped};
-use super::ring::Ring;
-use super::views::PublisherPhase;
-use super::words::{Head, Word};
+use crate::buffers::{byte_at, put_byte};
+use crate::calls::{Observed, Stepped};
+use crate::ring::Ring;
+use crate::views::PublisherPhase;
+use crate::words::{Head, Word};
 use base_syntax::Bytes;
 use cursor::Answer;
 use std::alloc::AllocError;

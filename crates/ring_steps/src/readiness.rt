@@ -2,9 +2,9 @@ ghost use Rattle.std.specs.Prelude.{◌≡◌, ◌↔◌, ◌≤◌, ◌^◌, �
 ghost use Rattle.ring_steps.specs.Bounds.{HasRoom, MayCall, SeatReady, PublisherReady};
 ghost use Rattle.ring_steps.specs.Slots.{EachSeat};
 
-use super::calls::{PublisherCall, SeatCall};
-use super::ring::Ring;
-use super::views::{PublisherPhase, SeatPhase};
+use crate::calls::{PublisherCall, SeatCall};
+use crate::ring::Ring;
+use crate::views::{PublisherPhase, SeatPhase};
 
 /// Whether a seat in this phase may go on by this call.
 fn may_call(phase: SeatPhase, call: SeatCall) -> bool

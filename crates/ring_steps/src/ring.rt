@@ -4,10 +4,10 @@ ghost use Rattle.ring_steps.specs.Ring.{State, seat_at, cursor, place, word};
 ghost use Rattle.ring_steps.specs.Bounds.{SeatBounds};
 ghost use Rattle.ring_steps.specs.Step.{outcome, attach, detach, first_load, second_load, end_take, lose, find_packet, pin, unpin, unpin_failed, read_length, read_byte};
 
-use super::buffers::byte_at;
-use super::calls::{Observed, Stepped};
-use super::views::{Publisher, PublisherPhase, Seat, SeatPhase};
-use super::words::{Head, Slot, Word};
+use crate::buffers::byte_at;
+use crate::calls::{Observed, Stepped};
+use crate::views::{Publisher, PublisherPhase, Seat, SeatPhase};
+use crate::words::{Head, Slot, Word};
 use base_syntax::Bytes;
 use cursor::{Account, Answer, Delivery, Left, Packet};
 use std::alloc::{AllocError, Global};

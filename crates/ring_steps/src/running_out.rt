@@ -4,14 +4,14 @@ ghost use Rattle.ring_steps.specs.RunningOut.{IsOutRefusal, RunsOut};
 ghost use Rattle.ring_steps.specs.Scripts.{IsGoodConfig, IsGoodScript, calls_of};
 ghost use Rattle.ring_steps.specs.Traces.{IsOneOf};
 
-use super::calls::Actor;
-use super::checking::check_input;
-use super::config::Config;
-use super::fault::StepFault;
-use super::making::Making;
-use super::script::Script;
-use super::trace::Trace;
-use super::tracing::trace_of;
+use crate::calls::Actor;
+use crate::checking::check_input;
+use crate::config::Config;
+use crate::fault::StepFault;
+use crate::making::Making;
+use crate::script::Script;
+use crate::trace::Trace;
+use crate::tracing::trace_of;
 use std::alloc::Global;
 
 /// Runs a script as `run` does, and then goes on without the stopped actor: the publisher makes steps until it has no call left,

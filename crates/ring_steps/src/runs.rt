@@ -9,14 +9,14 @@ ghost use Rattle.ring_steps.specs.Slots.{Invariant};
 ghost use Rattle.ring_steps.specs.Traces.{ActsOnce, EachState, EachTurn, IsLegal, IsTrace, MeetsPins, StepsAreFew, TellsAccounts};
 ghost use Rattle.ring_steps.specs.Within.{ActsWithin};
 
-use super::calls::Actor;
-use super::checking::check_input;
-use super::config::Config;
-use super::fault::StepFault;
-use super::making::Making;
-use super::script::Script;
-use super::trace::Trace;
-use super::tracing::trace_of;
+use crate::calls::Actor;
+use crate::checking::check_input;
+use crate::config::Config;
+use crate::fault::StepFault;
+use crate::making::Making;
+use crate::script::Script;
+use crate::trace::Trace;
+use crate::tracing::trace_of;
 use std::alloc::Global;
 
 /// Runs a script over a ring that nobody used yet. Step i of the schedule is made by its i-th actor,

@@ -1,4 +1,4 @@
-use super::calls::{PublisherCall, SeatCall};
+use crate::calls::{PublisherCall, SeatCall};
 use base_syntax::Items;
 
 /// The calls of one seat, in order.

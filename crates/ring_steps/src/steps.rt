@@ -4,9 +4,9 @@ ghost use Rattle.ring_steps.specs.Bounds.{SeatBounds, PublisherBounds, HasRoom, 
 ghost use Rattle.ring_steps.specs.Step.{outcome, SeatStep, PublisherStep, read_on, write_on};
 ghost use Rattle.ring_steps.specs.Slots.{Invariant};
 
-use super::calls::{PublisherCall, SeatCall, Stepped};
-use super::ring::Ring;
-use super::views::{PublisherPhase, SeatPhase};
+use crate::calls::{PublisherCall, SeatCall, Stepped};
+use crate::ring::Ring;
+use crate::views::{PublisherPhase, SeatPhase};
 use std::alloc::AllocError;
 
 impl Ring {

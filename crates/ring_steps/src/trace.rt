@@ -1,4 +1,4 @@
-use super::calls::{Actor, Observed};
+use crate::calls::{Actor, Observed};
 use cursor::Answer;
 
 /// What a run did: its steps, and the events of the log in the order of their acting steps.

@@ -3,9 +3,9 @@ ghost use Rattle.ring_steps.specs.Acting.{acted, acting, but_packet, event_at, e
 ghost use Rattle.ring_steps.specs.Runs.{Turn};
 ghost use Rattle.ring_steps.specs.Traces.{IsByOneOf, IsOneOf, Waits, made_of, step_of};
 
-use super::calls::{Actor, Observed};
-use super::made::Made;
-use super::trace::{Trace, TraceEvent, TraceStep};
+use crate::calls::{Actor, Observed};
+use crate::made::Made;
+use crate::trace::{Trace, TraceEvent, TraceStep};
 use cursor::{Answer, Delivery};
 use std::alloc::{AllocError, Global};
 use std::mem;

@@ -1,6 +1,6 @@
 ghost use Rattle.std.specs.Prelude.{◌≡◌, ◌+◌, ◌<◌, ◌^◌};
 
-use super::words::Head;
+use crate::words::Head;
 use base_syntax::Bytes;
 use cursor::Account;
 

@@ -1,5 +1,5 @@
 //! Seats that are attached some packets back, over the plain log, over the running ring, and by the command `steps`.
-use super::running_tests::{ROOM, packet, sent, took};
+use crate::running_tests::{ROOM, packet, sent, took};
 use cursor::{Account, Left, PlainLog, PlainTap, Taken, Tap};
 use packet_ring::{Pass, Publisher, new};
 use ring_script::{PlanFault, put_trace, read_plan, script_of};

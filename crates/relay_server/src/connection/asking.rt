@@ -1,6 +1,6 @@
 //! How a connection's requests are decided.
-use super::Connection;
-use super::session_snapshot::SessionSnapshot;
+use crate::connection::Connection;
+use crate::connection::session_snapshot::SessionSnapshot;
 use crate::gate::Gate;
 use crate::heard_feed::HeardFeed;
 use base_syntax::{Bytes, Items};

@@ -1,5 +1,5 @@
 //! What is done for an answer, and how it is written.
-use super::Connection;
+use crate::connection::Connection;
 use crate::gate::Gate;
 use crate::heard_feed::HeardFeed;
 use cursor::{Left, Tap};

@@ -1,5 +1,5 @@
 //! What is done where a session has expired, or its connection was silent for too long.
-use super::Connection;
+use crate::connection::Connection;
 use crate::gate::Gate;
 use interleaved::Sink;
 use relay_accounts::ConnectionEnd;

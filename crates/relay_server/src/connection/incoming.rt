@@ -3,7 +3,7 @@ ghost use Rattle.std.specs.Prelude.{◌≡◌, true, IfSome, IsSomeAnd};
 ghost use Rattle.pacing.specs.Insisting.{PublishesAtLast};
 ghost use Rattle.relay_accounts.specs.Incoming.{DropsFrames, PublishesFrames};
 
-use super::Connection;
+use crate::connection::Connection;
 use crate::gate::Gate;
 use interleaved::{Sink, Source};
 use publisher::{InReport, InStop};

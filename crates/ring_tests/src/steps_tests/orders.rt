@@ -1,5 +1,5 @@
 //! Every interleaving of small scripts: the plain log answers the same in the order of acting steps.
-use super::scripts::{answer_told, script};
+use crate::steps_tests::scripts::{answer_told, script};
 use cursor::{Answer, Call, Packet, PlainLog};
 use ring_steps::{Actor, Bytes, Config, Observed, Script, Seat, Trace, TraceEvent, run};
 use std::alloc::Global;

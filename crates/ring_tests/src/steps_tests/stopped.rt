@@ -1,5 +1,5 @@
 //! Runs in which one actor stops, and the others go on without it.
-use super::scripts::{event_told, schedule, script};
+use crate::steps_tests::scripts::{event_told, schedule, script};
 use ring_steps::{Actor, Config, Script, StepFault, Trace, run_out};
 use std::alloc::Global;
 use std::process::Abort;
