@@ -28,27 +28,33 @@ pub struct Times {
 
 impl Bench {
     pub fn new(alloc: Global, seed: u64, hasher: RandomState) -> Result<Bench> {
-        let mut book = Book::new(alloc, 1, hasher);
-        let (Ok(owner), Ok(conn)) = (book.connect(), book.connect()) else {
-            bail!("no connection can come");
-        };
-        let given = Given {
-            word: (seed % (1 << 32)) as u32,
-            points: Items::empty(alloc),
-            now: 0,
-        };
+        let request = texts::announce(alloc, b"kept", false, seed)?;
+        let passes = one_pass(alloc)?;
         let mut bench = Bench {
             alloc,
             seed,
-            book,
-            conn,
-            given,
+            book: Book::new(alloc, 1, hasher),
+            conn: 0,
+            given: Given {
+                word: (seed % (1 << 32)) as u32,
+                points: Items::empty(alloc),
+                now: 0,
+            },
         };
-        let request = texts::announce(alloc, b"kept", false, seed)?;
-        let mut passes = Vec::new(alloc);
-        passes.push(0)?;
-        bench.accepts(owner, &request, Some(passes));
-        Ok(bench)
+        if bench.open(&request, passes) {
+            Ok(bench)
+        } else {
+            bail!("no mount can be kept")
+        }
+    }
+
+    /// Two connections come, of which one announces the mount and the other one asks. Whether they could.
+    fn open(&mut self, request: &Request, passes: Vec<u16>) -> bool {
+        let (Ok(owner), Ok(conn)) = (self.book.connect(), self.book.connect()) else {
+            return false;
+        };
+        self.conn = conn;
+        self.accepts(owner, request, Some(passes))
     }
 
     /// Times an OPTIONS.
@@ -66,15 +72,18 @@ impl Bench {
     /// Times an ANNOUNCE, each of a connection that comes before it and hangs up after it, which isn't timed.
     pub fn announce(&mut self, rt: &impl Clock, rounds: u64) -> Result<Times> {
         let request = texts::announce(self.alloc, b"bench", true, self.seed)?;
+        self.announce_each(rt, &request, rounds)
+    }
+
+    fn announce_each(&mut self, rt: &impl Clock, request: &Request, rounds: u64) -> Result<Times> {
         let mut times = Times::default();
         for _ in 0..rounds {
             let Ok(conn) = self.book.connect() else {
                 bail!("no connection can come");
             };
-            let mut passes = Vec::new(self.alloc);
-            passes.push(0)?;
+            let passes = one_pass(self.alloc)?;
             let start = Instant::now(rt)?;
-            let accepted = self.accepts(conn, &request, Some(passes));
+            let accepted = self.accepts(conn, request, Some(passes));
             times.add(accepted, start.elapsed(rt)?.as_nanos());
             self.book.hangup(conn);
         }
@@ -99,6 +108,11 @@ impl Bench {
             Err(_) => false,
         }
     }
+}
+
+/// What an ANNOUNCE offers.
+fn one_pass(alloc: Global) -> Result<Vec<u16>> {
+    Ok(vec![in alloc; 0]?)
 }
 
 impl Times {

@@ -9,6 +9,8 @@ use anyhow::bail;
 use bench::{Bench, Times};
 use std::collections::hash_map::RandomState;
 use std::fmt::Display;
+use std::io::{Eprint, Print};
+use std::time::Clock;
 
 fn main(rt: HostRuntime) -> anyhow::Result<()> {
     let alloc = rt.alloc();
@@ -19,12 +21,17 @@ fn main(rt: HostRuntime) -> anyhow::Result<()> {
         bail!("no random source");
     };
     let mut bench = Bench::new(alloc, seed, hasher)?;
-    let options = bench.options(&rt, rounds)?;
-    tell(&rt, "OPTIONS", rounds, &options)?;
-    let describe = bench.describe(&rt, rounds)?;
-    tell(&rt, "DESCRIBE", rounds, &describe)?;
-    let announce = bench.announce(&rt, rounds)?;
-    tell(&rt, "ANNOUNCE", rounds, &announce)
+    time(&rt, &mut bench, rounds)
+}
+
+/// Times each of the three requests.
+fn time(rt: &(impl Print + Eprint + Clock), bench: &mut Bench, rounds: u64) -> anyhow::Result<()> {
+    let options = bench.options(rt, rounds)?;
+    tell(rt, "OPTIONS", rounds, &options)?;
+    let describe = bench.describe(rt, rounds)?;
+    tell(rt, "DESCRIBE", rounds, &describe)?;
+    let announce = bench.announce(rt, rounds)?;
+    tell(rt, "ANNOUNCE", rounds, &announce)
 }
 
 /// A word of the command line, as a number.
@@ -34,7 +41,7 @@ fn number(word: Option<&String>) -> Option<u64> {
 
 /// Writes a line of times, and one of answers.
 fn tell(
-    rt: &(impl std::io::Print + std::io::Eprint),
+    rt: &(impl Print + Eprint),
     name: impl Display + Copy,
     rounds: u64,
     times: &Times,

@@ -34,18 +34,27 @@ pub fn describe(alloc: Global, seed: u64) -> Result<Request> {
 pub fn announce(alloc: Global, mount: &[u8], long: bool, seed: u64) -> Result<Request> {
     let body = description(alloc, if long { LINES } else { 0 }, seed)?;
     let mut text = Vec::new(alloc);
-    text.extend_from_slice(b"ANNOUNCE rtsp://127.0.0.1:8554/")?;
-    text.extend_from_slice(mount)?;
-    text.extend_from_slice(b" RTSP/1.0\r\nCSeq: ")?;
-    put_number(&mut text, seed)?;
-    text.extend_from_slice(b"\r\nContent-Type: application/sdp\r\nContent-Length: ")?;
-    put_number(&mut text, body.len() as u64)?;
-    text.extend_from_slice(b"\r\n\r\n")?;
-    text.extend_from_slice(&body)?;
+    put_announce(&mut text, mount, &body, seed)?;
     read(alloc, &text)
 }
 
-/// A description with so many lines behind its front.
+fn put_announce(
+    text: &mut Vec<u8>,
+    mount: &[u8],
+    body: &[u8],
+    seed: u64,
+) -> std::result::Result<(), AllocError> {
+    text.extend_from_slice(b"ANNOUNCE rtsp://127.0.0.1:8554/")?;
+    text.extend_from_slice(mount)?;
+    text.extend_from_slice(b" RTSP/1.0\r\nCSeq: ")?;
+    put_number(text, seed)?;
+    text.extend_from_slice(b"\r\nContent-Type: application/sdp\r\nContent-Length: ")?;
+    put_number(text, body.len() as u64)?;
+    text.extend_from_slice(b"\r\n\r\n")?;
+    text.extend_from_slice(body)
+}
+
+/// A description with so many lines after its front.
 fn description(alloc: Global, lines: u32, seed: u64) -> Result<Vec<u8>> {
     let mut text = Vec::new(alloc);
     text.extend_from_slice(FRONT)?;

@@ -6,6 +6,9 @@ use crate::rings::Rings;
 use crate::serving::{book_of, shared_over, told_by};
 use crate::words::OneWord;
 use relay_fanout::{Offers, RingMaker};
+use std::alloc::Global;
+use std::sync::Arc;
+use std::thread;
 use std::time::{Duration, Instant};
 
 /// How many may stand in no mount.
@@ -59,4 +62,26 @@ fn four_offers_may_stand_in_no_mount(rt: HostRuntime) {
     assert!(rt; passed >= Duration::from_millis(1_900));
     offers.leave(&rt);
     assert!(rt; matches!(offers.take(&rt), Ok(None)));
+}
+
+/// It waits no longer than for that.
+#[test]
+fn a_fifth_offer_may_be_made_once_one_of_four_is_left(rt: HostRuntime) {
+    let alloc = rt.alloc();
+    let offers: Arc<Offers<RingMaker>, Global> = Arc::new(alloc, Offers::new()).expect(
+        &rt, "memory",
+    );
+    for _ in 0..MOST {
+        assert!(rt; matches!(offers.take(&rt), Ok(None)));
+    }
+    let theirs = Arc::try_clone(&offers).expect(&rt, "a count of its users");
+    let began = Instant::now(&rt).expect(&rt, "a clock");
+    let fifth = thread::spawn(&rt, move || matches!(theirs.take(&rt), Ok(None)));
+    thread::sleep(&rt, Duration::from_millis(100));
+    offers.leave(&rt);
+    assert!(rt; fifth.expect(&rt, "a thread").join(&rt));
+    let passed = Instant::now(&rt)
+        .expect(&rt, "a clock")
+        .duration_since(began);
+    assert!(rt; passed < Duration::from_millis(1_900));
 }

@@ -146,7 +146,7 @@ fn a_book_of_forty_entries_does_not_grow(rt: HostRuntime) -> Result<(), Fail> {
         open: None,
     };
     for conn in 1..=VISITS {
-        wanted = visited(&mut book, alloc, conn, wanted).ok_or("it keeps something else")?;
+        wanted = visited(&mut book, alloc, conn, wanted).expect(&rt, "what it keeps");
     }
     Ok(())
 }

@@ -4,6 +4,7 @@ use mounts::{Mount, Mounts, ends_in_track, is_name};
 use sdp::Description;
 use std::alloc::Global;
 use std::collections::hash_map::RandomState;
+use std::process::Abort;
 use std::test::Fail;
 
 /// A description of two tracks, one with a control of its own.
@@ -132,16 +133,19 @@ fn part(first: &mut Mounts, second: &mut Mounts, alloc: Global, seat: usize) -> 
 }
 
 /// Whether a table and its copy part, of which the one or the other goes on first.
-fn tables_part(alloc: Global, hasher: RandomState, is_copy_first: bool) -> Option<bool> {
+fn tables_part(rt: &impl Abort, alloc: Global, hasher: RandomState, is_copy_first: bool) -> bool {
     let mut mounts = Mounts::new(alloc, 2, hasher);
-    announced(&mut mounts, alloc, 7, b"a")?;
-    announced(&mut mounts, alloc, 8, b"b")?;
-    let seat = mounts.take_seat(1)?;
-    let mut copied = mounts.copy().ok()?;
+    let numbers = [
+        announced(&mut mounts, alloc, 7, b"a"),
+        announced(&mut mounts, alloc, 8, b"b"),
+    ];
+    assert!(rt; numbers == [Some(1), Some(2)]);
+    let seat = mounts.take_seat(1).expect(rt, "a seat");
+    let mut copied = mounts.copy().ok().expect(rt, "memory");
     if is_copy_first {
-        Some(part(&mut copied, &mut mounts, alloc, seat))
+        part(&mut copied, &mut mounts, alloc, seat)
     } else {
-        Some(part(&mut mounts, &mut copied, alloc, seat))
+        part(&mut mounts, &mut copied, alloc, seat)
     }
 }
 
@@ -150,7 +154,7 @@ fn a_copied_table_goes_its_own_way(rt: HostRuntime) -> Result<(), Fail> {
     let hasher = RandomState::new(&rt)?;
     for is_copy_first in [false, true] {
         assert!(rt;
-            tables_part(rt.alloc(), hasher, is_copy_first) == Some(true),
+            tables_part(&rt, rt.alloc(), hasher, is_copy_first),
             "{is_copy_first}"
         );
     }

@@ -87,7 +87,7 @@ fn as_many_seats_as_there_may_be_are_handed_out(rt: HostRuntime) -> Result<(), F
     let alloc = rt.alloc();
     let mut book: Book<u16> = Book::new(alloc, MOST, RandomState::new(&rt)?);
     assert!(rt; is_set_up(&mut book, alloc));
-    let mut is_out = vec![in alloc; false; MOST]?;
+    let mut is_out = vec![in alloc; false; MOST].expect(&rt, "memory");
     for _ in 0..MOST {
         assert!(rt; takes_another(&mut book, alloc, is_out.as_mut_slice()));
     }

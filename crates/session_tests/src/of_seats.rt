@@ -133,7 +133,7 @@ fn a_session_is_told_with_its_channels(rt: HostRuntime) -> Result<(), Fail> {
     let alloc = rt.alloc();
     let mut book: Book<u16> = Book::new(alloc, 2, RandomState::new(&rt)?);
     assert!(rt; opened(&mut book, alloc));
-    let session = book.session_of(1).ok_or("no session")?;
+    let session = book.session_of(1).expect(&rt, "a session");
     assert!(rt; session.state == State::Recording && session.mount == 1);
     assert!(rt; session.channels.tag_on(8) == Some(0) && session.channels.tag_on(9) == Some(1));
     assert!(rt; book.session_of(2).is_none());

@@ -4,6 +4,7 @@ use base_syntax::Items;
 use session_state::{Act, Given, Session, State, World};
 use std::alloc::Global;
 use std::collections::hash_map::RandomState;
+use std::process::Abort;
 use std::test::Fail;
 
 const ANNOUNCE_A: &[u8] =
@@ -158,14 +159,14 @@ fn part(first: &mut World, second: &mut World, alloc: Global, seat: usize) -> bo
 }
 
 /// Whether a world and its copy part, of which the one or the other goes on first.
-fn worlds_part(alloc: Global, hasher: RandomState, is_copy_first: bool) -> Option<bool> {
+fn worlds_part(rt: &impl Abort, alloc: Global, hasher: RandomState, is_copy_first: bool) -> bool {
     let mut world = World::new(alloc, 2, hasher);
-    let seat = begin(&mut world, alloc)?;
-    let mut copied = world.copy(alloc).ok()?;
+    let seat = begin(&mut world, alloc).expect(rt, "a seat");
+    let mut copied = world.copy(alloc).ok().expect(rt, "memory");
     if is_copy_first {
-        Some(part(&mut copied, &mut world, alloc, seat))
+        part(&mut copied, &mut world, alloc, seat)
     } else {
-        Some(part(&mut world, &mut copied, alloc, seat))
+        part(&mut world, &mut copied, alloc, seat)
     }
 }
 
@@ -174,7 +175,7 @@ fn a_copied_world_goes_its_own_way(rt: HostRuntime) -> Result<(), Fail> {
     let hasher = RandomState::new(&rt)?;
     for is_copy_first in [false, true] {
         assert!(rt;
-            worlds_part(rt.alloc(), hasher, is_copy_first) == Some(true),
+            worlds_part(&rt, rt.alloc(), hasher, is_copy_first),
             "{is_copy_first}"
         );
     }

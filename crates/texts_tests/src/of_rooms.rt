@@ -1,6 +1,7 @@
-//! How much room there is for more than what is in units, in copies of requests and in the lists of both.
+//! How much room there is for more than what is in units, in copies of requests and of replies, in the lists of them and in texts.
+use crate::of_rtsp_message::all_fields;
 use base_syntax::Bytes;
-use rtsp_message::{Header, Reader, Request, Unit};
+use rtsp_message::{Fields, Header, Reader, Reply, Request, Status, Unit, put_reply};
 use std::alloc::{AllocError, Global};
 use std::process::Abort;
 
@@ -85,4 +86,58 @@ fn units_take_at_most_twice_the_room_they_need(rt: HostRuntime) {
             }
         }
     }
+}
+
+/// A reply with each field, and a body of so many bytes as many frames have.
+fn long_reply(rt: &impl Abort, alloc: Global) -> Reply {
+    Reply {
+        status: Status::Ok,
+        cseq: Some(1),
+        fields: all_fields(alloc),
+        body: Bytes::from_slice(alloc, &[b'a'; MANY]).expect(rt, "memory"),
+    }
+}
+
+/// Looks at the room of each text of a reply.
+fn look_at_reply(rt: &impl Abort, reply: Reply) {
+    let Reply { fields, body, .. } = reply;
+    look_at_bytes(rt, body);
+    let Fields {
+        session,
+        public,
+        allow,
+        unsupported,
+        transport,
+        rtp_info,
+        content_base,
+        content_type,
+    } = fields;
+    let values = [
+        session,
+        public,
+        allow,
+        unsupported,
+        transport,
+        rtp_info,
+        content_base,
+        content_type,
+    ];
+    for value in values {
+        look_at_bytes(rt, value.expect(rt, "a field"));
+    }
+}
+
+#[test]
+fn replies_take_at_most_twice_the_room_they_need(rt: HostRuntime) {
+    let alloc = rt.alloc();
+    let reply = long_reply(&rt, alloc);
+    look_at_reply(&rt, reply.copy(alloc).expect(&rt, "memory"));
+    let mut text = Vec::new(alloc);
+    put_reply(&mut text, &reply).expect(&rt, "memory");
+    assert!(rt;
+        is_close(text.capacity(), text.len()),
+        "{} of {}",
+        text.len(),
+        text.capacity()
+    );
 }

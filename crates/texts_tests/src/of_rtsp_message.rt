@@ -13,7 +13,7 @@ fn given(alloc: Global, value: &[u8]) -> Option<Bytes> {
 }
 
 /// Each field that a reply may have, with a value.
-fn all_fields(alloc: Global) -> Fields {
+pub(crate) fn all_fields(alloc: Global) -> Fields {
     Fields {
         session: given(alloc, b"0"),
         public: given(alloc, b"P"),
