@@ -1,9 +1,7 @@
-//! Seats that are attached some packets back, over the plain log, over the running ring, and by the command `steps`.
+//! Seats that are attached some packets back, over the plain log and over the running ring.
 use crate::running_tests::{ROOM, packet, sent, took};
 use cursor::{Account, Left, PlainLog, PlainTap, Taken, Tap};
 use packet_ring::{Pass, Publisher, new};
-use ring_script::{PlanFault, put_trace, read_plan, script_of};
-use ring_steps::run;
 use std::alloc::Global;
 use std::process::Abort;
 
@@ -134,61 +132,4 @@ fn ring_loses_what_lay_back(rt: HostRuntime) {
     assert!(rt; took(&mut seat, &mut buf) == packet(3, 1) && buf[0] == b'D');
     let (_pass, told) = seat.detach();
     assert!(rt; told == left(2, 1, 0));
-}
-
-/// What the command tells of this input.
-fn told(rt: &impl Abort, alloc: Global, input: &[u8]) -> Vec<u8> {
-    let plan = read_plan(alloc, input).ok().expect(rt, "a plan");
-    let script = script_of(alloc, 1, plan.calls).expect(rt, "memory");
-    let schedule = plan.schedule.as_slice();
-    let trace = run(alloc, &plan.config, &script, schedule)
-        .ok()
-        .expect(rt, "a run");
-    let mut text = Vec::new(alloc);
-    put_trace(&mut text, &trace).expect(rt, "memory");
-    text
-}
-
-/// The seat asks for more than the ring keeps, and takes the older one of the two packets that it keeps.
-const BACK: &[u8] = b"keep 2\nseats 1\np 41\np 42\np 43\n0 attach 5\n0 take\ngo p*15 0*6\n";
-
-const BACK_TRACE: &[u8] =
-    b"0 p begin 0 0 0\n1 p len 1\n2 p byte 41\n3 p finish 0 1 0\n4 p append 1\n5 p begin 0 0 0\n6 p len 1\n7 p byte 42\n8 p finish 0 1 0\n9 p append 2\n10 p begin 0 0 0\n11 p len 1\n12 p byte 43\n13 p finish 0 1 0\n14 p append 3\n15 0 load 3 0\n16 0 load 3 0\n17 0 pin 0 0 2\n18 0 len 1\n19 0 byte 42\n20 0 unpin 1 0 2\n@4 p appended 0\n@9 p appended 1\n@14 p appended 2\n@15 0 attach 1\n@16 0 took 1 42\n";
-
-#[test]
-fn steps_begin_back(rt: HostRuntime) {
-    let alloc = rt.alloc();
-    assert_eq!(rt; told(&rt, alloc, BACK).as_slice(), BACK_TRACE);
-    let rows: [(&[u8], &[u8]); 3] = [
-        (
-            b"keep 2\nseats 1\n0 attach\n0 detach\ngo 0 0\n",
-            b"0 0 load 0 0\n1 0 load 0 0\n@0 0 attach 0\n@1 0 detach 0 0 0\n",
-        ),
-        (
-            b"keep 1\nseats 1\np 41\n0 attach 0\ngo p*5 0\n",
-            b"0 p begin 0 0 0\n1 p len 1\n2 p byte 41\n3 p finish 0 1 0\n4 p append 1\n5 0 load 1 0\n@4 p appended 0\n@5 0 attach 1\n",
-        ),
-        (
-            b"keep 1\nseats 1\np 41\n0 attach 000000001\ngo p*5 0\n",
-            b"0 p begin 0 0 0\n1 p len 1\n2 p byte 41\n3 p finish 0 1 0\n4 p append 1\n5 0 load 1 0\n@4 p appended 0\n@5 0 attach 0\n",
-        ),
-    ];
-    for (input, want) in rows {
-        assert_eq!(rt; told(&rt, alloc, input).as_slice(), want);
-    }
-}
-
-/// No number, ten digits, another byte than a digit, and a space too many.
-#[test]
-fn steps_refuse_other_numbers(rt: HostRuntime) {
-    let inputs: [&[u8]; 5] = [
-        b"keep 2\nseats 1\n0 attach \ngo 0\n",
-        b"keep 2\nseats 1\n0 attach 1234567890\ngo 0\n",
-        b"keep 2\nseats 1\n0 attach +1\ngo 0\n",
-        b"keep 2\nseats 1\n0 attach  1\ngo 0\n",
-        b"keep 2\nseats 1\n0 attach 1 \ngo 0\n",
-    ];
-    for input in inputs {
-        assert!(rt; read_plan(rt.alloc(), input).err() == Some(PlanFault::BadLine(3)));
-    }
 }

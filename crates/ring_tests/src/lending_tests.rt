@@ -114,56 +114,6 @@ fn held_while_its_frame_is_written(rt: HostRuntime) {
     assert!(rt; sink.answers == Some([Ok(1), Ok(2), Err(Refused::Pinned { pins: 1 })]));
 }
 
-/// So many packets are published while one is looked at.
-const PUBLISHES: u64 = 10_000;
-
-/// Publishes on while it looks at packet 0, and counts what became of that.
-#[derive(Drop)]
-struct PublishingOn<'a> {
-    publisher: &'a mut Publisher,
-    /// How many were appended, each with the next number.
-    appended: u64,
-    /// How many were refused for this one seat.
-    pinned: u64,
-}
-
-impl Visit for PublishingOn<'_> {
-    ghost packet_bytes = { λ _. 64 };
-
-    ghost see_gives = { λ old packet new. Unit {0} };
-
-    fn see(&mut self, _tag: u8, _bytes: &[u8]) {
-        for _ in 0..PUBLISHES {
-            match sent(self.publisher, b"B") {
-                Ok(number) if number == self.appended.saturating_add(1) => {
-                    self.appended = number;
-                }
-                Err(Refused::Pinned { pins: 1 }) => self.pinned = self.pinned.saturating_add(1),
-                Ok(_) | Err(_) => {}
-            }
-        }
-    }
-}
-
-/// Only those that need its place are refused.
-#[test]
-fn published_on_while_lent(rt: HostRuntime) {
-    let (mut publisher, mut passes) = new(rt.alloc(), 2, 1, ROOM).expect(&rt, "memory");
-    let mut seat = passes.pop().expect(&rt, "no pass").attach();
-    assert!(rt; sent(&mut publisher, b"A") == Ok(0));
-    let mut visitor = PublishingOn {
-        publisher: &mut publisher,
-        appended: 0,
-        pinned: 0,
-    };
-    assert!(rt; seat.packet_bytes() <= ROOM);
-    if seat.packet_bytes() <= ROOM {
-        assert!(rt; Some(seat.take_with(&mut visitor)) == packet(0, 1));
-    }
-    assert!(rt; visitor.appended == 2 && visitor.pinned == PUBLISHES.saturating_sub(2));
-    assert!(rt; sent(&mut publisher, b"C") == Ok(3));
-}
-
 /// Compares packets with what was published under their numbers, where they lie.
 #[derive(Drop)]
 struct Comparing {

@@ -1,5 +1,5 @@
 //! What stands where a request for memory is refused. `tools/refuse-memory` runs each of these once for each request that it
-//! makes, with that one refused: then it ends for want of memory before what it shows, or passes.
+//! makes, with that one refused: then it ends, out of memory, before what it shows, or passes.
 use crate::log_tests::{pumped, tap_behind};
 use crate::running_tests::{ROOM, packet, ring_of_two, sent, took};
 use base_syntax::Bytes;
@@ -58,7 +58,7 @@ fn both(out: &[Packet]) -> Option<(&[u8], &[u8])> {
 #[test]
 fn a_pump_that_stopped_goes_on(rt: HostRuntime) {
     let alloc = rt.alloc();
-    let mut tap = tap_behind(&rt, alloc, 2, &[b"A", b"B"], 1);
+    let mut tap = tap_behind(&rt, alloc, 2, &[b"A", b"B"]);
     let mut out = Vec::new(alloc);
     if let Err(stopped) = pump(alloc, &mut tap, 9, &mut out) {
         assert!(rt; out.len() as u64 == stopped.takes && tap.cursor() == stopped.takes);

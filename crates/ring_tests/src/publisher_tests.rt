@@ -1,28 +1,26 @@
 //! Frames that come in and are published.
-ghost use Rattle.std.specs.Prelude.{◌≤◌, None, ⊤};
+ghost use Rattle.std.specs.Prelude.{None, ⊤};
 
+use crate::player_tests::one_track;
 use cursor::{Feed, Packet, PlainFeed, PlainLog, PlainTap, Refused, pump};
 use interleaved::{Failed, ListSource, Source};
-use publisher::{InReport, InStop, is_rtp, point_of, relay_in};
+use publisher::{InReport, InStop, relay_in};
 use rtsp_message::Intake;
 use std::alloc::Global;
 use std::cell::Cell;
 use std::process::Abort;
-use transport_header::{ChannelPair, Point, TrackChannels};
+use transport_header::{Point, TrackChannels};
 
 /// An RTP packet of twelve bytes: number 7, timestamp 9000.
 const RTP: [u8; 12] = [0x80, 0x60, 0, 7, 0, 0, 0x23, 0x28, 0, 0, 0, 0];
 
-/// A feed of packets of at most twelve bytes that answers what it is given to answer, one after another, and
-/// counts what it takes.
+/// A feed of packets of at most twelve bytes that takes each of them, and counts them.
 #[derive(Drop)]
-struct Answering<'a> {
-    refusals: [Option<Refused>; 4],
-    offered: usize,
+struct Counting<'a> {
     published: &'a Cell<usize>,
 }
 
-impl Feed for Answering<'_> {
+impl Feed for Counting<'_> {
     ghost told = { λ _. None };
 
     ghost packet_bytes = { λ _. 12 };
@@ -35,15 +33,8 @@ impl Feed for Answering<'_> {
         if bytes.len() > self.packet_bytes() {
             return Err(Refused::TooLong);
         }
-        let at = self.offered % 4;
-        self.offered = self.offered.wrapping_add(1);
-        match self.refusals[at] {
-            Some(Refused::TooLong) | None => {
-                self.published.set(self.published.get().saturating_add(1));
-                Ok(0)
-            }
-            Some(refused) => Err(refused),
-        }
+        self.published.set(self.published.get().saturating_add(1));
+        Ok(0)
     }
 
     fn packet_bytes(&self) -> usize {
@@ -98,33 +89,15 @@ fn point(seq: u16) -> Point {
     Point { seq, rtptime: 9000 }
 }
 
-/// The channels of tracks, where they may have them.
-fn set_up(tracks: &[(usize, u8, u8)]) -> TrackChannels {
-    let mut channels = TrackChannels::new();
-    for (track, first, second) in tracks {
-        let pair = ChannelPair {
-            first: *first,
-            second: *second,
-        };
-        if *track < 16 && channels.may_have(*track, pair) {
-            channels.set(*track, pair);
-        }
-    }
-    channels
-}
-
 /// What a stream's frames come to, over any feed.
 fn relay<F: Feed>(
     alloc: Global,
     stream: Vec<u8>,
-    fail_at: Option<usize>,
     feed: &mut F,
     channels: &TrackChannels,
     points: &mut [Option<Point>; 16],
 ) -> InReport {
-    // A long stream comes in long pieces.
-    let piece = 5 + stream.len() / 16;
-    let mut intake = Intake::new(alloc, ListSource::new(stream, piece, fail_at));
+    let mut intake = Intake::new(alloc, ListSource::new(stream, 15, None));
     let _sixteen = channels.pair_of(0);
     relay_in(&mut intake, feed, channels, points)
 }
@@ -173,13 +146,6 @@ fn logged(rt: &impl Abort, alloc: Global) -> PlainFeed {
     PlainFeed::new(log)
 }
 
-/// A feed of packets of at most so many bytes, whose log has no seat.
-fn seatless(rt: &impl Abort, alloc: Global, packet_bytes: usize) -> PlainFeed
-    requires { packet_bytes ≤ 65535 }
-{
-    PlainFeed::new(PlainLog::new(alloc, 9, 0, packet_bytes).expect(rt, "memory"))
-}
-
 /// The packets that were published.
 fn packets_of(rt: &impl Abort, alloc: Global, feed: PlainFeed) -> Vec<Packet> {
     let log = feed.into_log();
@@ -224,72 +190,20 @@ fn row_frames_in(rt: HostRuntime) {
     }
     let mut feed = logged(&rt, alloc);
     let mut points = NO_POINTS;
-    let channels = set_up(&[(0, 0, 1)]);
-    let report = relay(alloc, stream, None, &mut feed, &channels, &mut points);
+    let channels = one_track(0, 1);
+    let report = relay(alloc, stream, &mut feed, &channels, &mut points);
     assert_eq!(rt; told(&report), ([2, 0, 2, 0, 0, 4, 1], "end"));
     assert!(rt; points[0] == Some(point(7)) && points[1] == None);
     let packets = packets_of(&rt, alloc, feed);
     assert!(rt; are_of_the_row(packets.as_slice()));
 }
 
-/// Appends an RTP packet of twelve bytes with this number as a frame on the channel.
-fn put_numbered(rt: &impl Abort, stream: &mut Vec<u8>, channel: u8, number: u8) {
+/// Appends an RTP packet of twelve bytes with this number as a frame on channel 0.
+fn put_numbered(rt: &impl Abort, stream: &mut Vec<u8>, number: u8) {
     stream
-        .extend_from_slice(&[0x24, channel, 0, 12, 0x80, 0x60, 0, number])
+        .extend_from_slice(&[0x24, 0, 0, 12, 0x80, 0x60, 0, number])
         .expect(rt, "memory");
     stream.extend_from_slice(&RTP[4..]).expect(rt, "memory");
-}
-
-#[test]
-fn each_channel_is_that_of_its_own_track(rt: HostRuntime) {
-    let alloc = rt.alloc();
-    let mut stream = Vec::new(alloc);
-    for channel in 0..=255 {
-        put_numbered(&rt, &mut stream, channel, channel);
-    }
-    let mut feed = logged(&rt, alloc);
-    let mut points = NO_POINTS;
-    // Two tracks, whose channels come in odd order.
-    let channels = set_up(&[(0, 6, 8), (1, 7, 5)]);
-    let report = relay(alloc, stream, None, &mut feed, &channels, &mut points);
-    assert_eq!(rt; told(&report), ([4, 0, 0, 0, 0, 0, 252], "end"));
-    assert!(rt; points[0] == Some(point(6)) && points[1] == Some(point(7)) && points[2] == None);
-    // RTCP of the second track, RTP of the first and of the second, and RTCP of the first.
-    let want = [(3, 5), (0, 6), (2, 7), (1, 8)];
-    let packets = packets_of(&rt, alloc, feed);
-    assert_eq!(rt; packets.len(), want.len());
-    for (packet, (tag, number)) in packets.iter().zip(want) {
-        assert_eq!(rt;
-            (packet.tag, packet.bytes.as_slice().get(3)),
-            (tag, Some(&number))
-        );
-    }
-}
-
-#[test]
-fn each_answer_of_a_feed_is_counted(rt: HostRuntime) {
-    let alloc = rt.alloc();
-    let mut stream = Vec::new(alloc);
-    for number in 0..8 {
-        put_numbered(&rt, &mut stream, 6, number);
-    }
-    put_rtp(&rt, &mut stream, 6, 0x80, 13);
-    let published = Cell::new(0);
-    let mut feed = Answering {
-        refusals: [
-            None,
-            Some(Refused::Pinned { pins: 3 }),
-            Some(Refused::Worn),
-            Some(Refused::OutOfMemory),
-        ],
-        offered: 0,
-        published: &published,
-    };
-    let mut points = NO_POINTS;
-    let channels = set_up(&[(1, 6, 5)]);
-    let report = relay(alloc, stream, None, &mut feed, &channels, &mut points);
-    assert_eq!(rt; told(&report), ([2, 2, 1, 2, 2, 0, 0], "end"));
-    assert!(rt; points[0] == None && points[1] == Some(point(4)));
 }
 
 #[test]
@@ -297,7 +211,7 @@ fn each_frame_is_offered_before_more_is_read(rt: HostRuntime) {
     for piece in [1, 15, 16, 17, 40, 100] {
         let mut stream = Vec::new(rt.alloc());
         for number in 0..5 {
-            put_numbered(&rt, &mut stream, 0, number);
+            put_numbered(&rt, &mut stream, number);
         }
         let published = Cell::new(0);
         let late = Cell::new(false);
@@ -307,12 +221,10 @@ fn each_frame_is_offered_before_more_is_read(rt: HostRuntime) {
             published: &published,
             late: &late,
         };
-        let mut feed = Answering {
-            refusals: [None; 4],
-            offered: 0,
+        let mut feed = Counting {
             published: &published,
         };
-        let channels = set_up(&[(0, 0, 1)]);
+        let channels = one_track(0, 1);
         let mut points = NO_POINTS;
         let _sixteen = channels.pair_of(0);
         let mut intake = Intake::new(rt.alloc(), source);
@@ -335,11 +247,11 @@ fn no_frame_is_lost_where_memory_is_refused(rt: HostRuntime) {
     let alloc = rt.alloc();
     let mut stream = Vec::new(alloc);
     for number in 0..5 {
-        put_numbered(&rt, &mut stream, 0, number);
+        put_numbered(&rt, &mut stream, number);
     }
     let mut feed = logged(&rt, alloc);
     let mut points = NO_POINTS;
-    let channels = set_up(&[(0, 0, 1)]);
+    let channels = one_track(0, 1);
     let _sixteen = channels.pair_of(0);
     let mut intake = Intake::new(alloc, ListSource::new(stream, 40, None));
     // A run in which one request for memory is refused ends early, or leaves one frame unkept.
@@ -347,77 +259,4 @@ fn no_frame_is_lost_where_memory_is_refused(rt: HostRuntime) {
     let second = relay_in(&mut intake, &mut feed, &channels, &mut points);
     let all = published_or_unkept(&first).saturating_add(published_or_unkept(&second));
     assert_eq!(rt; (all, told(&second).1), (5, "end"));
-}
-
-#[test]
-fn each_stop(rt: HostRuntime) {
-    let alloc = rt.alloc();
-    let frame = b"$\x01\x00\x01x".as_slice();
-    // What stands after the first frame, and where the source fails.
-    let cases = [
-        (b"".as_slice(), None, "end"),
-        (b"$\x01\x00\x02x".as_slice(), None, "end"),
-        (
-            b"OPTIONS * RTSP/1.0\r\n\r\n$\x01\x00\x00".as_slice(),
-            None,
-            "message",
-        ),
-        (b"\r\n?\n".as_slice(), None, "fault"),
-        (b"$\x01\x00\x02xy".as_slice(), Some(8), "read failed"),
-    ];
-    for (behind, fail_at, stop) in cases {
-        let mut stream = Vec::from_slice(alloc, frame).expect(&rt, "memory");
-        stream.extend_from_slice(behind).expect(&rt, "memory");
-        let mut feed = seatless(&rt, alloc, 12);
-        let mut points = NO_POINTS;
-        let channels = set_up(&[(0, 0, 1)]);
-        let report = relay(alloc, stream, fail_at, &mut feed, &channels, &mut points);
-        assert_eq!(rt; told(&report), ([1, 0, 0, 0, 0, 0, 0], stop));
-    }
-}
-
-#[test]
-fn rtp_packets_by_their_bytes(rt: HostRuntime) {
-    let mut packet = [0; 72];
-    // The first byte, and how long a packet that begins with it is at least.
-    for (first, least) in [(0x80, 12), (0xbf, 72), (0xa1, 16)] {
-        packet[0] = first;
-        assert!(rt;
-            is_rtp(&packet[..least]) && !is_rtp(&packet[..least - 1]),
-            "{first}"
-        );
-    }
-    for first in [0, 0x40, 0xc0, 0x7f] {
-        packet[0] = first;
-        assert!(rt; !is_rtp(&packet), "{first}");
-    }
-    assert!(rt; !is_rtp(&[]));
-    let point = point_of(&[0x80, 0x60, 0xff, 0xfe, 0xfd, 0xfc, 0xfb, 0xfa, 0, 0, 0, 0]);
-    assert_eq!(rt; (point.seq, point.rtptime), (0xfffe, 0xfdfc_fbfa));
-}
-
-/// A frame of so many zero bytes on channel 1.
-fn largest_frame(rt: &impl Abort, alloc: Global, len: u16) -> Vec<u8> {
-    let [high, low] = len.to_be_bytes();
-    let mut stream = Vec::from_slice(alloc, &[0x24, 1, high, low]).expect(rt, "memory");
-    for _ in 0..len {
-        stream.push(0).expect(rt, "memory");
-    }
-    stream
-}
-
-#[test]
-fn the_largest_frame_is_published(rt: HostRuntime) {
-    let alloc = rt.alloc();
-    for (keeps, counts) in [
-        (65_535, [1, 0, 0, 0, 0, 0, 0]),
-        (65_534, [0, 0, 1, 0, 0, 0, 0]),
-    ] {
-        let stream = largest_frame(&rt, alloc, 65_535);
-        let mut feed = seatless(&rt, alloc, keeps);
-        let mut points = NO_POINTS;
-        let channels = set_up(&[(0, 0, 1)]);
-        let report = relay(alloc, stream, None, &mut feed, &channels, &mut points);
-        assert_eq!(rt; told(&report), (counts, "end"), "{keeps}");
-    }
 }

@@ -174,25 +174,6 @@ fn packet_limits(rt: HostRuntime) {
     }
 }
 
-/// A seat that takes nothing while many packets pass has lost all but those that the ring keeps.
-#[test]
-fn idle_seat(rt: HostRuntime) {
-    let (mut publisher, mut passes) = new(rt.alloc(), 16, 1, ROOM).expect(&rt, "memory");
-    let mut seat = passes.pop().expect(&rt, "no pass").attach();
-    let mut buf = [0; ROOM];
-    for number in 0..10_000 {
-        assert!(rt; sent(&mut publisher, b"A") == Ok(number));
-    }
-    assert!(rt; took(&mut seat, &mut buf) == Some(Taken::Lost(9_984)));
-    assert!(rt; took(&mut seat, &mut buf) == packet(9_984, 1));
-    let wanted = Account {
-        start: 0,
-        taken: 1,
-        lost: 9_984,
-    };
-    assert!(rt; seat.account() == wanted && seat.cursor() == 9_985 && seat.known() == 10_000);
-}
-
 /// A publisher that is dropped leaves an open log.
 #[test]
 fn publisher_dropped_early(rt: HostRuntime) {
@@ -229,34 +210,6 @@ pub(crate) fn ring_of_two(alloc: Global) -> Option<(Publisher, Pass, Pass)>
     let first = passes.pop()?;
     let second = passes.pop()?;
     Some((publisher, first, second))
-}
-
-/// Two seats that meet know what either knew.
-#[test]
-fn seats_meet(rt: HostRuntime) {
-    let (mut publisher, first, second) = ring_of_two(rt.alloc()).expect(&rt, "no ring");
-    let mut early = first.attach();
-    let _number = publisher.publish(3, b"A").expect(&rt, "refused");
-    let mut late = second.attach();
-    assert!(rt; early.known() == 0 && late.known() == 1);
-    early.meet(&mut late);
-    assert!(rt; early.known() == 1 && late.known() == 1);
-    let mut buf = [0; ROOM];
-    assert!(rt; took(&mut early, &mut buf) == packet(0, 1));
-    assert!(rt; took(&mut early, &mut buf) == Some(Taken::Empty));
-}
-
-/// A pass learns of a receipt's log, and of an older one nothing more.
-#[test]
-fn pass_learns(rt: HostRuntime) {
-    let (mut publisher, mut pass, _other) = ring_of_two(rt.alloc()).expect(&rt, "no ring");
-    let old = publisher.publish(3, b"A").expect(&rt, "refused");
-    let new = publisher.publish(3, b"B").expect(&rt, "refused");
-    assert!(rt; pass.known() == 0);
-    pass.learn(&new);
-    assert!(rt; pass.known() == 2);
-    pass.learn(&old);
-    assert!(rt; pass.known() == 2 && pass.attach().cursor() == 2);
 }
 
 /// The byte at a place of the packet with this number.

@@ -1,9 +1,7 @@
 //! Worked runs, byte for byte, and each way to refuse an input.
 use interleaved::{ListSink, ListSource};
-use ring_script::{
-    PlanFault, StepsEnd, put_trace, read_plan, run_steps, run_steps_out, script_of, steps_end,
-};
-use ring_steps::{Actor, StepFault, run};
+use ring_script::{StepsEnd, run_steps, run_steps_out, steps_end};
+use ring_steps::Actor;
 use std::alloc::{AllocError, Global};
 use std::process::Abort;
 
@@ -82,63 +80,6 @@ fn an_actor_stops_behind_the_schedule(rt: HostRuntime) {
         text.extend_from_slice(line.as_bytes())
             .expect(&rt, "memory");
         assert_eq!(&rt; text.as_slice(), want);
-    }
-}
-
-#[test]
-fn a_plan_is_read_run_and_told(rt: HostRuntime) {
-    let alloc = rt.alloc();
-    let plan = read_plan(alloc, LOST).ok().expect(&rt, "a plan");
-    let script = script_of(alloc, 1, plan.calls).expect(&rt, "memory");
-    let schedule = plan.schedule.as_slice();
-    let trace = run(alloc, &plan.config, &script, schedule)
-        .ok()
-        .expect(&rt, "a run");
-    let mut text = Vec::new(alloc);
-    put_trace(&mut text, &trace).expect(&rt, "memory");
-    assert_eq!(rt; text.as_slice(), LOST_TRACE);
-    assert!(rt; read_plan(alloc, b"keep 2\nkeep 2\n").err() == Some(PlanFault::BadLine(2)));
-}
-
-#[test]
-fn ends_and_their_lines(rt: HostRuntime) {
-    let rows = [
-        (StepsEnd::Done, 0, ""),
-        (StepsEnd::BadLine(7), 1, "relay: bad line 7"),
-        (
-            StepsEnd::Refused(StepFault::BadConfig),
-            1,
-            "relay: bad config",
-        ),
-        (
-            StepsEnd::Refused(StepFault::BadScript {
-                actor: Actor::Seat(0),
-                call: 0,
-            }),
-            1,
-            "relay: bad script 0 call 0",
-        ),
-        (
-            StepsEnd::Refused(StepFault::BadScript {
-                actor: Actor::P,
-                call: 2,
-            }),
-            1,
-            "relay: bad script p call 2",
-        ),
-        (
-            StepsEnd::Refused(StepFault::BadSchedule(0)),
-            1,
-            "relay: bad schedule at 0",
-        ),
-        (StepsEnd::ReadFailed, 1, "relay: read failed"),
-        (StepsEnd::WriteFailed, 1, "relay: write failed"),
-        (StepsEnd::OutOfMemory, 1, "relay: out of memory"),
-    ];
-    for (end, status, line) in rows {
-        let (is_status, is_line) = steps_end(rt.alloc(), &end).expect(&rt, "memory");
-        assert_eq!(rt; is_status, status);
-        assert_eq!(rt; is_line.as_str(), line);
     }
 }
 

@@ -1,8 +1,8 @@
-//! Tests of the decisions and of the book, over what these crates make public.
+//! Tests of the book, over what its crate makes public.
 //!
-//! They stand in a crate of their own, so that neither of the crates that they test is proved twice. What requests are
-//! answered is told by cases of `transcripts`; here is what takes code: many calls, passes that count their owners,
-//! seats of which any may be taken, and copies that part.
+//! They stand in a crate of their own, so that the one that they test isn't proved twice. What requests are answered is told
+//! by cases of `transcripts`, and what a clause says of every call has no test; here is what takes code: many calls, passes
+//! that count their owners, and seats of which any may be taken.
 #![tactic(auto)]
 
 #[cfg(test)]
@@ -10,12 +10,4 @@ mod asking;
 #[cfg(test)]
 mod of_books;
 #[cfg(test)]
-mod of_copies;
-#[cfg(test)]
-mod of_decisions;
-#[cfg(test)]
 mod of_passes;
-#[cfg(test)]
-mod of_seats;
-#[cfg(test)]
-mod of_worlds;

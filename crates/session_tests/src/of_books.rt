@@ -1,6 +1,6 @@
 //! Books of many connections and many requests, and what they keep of them.
-use crate::asking::{connects, is_accepted, status_of};
-use session_lock::{AskFault, Book};
+use crate::asking::{connects, is_accepted};
+use session_lock::Book;
 use session_state::{Act, ConnectFault};
 use std::alloc::Global;
 use std::collections::hash_map::RandomState;
@@ -70,7 +70,7 @@ fn comings_and_requests_cut_the_entries_off(rt: HostRuntime) -> Result<(), Fail>
     assert!(rt; book.hangup(2) == Act::None && book.kept() == 2);
     assert!(rt; book.hangup(1) == Act::None && book.kept() == 3);
     assert!(rt; book.base().is_open(2));
-    assert!(rt; status_of(&mut book, alloc, 3, OPTIONS) == Some(200) && book.kept() == 1);
+    assert!(rt; is_accepted(&mut book, alloc, 3, OPTIONS, None) && book.kept() == 1);
     assert!(rt; !book.base().is_open(2) && book.base().is_open(3));
     assert!(rt; book.retired().is_some_and(|base| base.is_open(2)));
     assert!(rt; book.connect() == Ok(4) && book.kept() == 2);
@@ -123,7 +123,7 @@ fn visited(book: &mut Book<u16>, alloc: Global, conn: u64, before: Wanted) -> Op
         return None;
     }
     let asked = come.after(Some(conn));
-    if status_of(book, alloc, conn, OPTIONS) != Some(200) || !keeps(book, asked) {
+    if !is_accepted(book, alloc, conn, OPTIONS, None) || !keeps(book, asked) {
         return None;
     }
     let left = asked.with_one();
@@ -164,18 +164,5 @@ fn who_has_left_is_kept_until_the_next_comes(rt: HostRuntime) -> Result<(), Fail
     assert!(rt; book.kept() == 24 + 1024 && book.base().count_open() == 1000);
     assert!(rt; book.connect() == Ok(1025));
     assert!(rt; book.kept() == 1 && book.base().count_open() == 0);
-    Ok(())
-}
-
-#[test]
-fn faults_have_numbers(rt: HostRuntime) -> Result<(), Fail> {
-    let faults: [AskFault<u16>; 3] = [
-        AskFault::NotOpen { back: None },
-        AskFault::BadOffer { back: None },
-        AskFault::NoMemory { back: None },
-    ];
-    for (fault, number) in faults.into_iter().zip([1, 2, 3]) {
-        assert_eq!(rt; fault.number(), number);
-    }
     Ok(())
 }

@@ -1,6 +1,6 @@
 //! The passes of a book: of as many seats as there may be, and of mounts that end.
-use crate::asking::{accepted, asked, connects, count_of, given_word, is_accepted};
-use session_lock::Book;
+use crate::asking::{accepted, asked, connects, is_accepted};
+use session_lock::{Answer, Book};
 use session_state::Act;
 use std::alloc::Global;
 use std::collections::hash_map::RandomState;
@@ -73,8 +73,7 @@ fn takes_another(book: &mut Book<u16>, alloc: Global, is_out: &mut [bool]) -> bo
 
 /// The status of a PLAY of connection 2 that is handed no pass.
 fn play_without_pass(book: &mut Book<u16>, alloc: Global) -> Option<u16> {
-    let given = given_word(alloc, 7);
-    let answer = asked(book, alloc, 2, PLAY, &given, None)?;
+    let answer = asked(book, alloc, 2, PLAY, None)?;
     if answer.pass.is_none() {
         Some(answer.reply.status.code())
     } else {
@@ -204,10 +203,13 @@ fn spare_passes_go_with_a_teardown(rt: HostRuntime) -> Result<(), Fail> {
 
 /// Whether connection 3, which owns a mount, is refused another and has its three passes back.
 fn is_refused_another(book: &mut Book<Counted>, alloc: Global, pass: &Counted) -> bool {
-    let given = given_word(alloc, 7);
-    match asked(book, alloc, 3, ANNOUNCE_A, &given, three(alloc, pass)) {
-        Some(answer) => answer.reply.status.code() == 403 && count_of(&answer.back) == 3,
-        None => false,
+    match asked(book, alloc, 3, ANNOUNCE_A, three(alloc, pass)) {
+        Some(Answer {
+            reply,
+            back: Some(back),
+            ..
+        }) => reply.status.code() == 403 && back.len() == 3,
+        _ => false,
     }
 }
 

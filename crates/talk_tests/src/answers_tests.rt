@@ -1,7 +1,7 @@
 //! Worked exchanges, byte for byte.
 use crate::devices::{Devices, Host, Still, expect_talk, in_pieces, made_host};
 use interleaved::{ListSink, ListSource};
-use relay_talk::{FixedWord, TalkEnd, do_talk, talk_end};
+use relay_talk::{FixedWord, TalkEnd, do_talk};
 use rtsp_message::Fault;
 use std::alloc::Global;
 use std::process::Abort;
@@ -152,89 +152,6 @@ fn a_head_too_long(rt: HostRuntime) -> Result<(), Fail> {
         TOO_LARGE,
         Fault::HeadTooLong,
     )
-}
-
-#[test]
-fn source_fails_at_each_place(rt: HostRuntime) -> Result<(), Fail> {
-    let host = made_host(&rt, 7)?;
-    for place in 0..32 {
-        let want = if place < 31 { &[] } else { OPTIONS_REPLY };
-        let devices = Devices {
-            fail_at: Some(place),
-            ..in_pieces(5)
-        };
-        expect_talk(&rt, host, OPTIONS, devices, want, &TalkEnd::ReadFailed)?;
-    }
-    Ok(())
-}
-
-/// Devices with this room for what is written.
-fn with_room(room: usize) -> Devices {
-    Devices {
-        room,
-        ..in_pieces(100)
-    }
-}
-
-#[test]
-fn sink_of_each_room(rt: HostRuntime) -> Result<(), Fail> {
-    let host = made_host(&rt, 7)?;
-    for room in 0..OPTIONS_REPLY.len() {
-        let want = &OPTIONS_REPLY[..room];
-        expect_talk(
-            &rt,
-            host,
-            OPTIONS,
-            with_room(room),
-            want,
-            &TalkEnd::WriteFailed,
-        )?;
-    }
-    Ok(())
-}
-
-#[test]
-fn a_sink_with_just_enough_room(rt: HostRuntime) -> Result<(), Fail> {
-    let host = made_host(&rt, 7)?;
-    let devices = with_room(OPTIONS_REPLY.len());
-    expect_talk(&rt, host, OPTIONS, devices, OPTIONS_REPLY, &TalkEnd::Done)
-}
-
-/// Ends of a talk, with the exit status and the line on standard error.
-const ENDS: [(TalkEnd, u8, &str); 7] = [
-    (TalkEnd::Done, 0, ""),
-    (
-        TalkEnd::StreamFault(Fault::BadLine),
-        1,
-        "relay: stream fault 1",
-    ),
-    (
-        TalkEnd::StreamFault(Fault::HeadTooLong),
-        1,
-        "relay: stream fault 4",
-    ),
-    (
-        TalkEnd::StreamFault(Fault::BodyTooLong),
-        1,
-        "relay: stream fault 5",
-    ),
-    (TalkEnd::ReadFailed, 1, "relay: read failed"),
-    (TalkEnd::WriteFailed, 1, "relay: write failed"),
-    (TalkEnd::OutOfMemory, 1, "relay: out of memory"),
-];
-
-/// Whether an end is told by this status and this line.
-fn is_reported(alloc: Global, end: &TalkEnd, status: u8, text: &str) -> Result<bool, Fail> {
-    let (told, line) = talk_end(alloc, end)?;
-    Ok(told == status && line.as_str() == text)
-}
-
-#[test]
-fn ends_are_reported(rt: HostRuntime) -> Result<(), Fail> {
-    for (end, status, text) in &ENDS {
-        assert!(rt; is_reported(rt.alloc(), end, *status, text)?);
-    }
-    Ok(())
 }
 
 /// What a talk tells: the status, the line for standard error and the output.

@@ -1,9 +1,6 @@
 //! A publisher's connection, byte for byte.
-ghost use Rattle.std.specs.Prelude.{◌≡◌};
-
-use crate::devices::{Devices, Host, expect_talk, in_pieces, made_host, outcome_of};
-use relay_talk::{TalkEnd, Talker};
-use session_state::Words;
+use crate::devices::{Devices, Host, expect_talk, in_pieces, made_host};
+use relay_talk::TalkEnd;
 use std::alloc::Global;
 use std::process::Abort;
 use std::test::Fail;
@@ -154,52 +151,6 @@ fn a_cameras_sink_of_each_room(rt: HostRuntime) -> Result<(), Fail> {
     Ok(())
 }
 
-/// Answers the words from this one on.
-#[derive(Drop)]
-struct CountedWords(u32);
-
-impl Words for CountedWords {
-    ghost gives = { λ old word new. word ≡ old.0 };
-
-    fn word(&mut self) -> u32 {
-        let word = self.0;
-        self.0 = word.wrapping_add(1);
-        word
-    }
-}
-
-/// Three requests and a frame, and a SETUP.
-const FOUR_REQUESTS: &[u8] =
-    b"OPTIONS * RTSP/1.0\n\n$\x00\x00\x00ANNOUNCE rtsp://h/a RTSP/1.0\nCSeq: 2\n\nANNOUNCE rtsp://h/a RTSP/1.0\nCSeq: 3\nContent-Length: 26\n\nv=0\nm=audio 0 RTP/AVP 0  \nSETUP rtsp://h/a/trackID=0 RTSP/1.0\nCSeq: 4\nTransport: RTP/AVP/TCP;mode=record\n\n";
-
-/// How the answer to the SETUP ends, with its word.
-const SET_UP: &[u8] =
-    b"Session: 000000010000000d\r\nTransport: RTP/AVP/TCP;unicast;interleaved=0-1;mode=\"RECORD\"\r\n\r\n";
-
-/// The SETUP is the fourth message: frames are none, and refused requests are.
-#[test]
-fn each_message_has_a_word(rt: HostRuntime) -> Result<(), Fail> {
-    let host = made_host(&rt, 0)?;
-    let mut words = CountedWords(10);
-    let outcome = outcome_of(host, FOUR_REQUESTS, in_pieces(100), &mut words)?;
-    assert!(rt; outcome.end == TalkEnd::Done && words.0 == 14);
-    assert!(rt; outcome.written.ends_with(SET_UP));
-    Ok(())
-}
-
-#[test]
-fn no_word_is_asked_for_behind_a_failed_write(rt: HostRuntime) -> Result<(), Fail> {
-    let input = b"OPTIONS * RTSP/1.0\nCSeq: 1\n\nOPTIONS * RTSP/1.0\nCSeq: 2\n\n";
-    let devices = Devices {
-        room: 3,
-        ..in_pieces(100)
-    };
-    let mut words = CountedWords(10);
-    let outcome = outcome_of(made_host(&rt, 0)?, input, devices, &mut words)?;
-    assert!(rt; outcome.end == TalkEnd::WriteFailed && words.0 == 11);
-    Ok(())
-}
-
 /// More requests than a reader holds at a time.
 const MANY: usize = 2000;
 
@@ -209,29 +160,4 @@ fn many_requests_of_one_talk(rt: HostRuntime) -> Result<(), Fail> {
     let input = b"GET_PARAMETER * RTSP/1.0\nCSeq: 1\n\n".repeat(host.alloc, MANY)?;
     let want = b"RTSP/1.0 200 OK\r\nCSeq: 1\r\n\r\n".repeat(host.alloc, MANY)?;
     expect_talk(&rt, host, &input, in_pieces(5000), &want, &TalkEnd::Done)
-}
-
-/// Whether an open connection leaves its book, in which two entries stand then.
-fn leaves(talker: &mut Talker) -> bool
-    requires { talker.old.book.seats ≡ 1 }
-{
-    if !talker.book.is_open(1) {
-        return false;
-    }
-    talker.leave();
-    !talker.book.is_open(1) && talker.book.kept() == 2
-}
-
-/// Whether a connection comes, and leaves its book.
-fn comes_and_leaves(host: Host) -> bool {
-    match Talker::connect(host.alloc, host.hasher) {
-        Ok(mut talker) => leaves(&mut talker),
-        Err(_) => false,
-    }
-}
-
-#[test]
-fn a_connection_leaves_its_book(rt: HostRuntime) -> Result<(), Fail> {
-    assert!(rt; comes_and_leaves(made_host(&rt, 0)?));
-    Ok(())
 }

@@ -1,8 +1,7 @@
-//! What an intake reads, and when: a source that counts its reads. How much room a reader and its units take, how often
-//! it looks at bytes, and a piece that is fed again.
+//! When an intake reads: a source that counts its reads. How much room a reader takes, how often it looks at bytes, and
+//! a piece that is fed again.
 use interleaved::{Failed, ListSource, Source};
-use rtsp_message::laws::{any_pieces, one_reading, readings_compose};
-use rtsp_message::{Intake, Next, Reader, Unit};
+use rtsp_message::{Intake, Reader};
 use std::alloc::Global;
 use std::cell::Cell;
 use std::test::Fail;
@@ -139,52 +138,6 @@ fn a_request_in_two_reads(rt: HostRuntime) -> Result<(), Fail> {
     Ok(())
 }
 
-/// What an intake answers next.
-fn answer(intake: &mut Intake<ListSource>) -> &'static str {
-    match intake.next() {
-        Next::Unit(_) => "unit;",
-        Next::End => "end;",
-        Next::Fault(_) => "fault;",
-        Next::ReadFailed => "read failed;",
-        Next::OutOfMemory => "out of memory;",
-    }
-}
-
-/// What an intake answers to so many calls.
-fn answers(alloc: Global, intake: &mut Intake<ListSource>, calls: usize) -> Result<String, Fail> {
-    let mut out = String::new(alloc);
-    for _ in 0..calls {
-        out.push_str(answer(intake))?;
-    }
-    Ok(out)
-}
-
-/// What an intake of a stream, whose source fails at a place, answers to five calls.
-fn five_answers(alloc: Global, stream: &[u8], fail_at: Option<usize>) -> Result<String, Fail> {
-    let source = ListSource::new(Vec::from_slice(alloc, stream)?, 3, fail_at);
-    let mut intake = Intake::new(alloc, source);
-    answers(alloc, &mut intake, 5)
-}
-
-/// A stream, the place at which its source fails, and what an intake answers to five calls.
-const ANSWERS: [(&[u8], Option<usize>, &str); 3] = [
-    (UNITS, None, "unit;unit;unit;end;end;"),
-    (
-        UNITS,
-        Some(40),
-        "unit;unit;read failed;read failed;read failed;",
-    ),
-    (b"\nA\nB", None, "fault;fault;fault;fault;fault;"),
-];
-
-#[test]
-fn an_intake_answers_for_good(rt: HostRuntime) -> Result<(), Fail> {
-    for (stream, fail_at, want) in ANSWERS {
-        assert_eq!(rt; five_answers(rt.alloc(), stream, fail_at)?.as_str(), want);
-    }
-    Ok(())
-}
-
 /// The reader's room after a piece of so many pads and these bytes.
 fn room_after(alloc: Global, pads: usize, end: &[u8]) -> Result<usize, Fail> {
     let mut piece = Vec::from_elem(alloc, b'\n', pads)?;
@@ -269,57 +222,5 @@ fn a_refused_piece_may_be_fed_again(rt: HostRuntime) -> Result<(), Fail> {
     assert!(rt; last == Some(1));
     // A first byte, each byte in search of an LF, three lines without theirs, and the whole head once more.
     assert_eq!(rt; (reader.looked(), reader.fed()), (1 + 31 + 28 + 31, 31));
-    Ok(())
-}
-
-/// The units of a piece.
-fn units_of(alloc: Global, piece: &[u8]) -> Result<Vec<Unit>, Fail> {
-    let mut reader = Reader::new(alloc);
-    Ok(reader.feed(piece)?.units)
-}
-
-/// The room of a unit's body or data.
-fn unit_room(unit: Unit) -> usize {
-    match unit {
-        Unit::Message(request) => request.body.into_vec().capacity(),
-        Unit::Frame(frame) => frame.payload.into_vec().capacity(),
-    }
-}
-
-#[test]
-fn a_unit_keeps_no_room_of_its_piece(rt: HostRuntime) -> Result<(), Fail> {
-    let mut piece = Vec::from_elem(rt.alloc(), b'\n', 100_000)?;
-    piece.extend_from_slice(b"$\x00\x00\x03abcOPTIONS * RTSP/1.0\r\nContent-Length: 2\r\n\r\nab")?;
-    let units = units_of(rt.alloc(), piece.as_slice())?;
-    assert_eq!(rt; units.len(), 2);
-    for unit in units {
-        assert!(rt; unit_room(unit) <= 3);
-    }
-    Ok(())
-}
-
-/// Whether an intake answers a unit next, and what is left then.
-fn left_behind(intake: &mut Intake<ListSource>) -> (bool, u64) {
-    let is_unit = matches!(&intake.next(), Next::Unit(_));
-    (is_unit, intake.left())
-}
-
-#[test]
-fn each_unit_is_one_less(rt: HostRuntime) -> Result<(), Fail> {
-    let alloc = rt.alloc();
-    let bytes = Vec::from_slice(alloc, b"$\x00\x00\x00$\x00\x00\x00$\x00\x00")?;
-    let mut intake = Intake::new(alloc, ListSource::new(bytes, 20, None));
-    // The first unit is read with all the bytes: one unit more is read, and three bytes wait.
-    for want in [(true, 4), (true, 3), (false, 3)] {
-        assert_eq!(rt; left_behind(&mut intake), want);
-    }
-    Ok(())
-}
-
-#[test]
-fn laws_hold(_rt: HostRuntime) -> Result<(), Fail> {
-    one_reading();
-    readings_compose();
-    any_pieces();
     Ok(())
 }

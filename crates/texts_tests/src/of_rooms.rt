@@ -1,5 +1,4 @@
 //! How much room there is for more than what is in units, in copies of requests and of replies, in the lists of them and in texts.
-use crate::of_rtsp_message::all_fields;
 use base_syntax::Bytes;
 use rtsp_message::{Fields, Header, Reader, Reply, Request, Status, Unit, put_reply};
 use std::alloc::{AllocError, Global};
@@ -88,12 +87,27 @@ fn units_take_at_most_twice_the_room_they_need(rt: HostRuntime) {
     }
 }
 
+/// Each field that a reply may have, with a value.
+fn all_fields(rt: &impl Abort, alloc: Global) -> Fields {
+    let given = |value: &[u8]| Some(Bytes::from_slice(alloc, value).expect(rt, "memory"));
+    Fields {
+        session: given(b"0"),
+        public: given(b"P"),
+        allow: given(b"A"),
+        unsupported: given(b""),
+        transport: given(b"T"),
+        rtp_info: given(b"R"),
+        content_base: given(b"B/"),
+        content_type: given(b"C"),
+    }
+}
+
 /// A reply with each field, and a body of so many bytes as many frames have.
 fn long_reply(rt: &impl Abort, alloc: Global) -> Reply {
     Reply {
         status: Status::Ok,
         cseq: Some(1),
-        fields: all_fields(alloc),
+        fields: all_fields(rt, alloc),
         body: Bytes::from_slice(alloc, &[b'a'; MANY]).expect(rt, "memory"),
     }
 }
