@@ -4,12 +4,7 @@ use std::alloc::Global;
 use std::process::Abort;
 
 /// A tap of the one seat of a log, attached before each of these bytes was published as a packet.
-pub(crate) fn tap_behind(
-    rt: &impl Abort,
-    alloc: Global,
-    keep: u64,
-    packets: &[&[u8]],
-) -> PlainTap {
+pub(crate) fn tap_behind(rt: &impl Abort, alloc: Global, keep: u64, packets: &[&[u8]]) -> PlainTap {
     let mut log = PlainLog::new(alloc, keep, 1, 65_535).expect(rt, "memory");
     log.attach(0);
     for bytes in packets {

@@ -204,11 +204,13 @@ fn spare_passes_go_with_a_teardown(rt: HostRuntime) -> Result<(), Fail> {
 /// Whether connection 3, which owns a mount, is refused another and has its three passes back.
 fn is_refused_another(book: &mut Book<Counted>, alloc: Global, pass: &Counted) -> bool {
     match asked(book, alloc, 3, ANNOUNCE_A, three(alloc, pass)) {
-        Some(Answer {
-            reply,
-            back: Some(back),
-            ..
-        }) => reply.status.code() == 403 && back.len() == 3,
+        Some(
+            Answer {
+                reply,
+                back: Some(back),
+                ..
+            },
+        ) => reply.status.code() == 403 && back.len() == 3,
         _ => false,
     }
 }

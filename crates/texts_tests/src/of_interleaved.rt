@@ -53,7 +53,10 @@ fn a_broken_source_stays_failed(rt: HostRuntime) {
 #[test]
 fn a_broken_sink_stays_failed(rt: HostRuntime) {
     let mut sink = Writing::new(Broken { calls: 0 });
-    assert_eq!(rt; write_all(&mut sink, b"OPTIO"), Err(WriteCut { written: 0 }));
+    assert_eq!(rt;
+        write_all(&mut sink, b"OPTIO"),
+        Err(WriteCut { written: 0 })
+    );
     assert!(rt; sink.write(b"x").is_err() && sink.has_failed());
     assert_eq!(rt; sink.into_inner().calls, 1);
 }
