@@ -82,7 +82,7 @@ impl Stall {
 }
 
 /// A line of a player that reads nothing after the reply to its PLAY until it is let on.
-fn stalled_line<R: Wait + Clock + Abort + Drop>(
+pub(crate) fn stalled_line<R: Wait + Clock + Abort + Drop>(
     rt: R,
     alloc: Global,
     watch: &Watch,

@@ -16,11 +16,15 @@ mod connection_tests;
 #[cfg(test)]
 mod devices;
 #[cfg(test)]
+mod ending_tests;
+#[cfg(test)]
 mod expiry_tests;
 #[cfg(test)]
 mod kept;
 #[cfg(test)]
 mod looking_tests;
+#[cfg(test)]
+mod memory_tests;
 #[cfg(test)]
 mod moments;
 #[cfg(test)]

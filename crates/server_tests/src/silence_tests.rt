@@ -342,14 +342,6 @@ where
     serve(rt, alloc, &RECORDS, then.as_slice())
 }
 
-/// However often it is interrupted.
-#[test]
-fn a_read_that_is_interrupted_is_made_again_each_time(rt: HostRuntime) {
-    let served = serve_interrupted(rt, rt.alloc(), 1_000, 0, (0, Ok(PAUSE)));
-    assert!(rt; served.end == ConnectionEnd::Done);
-    assert!(rt; served.told.as_slice().ends_with(PAUSED));
-}
-
 /// They come each second, more often than it is looked, until the time is over. What waits then is heard first; and where nothing
 /// does, the first read that is left alone finds that the session has expired.
 #[test]

@@ -225,18 +225,16 @@ fn a_camera_is_told_its_slow_reply_whole(rt: HostRuntime) {
     }
 }
 
+/// What asks for nothing in a player's session.
+pub(crate) const ASKS: &[u8] =
+    b"GET_PARAMETER rtsp://h/a RTSP/1.0\nCSeq: 4\nSession: 000000020000abcd\n\n";
+
 /// A player that asks for nothing in its session.
-const PLAYER: [Step; 3] = [
-    (0, Ok(SETUP_OUT)),
-    (0, Ok(PLAY)),
-    (
-        SLOW_FROM,
-        Ok(b"GET_PARAMETER rtsp://h/a RTSP/1.0\nCSeq: 4\nSession: 000000020000abcd\n\n"),
-    ),
-];
+const PLAYER: [Step; 3] = [(0, Ok(SETUP_OUT)), (0, Ok(PLAY)), (SLOW_FROM, Ok(ASKS))];
 
 /// The reply to it, and to a PAUSE.
-const ANSWERED: &[u8] = b"RTSP/1.0 200 OK\r\nCSeq: 4\r\nSession: 000000020000abcd\r\n\r\n";
+pub(crate) const ANSWERED: &[u8] =
+    b"RTSP/1.0 200 OK\r\nCSeq: 4\r\nSession: 000000020000abcd\r\n\r\n";
 
 /// As the camera's.
 const PLAYERS: [Row; 4] = [

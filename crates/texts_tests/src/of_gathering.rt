@@ -1,4 +1,4 @@
-//! A sink that gathers: how often the sink behind it is written to.
+//! How often a sink is written to, by a whole write and by a sink that gathers.
 ghost use Rattle.std.specs.Prelude.{Some};
 
 use interleaved::{Failed, Gathering, ListSink, Sink, write_all};
@@ -28,6 +28,16 @@ impl Sink for Counting {
     fn has_failed(&self) -> bool {
         self.sink.has_failed()
     }
+}
+
+#[test]
+fn a_whole_write_is_one_write(rt: HostRuntime) -> Result<(), Fail> {
+    let mut sink = Counting {
+        sink: ListSink::new(rt.alloc(), 6)?,
+        writes: 0,
+    };
+    assert!(rt; write_all(&mut sink, &FRAME).is_ok() && sink.writes == 1);
+    Ok(())
 }
 
 /// Whether sixteen frames are written, and flushed.
