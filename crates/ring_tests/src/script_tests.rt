@@ -1,4 +1,4 @@
-//! Worked runs, byte for byte, and each way to refuse an input.
+//! Worked runs, byte for byte, devices that fail, and a long run.
 use interleaved::{ListSink, ListSource};
 use ring_script::{StepsEnd, run_steps, run_steps_out, steps_end};
 use ring_steps::Actor;

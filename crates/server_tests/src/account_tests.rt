@@ -60,9 +60,10 @@ fn player<R: Abort + Drop>(rt: R, alloc: Global, let_on: &Flag) -> Staged<R> {
     Staged::new(rt, said, Vec::new(alloc), let_on)
 }
 
-/// When a player reads on, and how many writes were made to it.
+/// Whether a write waits for a player, when it reads on, and how many writes were made to it.
 #[derive(Drop)]
 pub(crate) struct Stall {
+    pub(crate) waits: Flag,
     pub(crate) read: Flag,
     pub(crate) writes: Count,
 }
@@ -71,6 +72,7 @@ impl Stall {
     /// It doesn't read yet.
     pub(crate) fn new(rt: &impl Abort, alloc: Global) -> Stall {
         Stall {
+            waits: flag(rt, alloc),
             read: flag(rt, alloc),
             writes: count(rt, alloc),
         }
@@ -92,6 +94,7 @@ pub(crate) fn stalled_line<R: Wait + Clock + Abort + Drop>(
     let writes = Arc::try_clone(&stall.writes).expect(&rt, "a count of its users");
     let manner = Manner::Held {
         free: SET_UP,
+        waits: Arc::try_clone(&stall.waits).expect(&rt, "a count of its users"),
         let_on,
         writes,
     };

@@ -56,10 +56,11 @@ pub(crate) struct Written<R> {
 pub(crate) enum Manner {
     /// So many bytes more, and then none.
     Room(usize),
-    /// After so many bytes none until it is let on, for which it waits at most 10,000 turns of a millisecond. It counts the
-    /// writes.
+    /// After so many bytes none until it is let on, for which it says that it waits, and waits at most 10,000 turns of a
+    /// millisecond. It counts the writes.
     Held {
         free: usize,
+        waits: Flag,
         let_on: Flag,
         writes: Count,
     },
@@ -80,10 +81,12 @@ impl<R: Wait + Clock> Written<R> {
             }
             Manner::Held {
                 free,
+                waits,
                 let_on,
                 writes,
             } => {
                 if self.bytes.lock(&self.rt).len() >= *free {
+                    waits.store(true, Ordering::SeqCst);
                     wait_for(&self.rt, let_on);
                 }
                 writes.fetch_add(1, Ordering::SeqCst);

@@ -3,7 +3,7 @@ use crate::account_tests::{SET_UP, SETUP_OUT, Stall, stalled_line};
 use crate::devices::{Bytes, Count, Flag, Staged, count, flag, has_come, joined, wait_for};
 use crate::expiry_tests::{PLAY, camera};
 use crate::moments::Dial;
-use crate::rings::Rings;
+use crate::rings::{Parting, Rings};
 use crate::serving::{Serving, SharedRings, Watch, book_of};
 use crate::slow_reply_tests::{ANSWERED, ASKS};
 use crate::words::OneWord;
@@ -41,10 +41,18 @@ impl<R: Wait> HangUp for Noting<R> {
     fn limit_waits(&self, _wait: u64) {}
 }
 
-/// What two connections share, of which players are told the end of their mount and hung up ten seconds later.
-fn shared<R: RandomSource + Wait + Abort>(rt: &R, alloc: Global) -> SharedRings<OneWord> {
-    let (book, rings) = (book_of(rt, alloc, 1, 2), Rings::of(rt, alloc, 1));
+/// What two connections share over such a ring. Players are told the end of their mount and hung up ten seconds later.
+fn shared<R: RandomSource + Wait + Abort>(
+    rt: &R,
+    alloc: Global,
+    parting: &Parting,
+) -> SharedRings<OneWord> {
+    let rings = Rings {
+        parting: Some(parting.copy().expect(rt, "a count of its users")),
+        ..Rings::of(rt, alloc, 1)
+    };
     let after_end = Some(Duration::from_secs(10));
+    let book = book_of(rt, alloc, 1, 2);
     let shared = Shared::new(alloc, rings, book, OneWord, OpenGate, after_end);
     Arc::new(alloc, shared.expect(rt, "memory")).expect(rt, "memory")
 }
@@ -88,22 +96,26 @@ where
     Serving { watch, thread }
 }
 
-/// A write of the reply moves nothing until the stall ends, which is a while after the mount's end.
+/// The player's thread is held as it leaves the ended mount, until a write of the reply moves nothing. That goes on a while after
+/// the thread does.
 #[test]
 fn the_end_comes_after_the_reply_that_is_being_written(rt: HostRuntime) {
     let alloc = rt.alloc();
-    let shared = shared(&rt, alloc);
+    let parting = Parting::new(&rt, alloc);
+    let shared = shared(&rt, alloc, &parting);
     let (mount_ends, closes, is_told) = (flag(&rt, alloc), flag(&rt, alloc), flag(&rt, alloc));
     let bytes = count(&rt, alloc);
     let stall = Stall::new(&rt, alloc);
     let camera = camera(rt, alloc, &shared, Dial::STILL, &mount_ends);
     let player = player(rt, alloc, &shared, &stall, (&bytes, &is_told), &closes);
-    player.watch.let_on.store(true, Ordering::SeqCst);
-    thread::sleep(&rt, Duration::from_millis(50));
     mount_ends.store(true, Ordering::SeqCst);
     assert!(rt; camera.end(&rt).0 == ConnectionEnd::Done);
+    wait_for(&rt, &parting.has_come);
+    player.watch.let_on.store(true, Ordering::SeqCst);
+    wait_for(&rt, &stall.waits);
+    parting.let_on.store(true, Ordering::SeqCst);
     thread::sleep(&rt, Duration::from_millis(50));
-    assert!(rt; !is_told.load(Ordering::SeqCst));
+    assert!(rt; stall.waits.load(Ordering::SeqCst) && !is_told.load(Ordering::SeqCst));
     stall.end();
     wait_for(&rt, &is_told);
     assert!(rt; is_told.load(Ordering::SeqCst));

@@ -12,12 +12,12 @@ use std::sync::Arc;
 /// Two requests.
 const ASKED: &[u8] = b"OPTIONS * RTSP/1.0\nCSeq: 1\n\nOPTIONS * RTSP/1.0\nCSeq: 2\n\n";
 
-/// Each request is answered, with 503 where its memory was refused, or the connection ends out of memory. Either way its place is
-/// left.
+/// Each request is answered, with 503 where its memory was refused, or the connection ends. Either way its place is left.
 #[test]
 fn a_connection_that_is_refused_memory_leaves_its_place(rt: HostRuntime) {
     let alloc = rt.alloc();
-    let book = book_of(&rt, alloc, 1, 1);
+    let book = book_of(&rt, alloc, 1, 0);
+    book.lock(&rt).connect().ok().expect(&rt, "memory");
     let theirs = Arc::try_clone(&book).expect(&rt, "a count of its users");
     let shared = shared_over(&rt, alloc, theirs, Rings::of(&rt, alloc, 1), OneWord);
     let hearing = Hearing::new(alloc, Still).expect(&rt, "memory");
@@ -37,7 +37,9 @@ fn a_connection_that_is_refused_memory_leaves_its_place(rt: HostRuntime) {
     assert!(rt; refused <= 1);
     match outcome.end {
         ConnectionEnd::Done => assert!(rt; good.saturating_add(refused) == 2),
-        end => assert!(rt; end == ConnectionEnd::OutOfMemory && good < 2),
+        // What is written is kept by this test, which may be refused memory, too.
+        ConnectionEnd::OutOfMemory | ConnectionEnd::WriteFailed => assert!(rt; good < 2),
+        end => panic!(rt; "{end}"),
     }
     assert!(rt; !book.lock(&rt).is_open(1));
 }

@@ -27,6 +27,7 @@ fn a_reply_of_any_length_is_written_out_at_once(rt: HostRuntime) {
     let writes = count(&rt, alloc);
     let manner = Manner::Held {
         free: usize::MAX,
+        waits: flag(&rt, alloc),
         let_on: flag(&rt, alloc),
         writes: Arc::try_clone(&writes).expect(&rt, "a count of its users"),
     };

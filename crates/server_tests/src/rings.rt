@@ -8,15 +8,55 @@ use std::ops::Range;
 use std::process::Abort;
 use std::sync::Arc;
 use std::sync::atomic::Ordering;
+use std::thread;
+
+/// Who leaves a ring for good says so, and waits until it is let on, for at most ten million turns.
+#[derive(Drop)]
+pub(crate) struct Parting {
+    pub(crate) has_come: Flag,
+    pub(crate) let_on: Flag,
+}
+
+impl Parting {
+    /// Nobody has come.
+    pub(crate) fn new(rt: &impl Abort, alloc: Global) -> Parting {
+        Parting {
+            has_come: flag(rt, alloc),
+            let_on: flag(rt, alloc),
+        }
+    }
+
+    /// The same once more.
+    pub(crate) fn copy(&self) -> Result<Parting, AllocError> {
+        Ok(Parting {
+            has_come: Arc::try_clone(&self.has_come)?,
+            let_on: Arc::try_clone(&self.let_on)?,
+        })
+    }
+
+    fn wait(&self) {
+        self.has_come.store(true, Ordering::SeqCst);
+        for _ in 0..10_000_000u32 {
+            if self.let_on.load(Ordering::SeqCst) {
+                return;
+            }
+            thread::yield_now();
+        }
+    }
+}
 
 /// Sets its word when it goes.
 struct Owner {
     gone: Flag,
+    parting: Option<Parting>,
 }
 
 impl Drop for Owner {
     fn drop(self) {
-        let Owner { gone } = self;
+        let Owner {
+            gone,
+            parting: _parting,
+        } = self;
         gone.store(true, Ordering::SeqCst);
     }
 }
@@ -84,6 +124,9 @@ impl<T: Lend> Lend for Owned<T> {
 
 impl<T: Leave> Leave for Owned<T> {
     fn leave_for_good(self) -> Left {
+        if let Some(parting) = &self.owner.parting {
+            parting.wait();
+        }
         self.inner.leave_for_good()
     }
 }
@@ -98,6 +141,8 @@ pub(crate) struct Rings {
     pub(crate) gone: Flag,
     /// Which ones are refused, counted from 0.
     refused: Range<u64>,
+    /// Where who leaves one for good waits.
+    pub(crate) parting: Option<Parting>,
 }
 
 impl Rings {
@@ -108,6 +153,7 @@ impl Rings {
             made: count(rt, alloc),
             gone: flag(rt, alloc),
             refused: 0..0,
+            parting: None,
         }
     }
 
@@ -139,7 +185,11 @@ impl Maker for Rings {
         }
         let (inner, passes) = self.maker.make(alloc)?;
         let gone = Arc::try_clone(&self.gone)?;
-        let owner = Arc::new(alloc, Owner { gone })?;
+        let parting = match &self.parting {
+            Some(parting) => Some(parting.copy()?),
+            None => None,
+        };
+        let owner = Arc::new(alloc, Owner { gone, parting })?;
         let mut owned = Vec::with_capacity(alloc, passes.len())?;
         for inner in passes {
             let owner = Arc::try_clone(&owner)?;

@@ -1,5 +1,6 @@
 //! The passes of a book: of as many seats as there may be, and of mounts that end.
 use crate::asking::{accepted, asked, connects, is_accepted};
+use mounts::MAX_SEATS;
 use session_lock::{Answer, Book};
 use session_state::Act;
 use std::alloc::Global;
@@ -84,6 +85,7 @@ fn play_without_pass(book: &mut Book<u16>, alloc: Global) -> Option<u16> {
 #[test]
 fn as_many_seats_as_there_may_be_are_handed_out(rt: HostRuntime) -> Result<(), Fail> {
     let alloc = rt.alloc();
+    assert!(rt; MAX_SEATS == MOST);
     let mut book: Book<u16> = Book::new(alloc, MOST, RandomState::new(&rt)?);
     assert!(rt; is_set_up(&mut book, alloc));
     let mut is_out = vec![in alloc; false; MOST].expect(&rt, "memory");

@@ -1,6 +1,9 @@
 //! A publisher's connection, byte for byte.
-use crate::devices::{Devices, Host, expect_talk, in_pieces, made_host};
+ghost use Rattle.std.specs.Prelude.{◌≡◌};
+
+use crate::devices::{Devices, Host, expect_talk, in_pieces, made_host, outcome_of};
 use relay_talk::TalkEnd;
+use session_state::Words;
 use std::alloc::Global;
 use std::process::Abort;
 use std::test::Fail;
@@ -148,6 +151,34 @@ fn a_cameras_sink_of_each_room(rt: HostRuntime) -> Result<(), Fail> {
         let want = &read.as_slice()[..room];
         expect_talk(&rt, host, &sent, devices, want, &TalkEnd::WriteFailed)?;
     }
+    Ok(())
+}
+
+/// Answers the words from this one on.
+#[derive(Drop)]
+struct CountedWords(u32);
+
+impl Words for CountedWords {
+    ghost gives = { λ old word new. word ≡ old.0 };
+
+    fn word(&mut self) -> u32 {
+        let word = self.0;
+        self.0 = word.wrapping_add(1);
+        word
+    }
+}
+
+/// Two requests come at once, and the answer to the first can't be written.
+#[test]
+fn no_word_is_asked_for_behind_a_failed_write(rt: HostRuntime) -> Result<(), Fail> {
+    let input = b"OPTIONS * RTSP/1.0\nCSeq: 1\n\nOPTIONS * RTSP/1.0\nCSeq: 2\n\n";
+    let devices = Devices {
+        room: 3,
+        ..in_pieces(100)
+    };
+    let mut words = CountedWords(10);
+    let outcome = outcome_of(made_host(&rt, 0)?, input, devices, &mut words)?;
+    assert!(rt; outcome.end == TalkEnd::WriteFailed && words.0 == 11);
     Ok(())
 }
 

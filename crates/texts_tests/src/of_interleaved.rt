@@ -51,6 +51,14 @@ fn a_broken_source_stays_failed(rt: HostRuntime) {
 }
 
 #[test]
+fn a_std_writer_is_a_sink(rt: HostRuntime) {
+    let mut sink = Writing::new(Vec::new(rt.alloc()));
+    assert_eq!(rt; write_all(&mut sink, b"OPTIO"), Ok(()));
+    assert_eq!(rt; (sink.write(b""), sink.has_failed()), (Ok(0), false));
+    assert_eq!(rt; sink.into_inner().as_slice(), b"OPTIO".as_slice());
+}
+
+#[test]
 fn a_broken_sink_stays_failed(rt: HostRuntime) {
     let mut sink = Writing::new(Broken { calls: 0 });
     assert_eq!(rt;
