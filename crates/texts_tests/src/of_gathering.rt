@@ -53,15 +53,7 @@ fn are_written(sink: &mut Gathering<Counting>) -> bool {
 #[test]
 fn sixteen_frames_go_through_in_one_write(rt: HostRuntime) -> Result<(), Fail> {
     // The size of the buffer, and how often the inner sink is written to.
-    for (size, writes) in [
-        (96, 1),
-        (100, 1),
-        (95, 2),
-        (32, 3),
-        (6, 16),
-        (1, 16),
-        (0, 16),
-    ] {
+    for (size, writes) in [(96, 1), (100, 1), (95, 2), (32, 3), (6, 16), (0, 16)] {
         let inner = Counting {
             sink: ListSink::new(rt.alloc(), 96)?,
             writes: 0,
