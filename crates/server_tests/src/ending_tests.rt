@@ -47,10 +47,7 @@ fn shared<R: RandomSource + Wait + Abort>(
     alloc: Global,
     parting: &Parting,
 ) -> SharedRings<OneWord> {
-    let rings = Rings {
-        parting: Some(parting.copy().expect(rt, "a count of its users")),
-        ..Rings::of(rt, alloc, 1)
-    };
+    let rings = Rings::holding(rt, alloc, parting);
     let after_end = Some(Duration::from_secs(10));
     let book = book_of(rt, alloc, 1, 2);
     let shared = Shared::new(alloc, rings, book, OneWord, OpenGate, after_end);

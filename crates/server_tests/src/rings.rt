@@ -27,7 +27,7 @@ impl Parting {
     }
 
     /// The same once more.
-    pub(crate) fn copy(&self) -> Result<Parting, AllocError> {
+    fn copy(&self) -> Result<Parting, AllocError> {
         Ok(Parting {
             has_come: Arc::try_clone(&self.has_come)?,
             let_on: Arc::try_clone(&self.let_on)?,
@@ -142,7 +142,7 @@ pub(crate) struct Rings {
     /// Which ones are refused, counted from 0.
     refused: Range<u64>,
     /// Where who leaves one for good waits.
-    pub(crate) parting: Option<Parting>,
+    parting: Option<Parting>,
 }
 
 impl Rings {
@@ -166,6 +166,14 @@ impl Rings {
     pub(crate) fn refusing(rt: &impl Abort, alloc: Global, refused: Range<u64>) -> Rings {
         Rings {
             refused,
+            ..Rings::of(rt, alloc, 1)
+        }
+    }
+
+    /// Rings of one seat, and who leaves one for good waits there.
+    pub(crate) fn holding(rt: &impl Abort, alloc: Global, parting: &Parting) -> Rings {
+        Rings {
+            parting: Some(parting.copy().expect(rt, "a count of its users")),
             ..Rings::of(rt, alloc, 1)
         }
     }
