@@ -2,9 +2,7 @@
 use crate::dial::Dial;
 use crate::kept::Kept;
 use crate::leaving_tests::{plays_at_last, stalled};
-use crate::loopback::{
-    ANNOUNCE, Client, MODES, OPTIONS, Set, in_both_modes_timed, listening, start_on, status,
-};
+use crate::loopback::{ANNOUNCE, Client, MODES, OPTIONS, Set, listening, start, start_on, status};
 use crate::scripted::{FRAME, Peers, passes_on, play, player, publisher, status_in};
 use log::Log;
 use relay_server::{Gate, OpenGate};
@@ -120,9 +118,12 @@ fn frames_keep_sessions<R: Net<Stream = TcpStream> + Clock + Abort>(
 #[test]
 fn frames_keep_the_sessions_of_a_publisher_and_a_player(rt: HostRuntime) {
     let alloc = rt.alloc();
-    in_both_modes_timed(rt, alloc, Set::of(2, 1), |addr, dial| {
-        frames_keep_sessions(&rt, alloc, addr, dial)
-    });
+    for writers in MODES {
+        let dial = Dial::new(&rt, alloc);
+        let server = start(rt, alloc, Set::of(2, 1).by(writers).timed(dial), OpenGate);
+        frames_keep_sessions(&rt, alloc, server.addr, dial);
+        server.end(&rt);
+    }
 }
 
 /// The first player, which says nothing, loses its seat to the second one, which is refused a seat and stays for that.
@@ -150,9 +151,12 @@ fn silent_player_loses_its_seat<R: Net<Stream = TcpStream> + Clock + Abort>(
 #[test]
 fn a_silent_player_loses_its_seat_at_sixty_seconds(rt: HostRuntime) {
     let alloc = rt.alloc();
-    in_both_modes_timed(rt, alloc, Set::of(3, 1), |addr, dial| {
-        silent_player_loses_its_seat(&rt, alloc, addr, dial)
-    });
+    for writers in MODES {
+        let dial = Dial::new(&rt, alloc);
+        let server = start(rt, alloc, Set::of(3, 1).by(writers).timed(dial), OpenGate);
+        silent_player_loses_its_seat(&rt, alloc, server.addr, dial);
+        server.end(&rt);
+    }
 }
 
 /// A player asks for nothing in its session, and another one for what it is refused.
@@ -175,9 +179,12 @@ fn requests_keep_sessions<R: Net<Stream = TcpStream> + Clock + Abort>(
 #[test]
 fn requests_keep_a_session_also_where_they_are_refused(rt: HostRuntime) {
     let alloc = rt.alloc();
-    in_both_modes_timed(rt, alloc, Set::of(3, 1), |addr, dial| {
-        requests_keep_sessions(&rt, alloc, addr, dial)
-    });
+    for writers in MODES {
+        let dial = Dial::new(&rt, alloc);
+        let server = start(rt, alloc, Set::of(3, 1).by(writers).timed(dial), OpenGate);
+        requests_keep_sessions(&rt, alloc, server.addr, dial);
+        server.end(&rt);
+    }
 }
 
 /// The first player has stopped reading, so that a reply and frames wait for it.
@@ -198,9 +205,12 @@ fn stalled_player_expires<R: Net<Stream = TcpStream> + Clock + Abort>(
 #[test]
 fn a_stalled_player_loses_its_seat_too(rt: HostRuntime) {
     let alloc = rt.alloc();
-    in_both_modes_timed(rt, alloc, Set::of(3, 1), |addr, dial| {
-        stalled_player_expires(&rt, alloc, addr, dial)
-    });
+    for writers in MODES {
+        let dial = Dial::new(&rt, alloc);
+        let server = start(rt, alloc, Set::of(3, 1).by(writers).timed(dial), OpenGate);
+        stalled_player_expires(&rt, alloc, server.addr, dial);
+        server.end(&rt);
+    }
 }
 
 /// Sets its word once connection 2 is answered for the third time.
@@ -328,9 +338,12 @@ fn set_up_anew<R: Net<Stream = TcpStream> + Clock + Abort>(
 #[test]
 fn a_player_whose_session_expired_while_it_paused_sets_up_anew(rt: HostRuntime) {
     let alloc = rt.alloc();
-    in_both_modes_timed(rt, alloc, Set::of(2, 1), |addr, dial| {
-        set_up_anew(&rt, alloc, addr, dial)
-    });
+    for writers in MODES {
+        let dial = Dial::new(&rt, alloc);
+        let server = start(rt, alloc, Set::of(2, 1).by(writers).timed(dial), OpenGate);
+        set_up_anew(&rt, alloc, server.addr, dial);
+        server.end(&rt);
+    }
 }
 
 /// The clock jumps while the mount ends, and as far as it can: whoever has a part in the mount is hung up, and the name is
@@ -354,9 +367,12 @@ fn clock_jumps<R: Net<Stream = TcpStream> + Clock + Abort>(
 #[test]
 fn a_clock_that_jumps_ends_what_was_silent(rt: HostRuntime) {
     let alloc = rt.alloc();
-    for moment in [86_400_000, u64::MAX] {
-        in_both_modes_timed(rt, alloc, Set::of(3, 1), |addr, dial| {
-            clock_jumps(&rt, alloc, addr, dial, moment)
-        });
+    for writers in MODES {
+        for moment in [86_400_000, u64::MAX] {
+            let dial = Dial::new(&rt, alloc);
+            let server = start(rt, alloc, Set::of(3, 1).by(writers).timed(dial), OpenGate);
+            clock_jumps(&rt, alloc, server.addr, dial, moment);
+            server.end(&rt);
+        }
     }
 }

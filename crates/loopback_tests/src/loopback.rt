@@ -383,37 +383,6 @@ where
     }
 }
 
-/// The same by a clock that the visitor moves.
-pub(crate) fn in_both_modes_timed<R, F: Fn(SocketAddr, Dial)>(
-    rt: R,
-    alloc: Global,
-    set: Set,
-    visit: F,
-)
-where
-    R: Threads
-        + Wait
-        + Clock
-        + Log
-        + Eprint
-        + RandomSource
-        + Abort
-        + Net<Listener = TcpListener, Stream = TcpStream>
-        + Copy
-        + Send
-        + Sync
-        + 'static,
-    F: Drop,
-    requires { F.IsAlwaysCallable visit }
-{
-    for writers in MODES {
-        let dial = Dial::new(&rt, alloc);
-        let server = start(rt, alloc, set.by(writers).timed(dial), OpenGate);
-        visit(server.addr, dial);
-        server.end(&rt);
-    }
-}
-
 /// Starts a server of this address, which has this runtime and takes its connections from there. Its packets have at most 16,384
 /// bytes.
 pub(crate) fn start_on<R, S, L, G>(
