@@ -1,6 +1,6 @@
 //! Players that begin with packets from before, over loopback.
 use crate::kept::Kept;
-use crate::loopback::{Client, MODES, OPTIONS, Set, in_both_modes, listening, start, start_on};
+use crate::loopback::{Client, MODES, OPTIONS, Set, listening, start, start_on};
 use crate::scripted::{SETUP_OUT, number_in, play, publish, publisher, status_in};
 use log::Log;
 use relay_server::OpenGate;
@@ -207,11 +207,15 @@ fn both_begin_before<R: Net<Stream = TcpStream> + Abort>(rt: &R, alloc: Global, 
 #[test]
 fn the_last_packets_are_those_of_all_tracks(rt: HostRuntime) {
     let alloc = rt.alloc();
-    let set = Set {
-        back: 7,
-        ..Set::of(2, 1)
-    };
-    in_both_modes(rt, alloc, set, |addr| both_begin_before(&rt, alloc, addr));
+    for writers in MODES {
+        let set = Set {
+            back: 7,
+            ..Set::of(2, 1).by(writers)
+        };
+        let server = start(rt, alloc, set, OpenGate);
+        both_begin_before(&rt, alloc, server.addr);
+        server.end(&rt);
+    }
 }
 
 /// How long a player plays, counted by packets, and what its server tells of that.

@@ -1,5 +1,5 @@
 //! Whoever reads gets every packet: bursts, and slow neighbours, over loopback.
-use crate::loopback::{Client, MODES, Set, in_both_modes, start};
+use crate::loopback::{Client, MODES, Set, start};
 use crate::scripted::{number_in, player, publish, publisher, small_frames};
 use crate::serving_tests::{BATCH, PUBLISHED};
 use log::Log;
@@ -142,11 +142,15 @@ fn five_read_bursts<R: Net<Stream = TcpStream> + Clock + Abort>(
 #[test]
 fn a_burst_waits_for_the_players_that_read(rt: HostRuntime) {
     let alloc = rt.alloc();
-    let set = Set {
-        keep: KEEP,
-        ..Set::of(7, 6)
-    };
-    in_both_modes(rt, alloc, set, |addr| five_read_bursts(&rt, alloc, addr));
+    for writers in MODES {
+        let set = Set {
+            keep: KEEP,
+            ..Set::of(7, 6).by(writers)
+        };
+        let server = start(rt, alloc, set, OpenGate);
+        five_read_bursts(&rt, alloc, server.addr);
+        server.end(&rt);
+    }
 }
 
 /// Does nothing but look whether it is to end.

@@ -1,6 +1,7 @@
 //! Players that come, leave and ask often while packets pass, over loopback.
-use crate::loopback::{Client, OPTIONS, Set, in_both_modes, status};
+use crate::loopback::{Client, MODES, OPTIONS, Set, start, status};
 use crate::scripted::{asking, number_in, player, publish, publisher, status_in};
+use relay_server::OpenGate;
 use std::alloc::Global;
 use std::net::{Net, SocketAddr, TcpStream};
 use std::process::Abort;
@@ -78,12 +79,11 @@ fn all_read_all<R: Net<Stream = TcpStream> + Abort>(rt: &R, alloc: Global, addr:
 #[test]
 fn players_that_come_and_leave_read_all_meanwhile(rt: HostRuntime) {
     let alloc = rt.alloc();
-    in_both_modes(
-        rt,
-        alloc,
-        Set::of(31, 16),
-        |addr| all_read_all(&rt, alloc, addr),
-    );
+    for writers in MODES {
+        let server = start(rt, alloc, Set::of(31, 16).by(writers), OpenGate);
+        all_read_all(&rt, alloc, server.addr);
+        server.end(&rt);
+    }
 }
 
 /// A player that reads nothing asks so often to pause and to play again.
@@ -130,10 +130,9 @@ fn each_is_answered<R: Net<Stream = TcpStream> + Abort>(rt: &R, alloc: Global, a
 #[test]
 fn each_pause_of_a_stalled_player_is_answered(rt: HostRuntime) {
     let alloc = rt.alloc();
-    in_both_modes(
-        rt,
-        alloc,
-        Set::of(2, 1),
-        |addr| each_is_answered(&rt, alloc, addr),
-    );
+    for writers in MODES {
+        let server = start(rt, alloc, Set::of(2, 1).by(writers), OpenGate);
+        each_is_answered(&rt, alloc, server.addr);
+        server.end(&rt);
+    }
 }

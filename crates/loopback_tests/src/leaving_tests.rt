@@ -1,5 +1,5 @@
 //! How peers leave over loopback, and what is free after them.
-use crate::loopback::{Client, MODES, OPTIONS, Set, in_both_modes, start};
+use crate::loopback::{Client, MODES, OPTIONS, Set, start};
 use crate::scripted::{
     FRAME, Peers, has_frame, passes_on, play, player, publish, publisher, status_in,
 };
@@ -69,9 +69,12 @@ fn seat_is_handed_on<R: Clock + Abort>(rt: &R, peers: Peers) {
 #[test]
 fn a_seat_is_free_again_where_its_player_just_closes(rt: HostRuntime) {
     let alloc = rt.alloc();
-    in_both_modes(rt, alloc, Set::of(3, 1), |addr| {
-        seat_is_handed_on(&rt, Peers::connect(&rt, alloc, addr))
-    });
+    for writers in MODES {
+        let server = start(rt, alloc, Set::of(3, 1).by(writers), OpenGate);
+        let peers = Peers::connect(&rt, alloc, server.addr);
+        seat_is_handed_on(&rt, peers);
+        server.end(&rt);
+    }
 }
 
 /// A player to which a packet was published before its mount ended.
@@ -115,11 +118,15 @@ fn player_closes<R: Net<Stream = TcpStream> + Abort>(rt: &R, alloc: Global, addr
 #[test]
 fn a_player_that_closes_behind_the_end_is_not_waited_for(rt: HostRuntime) {
     let alloc = rt.alloc();
-    let set = Set {
-        after_end: Some(600_000),
-        ..Set::of(2, 1)
-    };
-    in_both_modes(rt, alloc, set, |addr| player_closes(&rt, alloc, addr));
+    for writers in MODES {
+        let set = Set {
+            after_end: Some(600_000),
+            ..Set::of(2, 1).by(writers)
+        };
+        let server = start(rt, alloc, set, OpenGate);
+        player_closes(&rt, alloc, server.addr);
+        server.end(&rt);
+    }
 }
 
 /// Asks for the mount until it isn't found, up to a thousand times, and once more. The status that is answered last.
@@ -163,12 +170,11 @@ fn player_stays<R: Net<Stream = TcpStream> + Clock + Abort>(
 #[test]
 fn a_player_may_stay_behind_the_end(rt: HostRuntime) {
     let alloc = rt.alloc();
-    in_both_modes(
-        rt,
-        alloc,
-        Set::of(2, 1),
-        |addr| player_stays(&rt, alloc, addr),
-    );
+    for writers in MODES {
+        let server = start(rt, alloc, Set::of(2, 1).by(writers), OpenGate);
+        player_stays(&rt, alloc, server.addr);
+        server.end(&rt);
+    }
 }
 
 /// How many packets of 6,000 bytes are published at once to a player that reads nothing: fewer than its ring keeps.
@@ -235,32 +241,30 @@ fn let_go<R: Net<Stream = TcpStream> + Clock + Abort>(
 
 #[test]
 fn a_stalled_player_that_sends_a_fault_is_freed(rt: HostRuntime) {
-    let last = Last {
-        said: b"HELLO\r\n",
-        is_silent: false,
-    };
     let alloc = rt.alloc();
-    in_both_modes(
-        rt,
-        alloc,
-        Set::of(3, 1),
-        |addr| freed(&rt, alloc, addr, last),
-    );
+    for writers in MODES {
+        let server = start(rt, alloc, Set::of(3, 1).by(writers), OpenGate);
+        let last = Last {
+            said: b"HELLO\r\n",
+            is_silent: false,
+        };
+        let _first = freed(&rt, alloc, server.addr, last);
+        server.end(&rt);
+    }
 }
 
 #[test]
 fn a_stalled_player_that_falls_silent_is_freed(rt: HostRuntime) {
-    let last = Last {
-        said: b"",
-        is_silent: true,
-    };
     let alloc = rt.alloc();
-    in_both_modes(
-        rt,
-        alloc,
-        Set::of(3, 1),
-        |addr| drop(freed(&rt, alloc, addr, last)),
-    );
+    for writers in MODES {
+        let server = start(rt, alloc, Set::of(3, 1).by(writers), OpenGate);
+        let last = Last {
+            said: b"",
+            is_silent: true,
+        };
+        freed(&rt, alloc, server.addr, last);
+        server.end(&rt);
+    }
 }
 
 /// In the session of the first player.
@@ -269,17 +273,16 @@ const TEARDOWN: &[u8] =
 
 #[test]
 fn a_stalled_player_that_tears_down_is_freed(rt: HostRuntime) {
-    let last = Last {
-        said: TEARDOWN,
-        is_silent: false,
-    };
     let alloc = rt.alloc();
-    in_both_modes(
-        rt,
-        alloc,
-        Set::of(3, 1),
-        |addr| drop(freed(&rt, alloc, addr, last)),
-    );
+    for writers in MODES {
+        let server = start(rt, alloc, Set::of(3, 1).by(writers), OpenGate);
+        let last = Last {
+            said: TEARDOWN,
+            is_silent: false,
+        };
+        freed(&rt, alloc, server.addr, last);
+        server.end(&rt);
+    }
 }
 
 /// A request, whose reply waits for the frames that the peer doesn't read, and what comes after it: a fault, nothing more, a
@@ -299,42 +302,40 @@ const BEHIND_A_REQUEST: [Last<'static>; 3] = [
     },
 ];
 
-/// A server of three connections, whose writes may move nothing for two seconds.
-fn impatient() -> Set {
-    Set {
-        write_wait: 2_000,
-        ..Set::of(3, 1)
-    }
-}
-
 /// Mostly no reply can be written to it, and its writes move nothing: they fail.
 #[test]
 fn a_stalled_player_that_asked_before_is_freed(rt: HostRuntime) {
     let alloc = rt.alloc();
-    for last in BEHIND_A_REQUEST {
-        in_both_modes(
-            rt,
-            alloc,
-            impatient(),
-            |addr| let_go(&rt, alloc, addr, last),
-        );
+    for writers in MODES {
+        for last in &BEHIND_A_REQUEST {
+            let set = Set {
+                write_wait: 2_000,
+                ..Set::of(3, 1).by(writers)
+            };
+            let server = start(rt, alloc, set, OpenGate);
+            let_go(&rt, alloc, server.addr, *last);
+            server.end(&rt);
+        }
     }
 }
 
 /// It asks for nothing and doesn't close: what is written to it moves nothing, and that ends it.
 #[test]
 fn a_stalled_player_that_says_nothing_is_let_go(rt: HostRuntime) {
+    let alloc = rt.alloc();
     let last = Last {
         said: b"",
         is_silent: false,
     };
-    let alloc = rt.alloc();
-    in_both_modes(
-        rt,
-        alloc,
-        impatient(),
-        |addr| let_go(&rt, alloc, addr, last),
-    );
+    for writers in MODES {
+        let set = Set {
+            write_wait: 2_000,
+            ..Set::of(3, 1).by(writers)
+        };
+        let server = start(rt, alloc, set, OpenGate);
+        let_go(&rt, alloc, server.addr, last);
+        server.end(&rt);
+    }
 }
 
 /// Twenty clients, one after another, for which there is no connection.

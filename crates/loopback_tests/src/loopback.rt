@@ -2,7 +2,7 @@
 use crate::dial::{Dial, Told};
 use log::Log;
 use packet_ring::Pass;
-use relay_server::{Accepts, Gate, OpenGate, Options, RingMaker, Seat, SharedBook, run_server};
+use relay_server::{Accepts, Gate, Options, RingMaker, Seat, SharedBook, run_server};
 use relay_talk::FixedWord;
 use session_lock::Book;
 use std::alloc::{AllocError, Global};
@@ -354,33 +354,6 @@ where
 {
     let (listener, addr) = listening(&rt);
     start_on(&rt, rt, alloc, listener, addr, set, gate)
-}
-
-/// Lets clients visit a server by frame threads, and then one by writers. Each has to end though what the visit answers is still
-/// there.
-pub(crate) fn in_both_modes<R, T, F: Fn(SocketAddr) -> T>(rt: R, alloc: Global, set: Set, visit: F)
-where
-    R: Threads
-        + Wait
-        + Clock
-        + Log
-        + Eprint
-        + RandomSource
-        + Abort
-        + Net<Listener = TcpListener, Stream = TcpStream>
-        + Copy
-        + Send
-        + Sync
-        + 'static,
-    T: Drop,
-    F: Drop,
-    requires { F.IsAlwaysCallable visit }
-{
-    for writers in MODES {
-        let server = start(rt, alloc, set.by(writers), OpenGate);
-        let _there = visit(server.addr);
-        server.end(&rt);
-    }
 }
 
 /// Starts a server of this address, which has this runtime and takes its connections from there. Its packets have at most 16,384

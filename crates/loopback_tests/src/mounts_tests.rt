@@ -1,5 +1,6 @@
 //! Two mounts at a time.
-use crate::loopback::{Client, OPTIONS, Set, in_both_modes};
+use crate::loopback::{Client, MODES, OPTIONS, Set, start};
+use relay_server::OpenGate;
 use std::alloc::{AllocError, Global};
 use std::net::{Net, SocketAddr, TcpStream};
 use std::process::Abort;
@@ -147,10 +148,9 @@ fn mounts_stay_apart<R: Net<Stream = TcpStream> + Abort>(rt: &R, alloc: Global, 
 #[test]
 fn each_mount_has_its_own_packets(rt: HostRuntime) {
     let alloc = rt.alloc();
-    in_both_modes(
-        rt,
-        alloc,
-        Set::of(4, 1),
-        |addr| mounts_stay_apart(&rt, alloc, addr),
-    );
+    for writers in MODES {
+        let server = start(rt, alloc, Set::of(4, 1).by(writers), OpenGate);
+        mounts_stay_apart(&rt, alloc, server.addr);
+        server.end(&rt);
+    }
 }

@@ -1,5 +1,5 @@
 //! The order of what a player is sent, and of seats that are given back.
-use crate::loopback::{Client, MODES, Set, in_both_modes, start};
+use crate::loopback::{Client, MODES, Set, start};
 use crate::scripted::{
     FRAME, SETUP_OUT, asking, has_frame, play, player, publisher, small_frames, status_in,
 };
@@ -193,10 +193,9 @@ fn all_orders<R: Net<Stream = TcpStream> + Abort>(rt: &R, alloc: Global, addr: S
 #[test]
 fn seats_come_back_in_any_order(rt: HostRuntime) {
     let alloc = rt.alloc();
-    in_both_modes(
-        rt,
-        alloc,
-        Set::of(5, 3),
-        |addr| all_orders(&rt, alloc, addr),
-    );
+    for writers in MODES {
+        let server = start(rt, alloc, Set::of(5, 3).by(writers), OpenGate);
+        all_orders(&rt, alloc, server.addr);
+        server.end(&rt);
+    }
 }

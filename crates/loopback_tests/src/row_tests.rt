@@ -1,6 +1,7 @@
 //! Rows of requests over loopback.
-use crate::loopback::{Client, Set, in_both_modes};
+use crate::loopback::{Client, MODES, Set, start};
 use crate::scripted::FRAME;
+use relay_server::OpenGate;
 use std::alloc::Global;
 use std::net::{Net, SocketAddr, TcpStream};
 use std::process::Abort;
@@ -131,14 +132,13 @@ fn owner_and_player_ask<R: Net<Stream = TcpStream> + Abort>(
 #[test]
 fn a_track_has_its_owners_name_and_its_players(rt: HostRuntime) {
     let alloc = rt.alloc();
-    let set = Set {
-        gather: 0,
-        ..Set::of(2, 1)
-    };
-    in_both_modes(
-        rt,
-        alloc,
-        set,
-        |addr| owner_and_player_ask(&rt, alloc, addr),
-    );
+    for writers in MODES {
+        let set = Set {
+            gather: 0,
+            ..Set::of(2, 1).by(writers)
+        };
+        let server = start(rt, alloc, set, OpenGate);
+        owner_and_player_ask(&rt, alloc, server.addr);
+        server.end(&rt);
+    }
 }

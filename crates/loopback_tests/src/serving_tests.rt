@@ -1,5 +1,5 @@
 //! Connections over loopback.
-use crate::loopback::{Client, MODES, OPTIONS, Set, in_both_modes, start, status};
+use crate::loopback::{Client, MODES, OPTIONS, Set, start, status};
 use crate::scripted::{
     FRAME, Peers, SETUP_OUT, number_in, passes_on, play, player, publish, publisher, status_in,
 };
@@ -56,12 +56,11 @@ fn frame_is_played<R: Net<Stream = TcpStream> + Abort>(rt: &R, alloc: Global, ad
 #[test]
 fn a_frame_comes_out_where_it_was_set_up(rt: HostRuntime) {
     let alloc = rt.alloc();
-    in_both_modes(
-        rt,
-        alloc,
-        Set::of(3, 2),
-        |addr| frame_is_played(&rt, alloc, addr),
-    );
+    for writers in MODES {
+        let server = start(rt, alloc, Set::of(3, 2).by(writers), OpenGate);
+        frame_is_played(&rt, alloc, server.addr);
+        server.end(&rt);
+    }
 }
 
 /// Two clients, one after the other, each of which asks once.
@@ -204,11 +203,15 @@ fn one_reads_later<R: Net<Stream = TcpStream> + Abort>(rt: &R, alloc: Global, ad
 #[test]
 fn a_player_that_reads_nothing_hurts_no_other(rt: HostRuntime) {
     let alloc = rt.alloc();
-    let set = Set {
-        after_end: Some(10_000),
-        ..Set::of(4, 3)
-    };
-    in_both_modes(rt, alloc, set, |addr| one_reads_later(&rt, alloc, addr));
+    for writers in MODES {
+        let set = Set {
+            after_end: Some(10_000),
+            ..Set::of(4, 3).by(writers)
+        };
+        let server = start(rt, alloc, set, OpenGate);
+        one_reads_later(&rt, alloc, server.addr);
+        server.end(&rt);
+    }
 }
 
 /// A camera publishes once and closes.
@@ -221,11 +224,15 @@ fn frame_is_published<R: Net<Stream = TcpStream> + Abort>(rt: &R, alloc: Global,
 #[test]
 fn a_server_ends_while_packets_gather(rt: HostRuntime) {
     let alloc = rt.alloc();
-    let set = Set {
-        gather: 100,
-        ..Set::of(1, 1)
-    };
-    in_both_modes(rt, alloc, set, |addr| frame_is_published(&rt, alloc, addr));
+    for writers in MODES {
+        let set = Set {
+            gather: 100,
+            ..Set::of(1, 1).by(writers)
+        };
+        let server = start(rt, alloc, set, OpenGate);
+        frame_is_published(&rt, alloc, server.addr);
+        server.end(&rt);
+    }
 }
 
 /// The second player has the seat once the first one pauses, and the first one isn't sent what comes then.
