@@ -1,7 +1,7 @@
 //! The passes of a book: of as many seats as there may be, and of mounts that end.
 use crate::asking::{accepted, asked, connects, is_accepted};
 use mounts::MAX_SEATS;
-use session_lock::{Answer, Book};
+use session_lock::Book;
 use session_state::Act;
 use std::alloc::Global;
 use std::collections::hash_map::RandomState;
@@ -205,16 +205,14 @@ fn spare_passes_go_with_a_teardown(rt: HostRuntime) -> Result<(), Fail> {
 
 /// Whether connection 3, which owns a mount, is refused another and has its three passes back.
 fn is_refused_another(book: &mut Book<Counted>, alloc: Global, pass: &Counted) -> bool {
-    match asked(book, alloc, 3, ANNOUNCE_A, three(alloc, pass)) {
-        Some(
-            Answer {
-                reply,
-                back: Some(back),
-                ..
-            },
-        ) => reply.status.code() == 403 && back.len() == 3,
-        _ => false,
-    }
+    let Some(answer) = asked(book, alloc, 3, ANNOUNCE_A, three(alloc, pass)) else {
+        return false;
+    };
+    let back = match &answer.back {
+        Some(back) => back.len(),
+        None => 0,
+    };
+    answer.reply.status.code() == 403 && back == 3
 }
 
 #[test]
