@@ -9,16 +9,28 @@ use std::test::Fail;
 /// More connections than may be open at a time, one after the other.
 const IN_TURN: u64 = 5000;
 
+/// A connection comes, has this number, and hangs up.
+fn comes_and_goes(book: &mut Book<u16>, number: u64) -> bool {
+    book.connect() == Ok(number) && book.hangup(number) == Act::None
+}
+
+/// So many connections come, whose numbers are those after this one.
+fn come_after(book: &mut Book<u16>, last: u64, count: u64) -> bool {
+    for number in 1..=count {
+        if book.connect() != Ok(last.saturating_add(number)) {
+            return false;
+        }
+    }
+    true
+}
+
 #[test]
 fn who_hangs_up_gives_room_to_others(rt: HostRuntime) -> Result<(), Fail> {
     let mut book: Book<u16> = Book::new(rt.alloc(), 1, RandomState::new(&rt)?);
     for number in 1..=IN_TURN {
-        assert!(rt; book.connect() == Ok(number));
-        assert!(rt; book.hangup(number) == Act::None);
+        assert!(rt; comes_and_goes(&mut book, number));
     }
-    for number in 1..=1024 {
-        assert!(rt; book.connect() == Ok(IN_TURN + number));
-    }
+    assert!(rt; come_after(&mut book, IN_TURN, 1024));
     assert!(rt; book.connect() == Err(ConnectFault::Full));
     // Before the 2,049th and the 4,097th there were 4,096.
     assert!(rt; book.kept() == 2 * (5000 - 4096) + 1024);
@@ -54,6 +66,12 @@ fn many_requests_are_answered(rt: HostRuntime) -> Result<(), Fail> {
     Ok(())
 }
 
+/// Whether a connection is open at the base that comes out.
+fn retired_with(book: &mut Book<u16>, conn: u64) -> Option<bool> {
+    let base = book.retired()?;
+    Some(base.is_open(conn))
+}
+
 #[test]
 fn comings_and_requests_cut_the_entries_off(rt: HostRuntime) -> Result<(), Fail> {
     let alloc = rt.alloc();
@@ -63,8 +81,8 @@ fn comings_and_requests_cut_the_entries_off(rt: HostRuntime) -> Result<(), Fail>
         assert!(rt; book.kept() == kept);
     }
     // The base before it comes out once.
-    assert!(rt; book.retired().is_some_and(|base| !base.is_open(1)));
-    assert!(rt; book.retired().is_none());
+    assert!(rt; retired_with(&mut book, 1) == Some(false));
+    assert!(rt; retired_with(&mut book, 1).is_none());
     // It stood at the base.
     assert!(rt; book.base().is_open(2) && !book.base().is_open(3));
     assert!(rt; book.hangup(2) == Act::None && book.kept() == 2);
@@ -72,7 +90,7 @@ fn comings_and_requests_cut_the_entries_off(rt: HostRuntime) -> Result<(), Fail>
     assert!(rt; book.base().is_open(2));
     assert!(rt; is_accepted(&mut book, alloc, 3, OPTIONS, None) && book.kept() == 1);
     assert!(rt; !book.base().is_open(2) && book.base().is_open(3));
-    assert!(rt; book.retired().is_some_and(|base| base.is_open(2)));
+    assert!(rt; retired_with(&mut book, 2) == Some(true));
     assert!(rt; book.connect() == Ok(4) && book.kept() == 2);
     Ok(())
 }
@@ -151,18 +169,23 @@ fn a_book_of_forty_entries_does_not_grow(rt: HostRuntime) -> Result<(), Fail> {
     Ok(())
 }
 
+/// Whether a book keeps so many entries, after a base at which so many connections were open.
+fn holds(book: &Book<u16>, kept: usize, open: usize) -> bool {
+    book.kept() == kept && book.base().count_open() == open
+}
+
 #[test]
 fn who_has_left_is_kept_until_the_next_comes(rt: HostRuntime) -> Result<(), Fail> {
     let alloc = rt.alloc();
     let mut book: Book<u16> = Book::with_cut(alloc, 1, RandomState::new(&rt)?, FORTY);
     assert!(rt; connects(&mut book, 1024));
     // Before the 41st there were 40, and so before each fortieth after it.
-    assert!(rt; book.kept() == 24 && book.base().count_open() == 1000);
+    assert!(rt; holds(&book, 24, 1000));
     for conn in 1..1025 {
         assert!(rt; book.hangup(conn) == Act::None);
     }
-    assert!(rt; book.kept() == 24 + 1024 && book.base().count_open() == 1000);
+    assert!(rt; holds(&book, 24 + 1024, 1000));
     assert!(rt; book.connect() == Ok(1025));
-    assert!(rt; book.kept() == 1 && book.base().count_open() == 0);
+    assert!(rt; holds(&book, 1, 0));
     Ok(())
 }
