@@ -1,9 +1,10 @@
 //! Sessions that expire over loopback, by a clock that the test moves.
 use crate::dial::Dial;
 use crate::kept::Kept;
-use crate::leaving_tests::{plays_at_last, stalled};
 use crate::loopback::{ANNOUNCE, Client, MODES, OPTIONS, Set, listening, start, start_on, status};
-use crate::scripted::{FRAME, Peers, passes_on, play, player, publisher, status_in};
+use crate::scripted::{
+    FRAME, Peers, SETUP_OUT, passes_on, play, player, plays_at_last, publisher, stalled, status_in,
+};
 use log::Log;
 use relay_server::{Gate, OpenGate};
 use std::alloc::Global;
@@ -330,7 +331,7 @@ fn set_up_anew<R: Net<Stream = TcpStream> + Clock + Abort>(
     camera.say(rt, FRAME);
     dial.pass(rt, EXPIRED);
     assert!(rt; player.status_of(rt, &play(2)) == 454);
-    assert!(rt; player.status_of(rt, crate::scripted::SETUP_OUT) == 200);
+    assert!(rt; player.status_of(rt, SETUP_OUT) == 200);
     assert!(rt; player.status_of(rt, &play(3)) == 200);
     assert!(rt; passes_on(rt, &mut camera, &mut player));
 }

@@ -8,7 +8,7 @@ use session_lock::Book;
 use std::alloc::{AllocError, Global};
 use std::collections::hash_map::RandomState;
 use std::io::{Eprint, Read, Write};
-use std::net::{Net, Shutdown, SocketAddr, TcpListener, TcpStream};
+use std::net::{Net, SocketAddr, TcpListener, TcpStream};
 use std::process::Abort;
 use std::random::RandomSource;
 use std::sync::{Arc, Mutex, Wait};
@@ -58,14 +58,6 @@ impl Client {
 
     pub(crate) fn say(&mut self, rt: &impl Abort, bytes: &[u8]) {
         self.stream.write_all(bytes).expect(rt, "a write");
-    }
-
-    /// Says this where the server hasn't hung up, and then nothing more if that is asked for.
-    pub(crate) fn say_at_last(&mut self, bytes: &[u8], is_silent: bool) {
-        let _ = self.stream.write_all(bytes);
-        if is_silent {
-            let _ = self.stream.shutdown(Shutdown::Write);
-        }
     }
 
     /// Reads a piece more. `false` at the end.
@@ -134,13 +126,6 @@ impl Client {
         rest.extend_from_slice(self.rest.as_slice())
             .expect(rt, "memory");
         self.rest = rest;
-    }
-
-    /// Says nothing more.
-    pub(crate) fn fall_silent(&self, rt: &impl Abort) {
-        self.stream
-            .shutdown(Shutdown::Write)
-            .expect(rt, "an end of writes");
     }
 
     /// Asks, and answers the head of the reply.
@@ -233,54 +218,32 @@ impl Running {
 pub(crate) struct Set {
     pub(crate) accept: u64,
     pub(crate) seats: usize,
-    /// How many packets a mount's ring keeps.
-    pub(crate) keep: usize,
-    /// For so many milliseconds players may stay after their mount's end; `None` for good.
-    pub(crate) after_end: Option<u64>,
     /// The milliseconds for which packets gather.
     pub(crate) gather: u64,
-    /// The milliseconds for which a write may move nothing.
-    pub(crate) write_wait: u64,
-    /// How many of the kept packets a new player is given.
-    pub(crate) back: u64,
     /// How many threads send all frames; 0 for a thread a player.
     pub(crate) writers: usize,
-    /// Whether frame threads write packets from where they lie in the ring.
-    pub(crate) is_direct: bool,
-    /// Whether lines tell of each mount and each player.
-    pub(crate) is_verbose: bool,
     /// The milliseconds between two reports of mounts and losses; `None` for none.
     pub(crate) report: Option<u64>,
     /// What tells the time; `None` where it stands at 0.
     pub(crate) dial: Option<Dial>,
     /// The milliseconds after which a silent peer is looked at.
     pub(crate) read_wait: u64,
-    /// The milliseconds after which a silent peer without a session is hung up; `None` for never.
-    pub(crate) idle: Option<u64>,
 }
 
 /// By whom frames are sent: by a thread a player, and by two writers.
 pub(crate) const MODES: [usize; 2] = [0, 2];
 
 impl Set {
-    /// Rings keep 512 packets, packets gather for a millisecond, players stay when their mount has ended, and no line tells of
-    /// mounts and players.
+    /// Packets gather for a millisecond, a thread a player sends frames, there are no reports, and the time stands still.
     pub(crate) fn of(accept: u64, seats: usize) -> Set {
         Set {
             accept,
             seats,
-            keep: 512,
-            after_end: None,
             gather: 1,
-            write_wait: 20_000,
-            back: 0,
             writers: 0,
-            is_direct: false,
-            is_verbose: false,
             report: None,
             dial: None,
             read_wait: 2_000,
-            idle: None,
         }
     }
 
@@ -357,7 +320,7 @@ where
 }
 
 /// Starts a server of this address, which has this runtime and takes its connections from there. Its packets have at most 16,384
-/// bytes.
+/// bytes, its rings keep 512 packets, and players stay when their mount has ended.
 pub(crate) fn start_on<R, S, L, G>(
     rt: &R,
     served: S,
@@ -381,17 +344,17 @@ where
     let options = Options {
         accept: Some(set.accept),
         gather: set.gather,
-        back: set.back,
-        after_end: set.after_end,
-        write_wait: set.write_wait,
+        back: 0,
+        after_end: None,
+        write_wait: 20_000,
         writers: set.writers,
-        is_direct: set.is_direct,
-        is_verbose: set.is_verbose,
+        is_direct: false,
+        is_verbose: false,
         report: set.report,
         read_wait: set.read_wait,
-        idle: set.idle,
+        idle: None,
     };
-    let maker = RingMaker::new(set.keep.clamp(1, 4095), seats, 16_384);
+    let maker = RingMaker::new(512, seats, 16_384);
     let thread = serve(
         rt,
         served,

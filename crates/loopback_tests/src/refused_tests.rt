@@ -1,9 +1,8 @@
 //! Accepts and threads that are refused.
 use crate::kept::Kept;
-use crate::leaving_tests::plays_at_last;
 use crate::loopback::{Client, Set, listening, start, start_on};
-use crate::scripted::{SETUP_OUT, passes_on, play, publisher};
-use crate::serving_tests::{late_is_refused, two_clients_ask};
+use crate::scripted::{SETUP_OUT, passes_on, play, plays_at_last, publisher};
+use crate::serving_tests::two_clients_ask;
 use relay_server::{Accepts, Gate, OpenGate};
 use std::alloc::Global;
 use std::io;
@@ -87,6 +86,18 @@ impl Gate for Refusing {
     fn may_start(&self) -> bool {
         self.asked.fetch_add(1, Ordering::SeqCst) != self.number
     }
+}
+
+/// A client for which there is no connection is told so and hung up.
+fn late_is_refused<R: Net<Stream = TcpStream> + Abort>(
+    rt: &R,
+    alloc: Global,
+    addr: SocketAddr,
+) -> Client {
+    let mut late = Client::connect(rt, alloc, addr);
+    assert!(rt; late.reads(rt, b"RTSP/1.0 503 Service Unavailable\r\n\r\n"));
+    assert!(rt; late.is_hung_up(rt));
+    late
 }
 
 /// Its peer is told so and closed, and the next ones are served. The server ends, for which no thread may be counted any more.

@@ -1,8 +1,10 @@
 //! Requests and packets of clients, for tests.
-use crate::loopback::{ANNOUNCE, Client};
+use crate::loopback::{ANNOUNCE, Client, OPTIONS};
 use std::alloc::{AllocError, Global};
 use std::net::{Net, SocketAddr, TcpStream};
 use std::process::Abort;
+use std::thread;
+use std::time::{Clock, Duration};
 
 pub(crate) const SETUP_IN: &[u8] =
     b"SETUP rtsp://127.0.0.1:8554/cam/streamid=0 RTSP/1.0\r\nCSeq: 3\r\nTransport: RTP/AVP/TCP;unicast;interleaved=0-1;mode=record\r\n\r\n";
@@ -46,7 +48,7 @@ pub(crate) fn play(number: u8) -> [u8; 79] {
 }
 
 /// A request in the session of this number.
-pub(crate) fn asking(alloc: Global, method: &str, number: u8) -> Result<String, AllocError> {
+fn asking(alloc: Global, method: &str, number: u8) -> Result<String, AllocError> {
     let [high, low] = digits(number).map(|digit| char::from(digit));
     format!(in alloc;
         "{method} rtsp://127.0.0.1:8554/cam RTSP/1.0\r\nCSeq: 7\r\nSession: 000000{high}{low}0000abcd\r\n\r\n"
@@ -106,7 +108,7 @@ impl Peers {
 }
 
 /// Whether the packet of `FRAME` comes next.
-pub(crate) fn has_frame(rt: &impl Abort, player: &mut Client) -> bool {
+fn has_frame(rt: &impl Abort, player: &mut Client) -> bool {
     player.bytes(rt, 16).as_slice().ends_with(&FRAME[4..])
 }
 
@@ -117,7 +119,7 @@ pub(crate) fn passes_on(rt: &impl Abort, camera: &mut Client, player: &mut Clien
 }
 
 /// An RTP packet of 6,000 bytes with this number, as a frame on channel 0.
-pub(crate) fn numbered(alloc: Global, number: u16) -> Result<Vec<u8>, AllocError> {
+fn numbered(alloc: Global, number: u16) -> Result<Vec<u8>, AllocError> {
     let mut frame = Vec::from_elem(alloc, 0, 6004)?;
     frame[..6].copy_from_slice(b"\x24\x00\x17\x70\x80\x60");
     frame[6..8].copy_from_slice(&number.to_be_bytes());
@@ -125,29 +127,46 @@ pub(crate) fn numbered(alloc: Global, number: u16) -> Result<Vec<u8>, AllocError
 }
 
 /// Publishes so many packets of 6,000 bytes, with the numbers from this one on.
-pub(crate) fn publish(rt: &impl Abort, alloc: Global, camera: &mut Client, from: u16, count: u16) {
+fn publish(rt: &impl Abort, alloc: Global, camera: &mut Client, from: u16, count: u16) {
     for place in 0..count {
         let packet = numbered(alloc, from.wrapping_add(place)).expect(rt, "memory");
         camera.say(rt, packet.as_slice());
     }
 }
 
-/// So many RTP packets of twelve bytes, as frames on channel 0, with the numbers from this one on.
-pub(crate) fn small_frames(alloc: Global, from: u16, count: u16) -> Result<Vec<u8>, AllocError> {
-    let mut frames = Vec::new(alloc);
-    for place in 0..count {
-        let number = from.wrapping_add(place);
-        let mut frame = *b"\x24\x00\x00\x0c\x80\x60\x00\x00\x00\x00\x23\x28\x00\x00\x00\x00";
-        frame[6..8].copy_from_slice(&number.to_be_bytes());
-        frames.extend_from_slice(&frame)?;
+/// Asks to play until a seat is free, up to a thousand times. The status that is answered last.
+pub(crate) fn plays_at_last<R: Clock + Abort>(rt: &R, client: &mut Client, number: u8) -> u16 {
+    let mut answered = 0;
+    for _ in 0..1000 {
+        answered = client.status_of(rt, &play(number));
+        if answered != 453 {
+            break;
+        }
+        thread::sleep(rt, Duration::from_millis(10));
     }
-    Ok(frames)
+    answered
 }
 
-/// The number in a packet's frame.
-pub(crate) fn number_in(frame: &[u8]) -> u16 {
-    match frame {
-        [_, _, _, _, _, _, high, low, ..] => u16::from_be_bytes([*high, *low]),
-        _ => u16::MAX,
+/// How many packets of 6,000 bytes are published at once to a player that reads nothing: fewer than its ring keeps.
+const BATCH: u16 = 400;
+
+/// Publishes 2,000 packets, more than a system's buffers mostly hold, with time for the server to write each batch.
+fn stall<R: Clock + Abort>(rt: &R, alloc: Global, camera: &mut Client) {
+    for place in 0..5u16 {
+        publish(rt, alloc, camera, BATCH.wrapping_mul(place), BATCH);
+        thread::sleep(rt, Duration::from_millis(20));
     }
+}
+
+/// Peers of which the first player has stopped reading amid what the camera published.
+pub(crate) fn stalled<R: Net<Stream = TcpStream> + Clock + Abort>(
+    rt: &R,
+    alloc: Global,
+    addr: SocketAddr,
+) -> Peers {
+    let mut peers = Peers::connect(rt, alloc, addr);
+    stall(rt, alloc, &mut peers.camera);
+    // The server has read them all.
+    peers.camera.ask(rt, OPTIONS);
+    peers
 }

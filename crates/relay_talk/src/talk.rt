@@ -57,7 +57,7 @@ pub fn run_talk<R: Source + Drop, W: Sink, V: Words, N: Moments>(
 }
 
 /// Answers the messages of an intake, one after another. Each answer is written before more is read. No clause tells
-/// of that order; `prompt_tests` of `talk_tests` show it.
+/// of that order; `prompt_tests` of `unit_tests` show it.
 fn answer_all<R: Source + Drop, W: Sink, V: Words, N: Moments>(
     talker: &mut Talker,
     intake: &mut Intake<R>,

@@ -1,7 +1,6 @@
 //! What becomes of the packets of a player that is too slow, and of its mount.
 use crate::connection_tests::{ANNOUNCE, SETUP};
-use crate::devices::{Count, Flag, Manner, Staged, Written, count, flag, has_come, joined};
-use crate::packets::FRAME;
+use crate::devices::{Count, FRAME, Flag, Manner, Staged, Written, count, flag, has_come, joined};
 use crate::rings::Rings;
 use crate::serving::{
     Serving, SharedRings, Watch, book_of, line_in, serve_in_thread, serve_source, shared_over,

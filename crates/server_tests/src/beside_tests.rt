@@ -2,9 +2,8 @@
 use crate::connection_tests::{
     ANNOUNCE, ANNOUNCED, IN_SESSION, NO_RING, OTHER, PAUSE, RECORD, SET_UP, SETUP,
 };
-use crate::devices::{has_come, joined};
+use crate::devices::{FRAME, has_come, joined};
 use crate::moments::Still;
-use crate::packets::FRAME;
 use crate::rings::Rings;
 use crate::serving::{Serving, SharedRings, book_of, serve_camera, shared_over, told_by};
 use crate::words::OneWord;

@@ -12,6 +12,9 @@ use std::sync::{Arc, Mutex, Wait};
 use std::time::{Clock, Duration};
 use std::{io, thread};
 
+/// An RTP packet with number 7 and timestamp 9,000, as a frame on channel 0.
+pub(crate) const FRAME: &[u8] = b"\x24\x00\x00\x0c\x80\x60\x00\x07\x00\x00\x23\x28\x00\x00\x00\x00";
+
 /// Bytes that are written, shared with who reads them.
 pub(crate) type Bytes = Arc<Mutex<Vec<u8>>, Global>;
 
@@ -64,8 +67,6 @@ pub(crate) enum Manner {
         let_on: Flag,
         writes: Count,
     },
-    /// All, each write after so many milliseconds.
-    Slow(u64),
 }
 
 impl<R: Wait + Clock> Written<R> {
@@ -90,10 +91,6 @@ impl<R: Wait + Clock> Written<R> {
                     wait_for(&self.rt, let_on);
                 }
                 writes.fetch_add(1, Ordering::SeqCst);
-                len
-            }
-            Manner::Slow(wait) => {
-                thread::sleep(&self.rt, Duration::from_millis(*wait));
                 len
             }
         }

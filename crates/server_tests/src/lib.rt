@@ -30,12 +30,6 @@ mod moments;
 #[cfg(test)]
 mod offers_tests;
 #[cfg(test)]
-mod pace_tests;
-#[cfg(test)]
-mod pacing_tests;
-#[cfg(test)]
-mod packets;
-#[cfg(test)]
 mod parting_tests;
 #[cfg(test)]
 mod rings;
@@ -45,12 +39,6 @@ mod serving;
 mod silence_tests;
 #[cfg(test)]
 mod slow_reply_tests;
-#[cfg(test)]
-mod speed_tests;
-#[cfg(test)]
-mod stage;
-#[cfg(test)]
-mod stalled_tests;
 #[cfg(test)]
 mod steps;
 #[cfg(test)]

@@ -2,11 +2,10 @@
 use crate::connection_tests::{
     ANNOUNCE, ANNOUNCED, IN_SESSION, NO_RING, PAUSE, RECORD, SET_UP, SETUP,
 };
-use crate::devices::joined;
+use crate::devices::{FRAME, joined};
 use crate::expiry_tests::{NO_SESSION, PAUSED};
 use crate::kept::{Kept, lines_to, verbose};
 use crate::moments::Dial;
-use crate::packets::FRAME;
 use crate::rings::{Owned, Rings};
 use crate::serving::{Served, SharedRings, book_of, serve_here, shared_over};
 use crate::steps::{SILENT, Step, Stepped};

@@ -24,90 +24,104 @@ pub struct Outcome {
 
 /// Runs all cases of a text, over books that cut their entries off so, and tells how many there were.
 pub fn outcome_of(alloc: Global, hasher: RandomState, cutting: Cutting, text: &[u8]) -> Outcome {
-    let mut run = Run::new(alloc, hasher, cutting);
-    let fault = match run.run(text) {
+    let mut tally = Tally::new(alloc);
+    let fault = match run(&mut tally, hasher, cutting, text) {
         Ok(()) => None,
-        Err(fault) => Some((run.line, fault)),
+        Err(fault) => Some((tally.line, fault)),
     };
     Outcome {
-        holds: fault.is_none() && !run.differs,
+        holds: fault.is_none() && !tally.differs,
         fault,
-        report: run.report,
+        report: tally.report,
     }
 }
 
-/// A run of the cases of a text.
+fn run(tally: &mut Tally, hasher: RandomState, cutting: Cutting, text: &[u8]) -> Result<(), Fault> {
+    let mut cases = Cases {
+        alloc: tally.alloc,
+        hasher,
+        cutting,
+        open: None,
+    };
+    for (index, line) in text.split(|byte| *byte == b'\n').enumerate() {
+        tally.line = index.saturating_add(1);
+        cases.read(tally, line)?;
+    }
+    if cases.open.is_some() {
+        return Err(Fault::NoEnd);
+    }
+    tally.tell_counts()?;
+    Ok(())
+}
+
+/// The cases of a text, of which one at most is open.
 #[derive(Drop)]
-struct Run {
+struct Cases {
     alloc: Global,
     hasher: RandomState,
     cutting: Cutting,
+    open: Option<Case>,
+}
+
+impl Cases {
+    /// Reads the next line.
+    fn read(&mut self, tally: &mut Tally, line: &[u8]) -> Result<(), Fault> {
+        match read_line(line)? {
+            Line::Nothing => Ok(()),
+            Line::Case { kind, title } => self.begin(kind, title),
+            line => self.go_on(tally, line),
+        }
+    }
+
+    fn begin(&mut self, kind: &[u8], title: &[u8]) -> Result<(), Fault> {
+        if self.open.is_some() {
+            return Err(Fault::CaseInCase);
+        }
+        let kind = Kind::named(kind).ok_or(Fault::UnknownKind)?;
+        let case = Case::new(self.alloc, self.hasher, self.cutting, kind, title)?;
+        self.set(Some(case));
+        Ok(())
+    }
+
+    /// Reads the next line of the open case.
+    fn go_on(&mut self, tally: &mut Tally, line: Line<'_>) -> Result<(), Fault> {
+        let Some(case) = &mut self.open else {
+            return Err(Fault::NoCase);
+        };
+        if !tally.go_on(case, line)? {
+            self.set(None);
+        }
+        Ok(())
+    }
+
+    /// The only place that lets a case go: that takes a proof of all that each kind of case holds.
+    fn set(&mut self, case: Option<Case>) {
+        self.open = case;
+    }
+}
+
+/// What the steps of the cases came to so far.
+#[derive(Drop)]
+struct Tally {
+    alloc: Global,
     /// The number of the line that is read, or of the step that is run.
     line: usize,
-    case: Option<Case>,
     /// How many cases there were, by the places of their kinds.
     counts: [u64; 8],
     report: Vec<u8>,
     differs: bool,
 }
 
-impl Run {
-    /// A run of which nothing is read.
-    fn new(alloc: Global, hasher: RandomState, cutting: Cutting) -> Run {
-        Run {
+impl Tally {
+    /// Nothing is read.
+    fn new(alloc: Global) -> Tally {
+        Tally {
             alloc,
-            hasher,
-            cutting,
             line: 0,
-            case: None,
             counts: [0; 8],
             report: Vec::new(alloc),
             differs: false,
         }
-    }
-
-    /// Runs all cases of a text, and tells how many there were.
-    fn run(&mut self, text: &[u8]) -> Result<(), Fault> {
-        for (index, line) in text.split(|byte| *byte == b'\n').enumerate() {
-            self.line = index.saturating_add(1);
-            self.read(line)?;
-        }
-        if self.case.is_some() {
-            return Err(Fault::NoEnd);
-        }
-        self.tell_counts()?;
-        Ok(())
-    }
-
-    /// Reads the next line.
-    fn read(&mut self, line: &[u8]) -> Result<(), Fault> {
-        match read_line(line)? {
-            Line::Nothing => Ok(()),
-            Line::Case { kind, title } => self.begin_case(kind, title),
-            line => match self.case.take() {
-                Some(case) => self.read_in(case, line),
-                None => Err(Fault::NoCase),
-            },
-        }
-    }
-
-    /// Reads the next line of a case.
-    fn read_in(&mut self, mut case: Case, line: Line<'_>) -> Result<(), Fault> {
-        let goes_on = self.go_on(&mut case, line);
-        self.case = Some(case);
-        if !goes_on? {
-            self.case = None;
-        }
-        Ok(())
-    }
-
-    fn begin_case(&mut self, kind: &[u8], title: &[u8]) -> Result<(), Fault> {
-        if self.case.is_some() {
-            return Err(Fault::CaseInCase);
-        }
-        let kind = Kind::named(kind).ok_or(Fault::UnknownKind)?;
-        self.case = Some(Case::new(self.alloc, self.hasher, self.cutting, kind, title)?);
-        Ok(())
     }
 
     /// Goes on with a case. Tells whether it goes on after the line.

@@ -1,0 +1,203 @@
+//! A mount and its players without connections, whose sockets are in memory, for tests.
+use crate::fanout::devices::{Bytes, Count, Open, count};
+use cursor::{Left, Tap};
+use interleaved::{TryWrite, Writing};
+use packet_ring::{Pass, Publisher, Subscriber};
+use relay_fanout::{
+    Frames, Maker, MountSignal, RingMaker, SharedPlayer, TapPlace, WakeSignal, Writers, WritingSide,
+};
+use std::alloc::Global;
+use std::io::Write;
+use std::process::Abort;
+use std::sync::atomic::Ordering;
+use std::sync::{Arc, Mutex, Wait};
+use std::thread::{JoinHandle, Threads};
+use std::time::{Clock, Duration};
+use std::{io, thread};
+use transport_header::{ChannelPair, TrackChannels};
+
+/// A packet's frame has at most so many bytes.
+pub(crate) const LONGEST: usize = 16;
+
+/// How many packets a ring keeps.
+pub(crate) const KEEP: u64 = 64;
+
+/// A mount without players, and one writer for them, which doesn't run yet.
+#[derive(Drop)]
+pub(crate) struct Mount<R: Wait + Clock + Drop> {
+    pub(crate) maker: RingMaker,
+    pub(crate) publisher: Publisher,
+    pub(crate) passes: Vec<Pass>,
+    pub(crate) wake_signal: Arc<WakeSignal, Global>,
+    pub(crate) signal: Arc<MountSignal, Global>,
+    pub(crate) writers: Arc<Writer<R>, Global>,
+}
+
+impl<R: Wait + Clock + Abort + Copy + Drop> Mount<R> {
+    /// A mount of so many seats, whose players are given up so many milliseconds after its end.
+    pub(crate) fn new(rt: &R, alloc: Global, seats: usize, most: u64) -> Mount<R> {
+        let wake_signal = Arc::new(alloc, WakeSignal::new()).expect(rt, "memory");
+        let theirs = Arc::try_clone(&wake_signal).expect(rt, "a count of its users");
+        let signal = MountSignal::new(alloc, seats, theirs).expect(rt, "memory");
+        let signal = Arc::new(alloc, signal).expect(rt, "memory");
+        let theirs = Arc::try_clone(&wake_signal).expect(rt, "a count of its users");
+        let writers = Writers::new(alloc, 1, theirs, most).expect(rt, "memory");
+        let writers = Arc::new(alloc, writers).expect(rt, "memory");
+        let maker = RingMaker::new(KEEP as usize, seats.min(1024), LONGEST);
+        let (publisher, passes) = maker.make(alloc).expect(rt, "memory");
+        Mount {
+            maker,
+            publisher,
+            passes,
+            wake_signal,
+            signal,
+            writers,
+        }
+    }
+
+    /// A player in the last seat that is free, each of whose writes takes so many milliseconds.
+    pub(crate) fn seat(&mut self, rt: R, alloc: Global, wait: u64) -> Seated<R> {
+        let pass = self.passes.pop().expect(&rt, "a seat");
+        let tap = self.maker.attach(pass);
+        Seated::new(rt, alloc, &self.signal, self.passes.len(), tap, wait)
+    }
+}
+
+impl<R: Threads + Wait + Clock + Abort + Copy + Drop + Send + Sync + 'static> Mount<R> {
+    /// Starts the writer.
+    pub(crate) fn start_writer(&self, rt: R, alloc: Global) -> JoinHandle<()> {
+        let theirs = Arc::try_clone(&self.writers).expect(&rt, "a count of its users");
+        thread::spawn(&rt, move || theirs.write_all(&rt, alloc, 0)).expect(&rt, "a thread")
+    }
+}
+
+/// Keeps what is written for whoever shares it, as many bytes as there is room for, each write after so many milliseconds. Counts the
+/// writes that took any.
+#[derive(Drop)]
+pub(crate) struct Valve<R> {
+    rt: R,
+    bytes: Bytes,
+    room: Count,
+    writes: Count,
+    wait: u64,
+}
+
+impl<R: Wait + Clock> Write for Valve<R> {
+    fn write(&mut self, buf: &[u8]) -> io::Result<usize> {
+        if self.wait > 0 {
+            thread::sleep(&self.rt, Duration::from_millis(self.wait));
+        }
+        let room = self.room.load(Ordering::SeqCst);
+        let front = buf.len().min(usize::try_from(room).unwrap_or(usize::MAX));
+        self.room.fetch_sub(front as u64, Ordering::SeqCst);
+        self.writes
+            .fetch_add(u64::from(front > 0), Ordering::SeqCst);
+        self.bytes.lock(&self.rt).extend_from_slice(&buf[..front])?;
+        Ok(front)
+    }
+
+    fn flush(&mut self) -> io::Result<()> {
+        Ok(())
+    }
+}
+
+impl<R: Wait + Clock> TryWrite for Valve<R> {}
+
+pub(crate) type Player<R> = SharedPlayer<Subscriber, Writing<Valve<R>>, Open>;
+
+pub(crate) type Writer<R> = Writers<Subscriber, Writing<Valve<R>>, Open>;
+
+/// A player in its seat, and what is shared with its socket.
+#[derive(Drop)]
+pub(crate) struct Seated<R: Wait + Clock + Drop> {
+    pub(crate) player: Arc<Player<R>, Global>,
+    pub(crate) frames: Frames,
+    pub(crate) bytes: Bytes,
+    pub(crate) room: Count,
+    pub(crate) writes: Count,
+}
+
+/// Track 0 on channels 0 and 1.
+fn one_track() -> TrackChannels {
+    let mut channels = TrackChannels::new();
+    let pair = ChannelPair {
+        first: 0,
+        second: 1,
+    };
+    if channels.may_have(0, pair) {
+        channels.set(0, pair);
+    }
+    channels
+}
+
+impl<R: Wait + Clock + Abort + Copy + Drop> Seated<R> {
+    /// Nobody sends its frames yet, and its socket takes nothing.
+    fn new(
+        rt: R,
+        alloc: Global,
+        signal: &Arc<MountSignal, Global>,
+        seat: usize,
+        tap: Subscriber,
+        wait: u64,
+    ) -> Seated<R> {
+        let bytes = Arc::new(alloc, Mutex::new(Vec::new(alloc))).expect(&rt, "memory");
+        let room = count(&rt, alloc);
+        let writes = count(&rt, alloc);
+        let socket = Valve {
+            rt,
+            bytes: Arc::try_clone(&bytes).expect(&rt, "a count of its users"),
+            room: Arc::try_clone(&room).expect(&rt, "a count of its users"),
+            writes: Arc::try_clone(&writes).expect(&rt, "a count of its users"),
+            wait,
+        };
+        let line = WritingSide::new(alloc, Writing::new(socket), LONGEST);
+        let player = SharedPlayer::new(line, Open);
+        signal.attached(seat, tap.cursor());
+        player.put(&rt, tap);
+        let signal = Arc::try_clone(signal).expect(&rt, "a count of its users");
+        Seated {
+            player: Arc::new(alloc, player).expect(&rt, "memory"),
+            frames: Frames::new(1, seat, signal),
+            bytes,
+            room,
+            writes,
+        }
+    }
+
+    /// Its socket takes so many bytes from now on, or nearly all that there may be.
+    pub(crate) fn let_on(&self, bytes: Option<u64>) {
+        self.room.store(bytes.unwrap_or(1 << 40), Ordering::SeqCst);
+    }
+
+    /// A writer sends its frames.
+    pub(crate) fn give_to(&mut self, rt: &R, writers: &Writer<R>) {
+        let given = self
+            .frames
+            .give(rt, &self.player, writers, one_track(), None);
+        assert!(rt; given.is_ok());
+    }
+}
+
+impl<R: Threads + Wait + Clock + Abort + Copy + Drop + Send + Sync + 'static> Seated<R> {
+    /// A thread of its own sends its frames.
+    pub(crate) fn start(&mut self, rt: R, alloc: Global) {
+        let started = self
+            .frames
+            .start(rt, alloc, &self.player, one_track(), None, false);
+        assert!(rt; started.is_ok());
+    }
+
+    /// Takes it from who sends its frames. Where its tap is then.
+    pub(crate) fn stop(mut self, rt: &R, writers: &Writer<R>) -> TapPlace<Subscriber> {
+        let _ = self.frames.join(rt, &*self.player, Some(writers));
+        self.player.take(rt)
+    }
+
+    /// The account of a player whose mount has ended, once its frames have.
+    pub(crate) fn account(self, rt: &R, writers: &Writer<R>) -> Option<Left> {
+        match self.stop(rt, writers) {
+            TapPlace::Left(left) => Some(left),
+            _ => None,
+        }
+    }
+}

@@ -1,0 +1,12 @@
+//! Tests of the broadcast log, of the ring's core with its command, of the running ring, and of the engines.
+
+mod back_tests;
+mod closing_tests;
+mod lending_tests;
+mod log_tests;
+mod memory_tests;
+mod player_tests;
+mod publisher_tests;
+mod running_tests;
+mod script_tests;
+mod steps_tests;

@@ -1,0 +1,284 @@
+"""A server of the program and its peers, for what `tools/check-program` tries."""
+import contextlib
+import os
+import re
+import socket
+import struct
+import subprocess
+import threading
+import time
+from dataclasses import dataclass
+
+SDP = b"v=0\r\nm=video 0 RTP/AVP 96\r\na=control:streamid=0\r\n"
+
+OPTIONS = b"OPTIONS * RTSP/1.0\r\nCSeq: 9\r\n\r\n"
+
+# What of dist/vasklun.service's environment bears on memory.
+ALLOCATOR = {"MALLOC_MMAP_THRESHOLD_": "1048576", "MALLOC_ARENA_MAX": "4"}
+
+# Packets gather for a millisecond.
+GATHER = "--gather", "1"
+
+# By whom frames are sent: by two writers, and by a thread a player.
+MODES = ("--writers", "2"), ("--writers", "0")
+
+
+class Server:
+    """A server of the program on a free port, whose lines are read unless they shall wait."""
+
+    def __init__(self, program, *options, reads=True):
+        self.process = subprocess.Popen(
+            [program, "serve", "127.0.0.1:0", *options], stderr=subprocess.PIPE, text=True, env={**os.environ, **ALLOCATOR}
+        )
+        self.pid, self.lines = self.process.pid, []
+        first = self.process.stderr.readline()
+        self.port = int(re.search(r":(\d+)$", first.strip())[1])
+        self.address = f"127.0.0.1:{self.port}"
+        self.reader = threading.Thread(target=self.read, daemon=True)
+        if reads:
+            self.reader.start()
+
+    def read(self):
+        for line in self.process.stderr:
+            self.lines.append(line.rstrip("\n"))
+
+    def answers(self):
+        with Peer(self) as peer:
+            return peer.ask("OPTIONS", "*").status == 200
+
+    def threads(self):
+        return len(os.listdir(f"/proc/{self.pid}/task"))
+
+    def has_ended(self, seconds=30):
+        """Whether it ends by itself, as it does with `--accept`, with status 0."""
+        try:
+            return self.process.wait(seconds) == 0
+        except subprocess.TimeoutExpired:
+            return False
+
+    def end(self):
+        self.process.kill()
+        self.process.wait()
+
+
+@contextlib.contextmanager
+def serving(program, *options, reads=True):
+    server = Server(program, *options, reads=reads)
+    try:
+        yield server
+    finally:
+        server.end()
+
+
+@contextlib.contextmanager
+def ending(program, count, *options):
+    """A server that ends by itself once so many connections have ended. Behind it all its lines are read."""
+    with serving(program, "--accept", str(count), *options) as server:
+        yield server
+        if not server.has_ended():
+            raise AssertionError(f"it doesn't end by itself with status 0 after {count} connections")
+        server.reader.join()
+
+
+def counts(server, name, part):
+    """What the last line of a peer counts, by its words, in its part of a mount. Empty where it has no such line."""
+    head = f"[INFO  relay_server::server] {name}: {part}: "
+    for line in server.lines:
+        if line.startswith(head):
+            return {word: int(number) for word, number in re.findall(r"([A-Za-z][A-Za-z ]*) (\d+)", line[len(head):])}
+    return {}
+
+
+def until(seconds, holds):
+    """Whether that holds within so many seconds."""
+    end = time.monotonic() + seconds
+    while not holds():
+        if time.monotonic() > end:
+            return False
+        time.sleep(0.02)
+    return True
+
+
+@dataclass
+class Reply:
+    """A reply; `head` has its status line and its fields, with line ends."""
+
+    status: int
+    head: bytes
+    body: bytes
+
+    def field(self, name):
+        """The value of a field, or None."""
+        found = re.search(rb"\r\n" + name.encode() + rb": ([^\r]*)\r\n", self.head)
+        return found and found[1].decode()
+
+
+@dataclass
+class Frame:
+    """An interleaved frame: its channel, and its packet."""
+
+    channel: int
+    packet: bytes
+
+    @property
+    def number(self):
+        """The sequence number of an RTP packet."""
+        return struct.unpack(">H", self.packet[2:4])[0]
+
+
+def packet(number, size=12, timestamp=9000, source=0):
+    """An RTP packet of that number and so many bytes (RFC 3550, 5.1)."""
+    return struct.pack(">BBHII", 0x80, 96, number % 65536, timestamp, source) + bytes(size - 12)
+
+
+def frame(packet, channel=0):
+    """The packet as an interleaved frame (RFC 2326, 10.12)."""
+    return struct.pack(">BBH", 0x24, channel, len(packet)) + packet
+
+
+class Peer:
+    """A connection, which gives up when nothing comes for thirty seconds. What came and wasn't asked for yet waits in it."""
+
+    def __init__(self, server):
+        self.socket = socket.create_connection(("127.0.0.1", server.port), timeout=30)
+        self.socket.setsockopt(socket.IPPROTO_TCP, socket.TCP_NODELAY, 1)
+        self.rest, self.session = bytearray(), None
+
+    def __enter__(self):
+        return self
+
+    def __exit__(self, *_):
+        self.close()
+
+    def close(self):
+        self.socket.close()
+
+    def fall_silent(self):
+        """Says nothing more."""
+        self.socket.shutdown(socket.SHUT_WR)
+
+    def name(self):
+        """The address by which lines name it."""
+        return "%s:%d" % self.socket.getsockname()
+
+    def send(self, data):
+        self.socket.sendall(data)
+
+    def has(self, count):
+        """Whether so many bytes come, or have come, before the end."""
+        while len(self.rest) < count:
+            piece = self.socket.recv(1 << 16)
+            if not piece:
+                return False
+            self.rest += piece
+        return True
+
+    def bytes(self, count):
+        """The next so many bytes, or fewer where there are no more."""
+        self.has(count)
+        came = bytes(self.rest[:count])
+        del self.rest[:count]
+        return came
+
+    def next(self):
+        """The next Reply or Frame, or None at the end."""
+        if not self.has(1):
+            return None
+        if self.rest[0] == 0x24:
+            _, channel, length = struct.unpack(">BBH", self.bytes(4))
+            return Frame(channel, self.bytes(length))
+        head, place = b"", -1
+        while place < 0 and self.has(len(head) + 1):
+            head = bytes(self.rest)
+            place = head.find(b"\r\n\r\n")
+        if place < 0:
+            raise AssertionError(f"the end comes within a head: {head!r}")
+        head = self.bytes(place + 4)
+        size = re.search(rb"\r\nContent-Length: (\d+)", head)
+        return Reply(int(head[9:12]), head, self.bytes(int(size[1])) if size else b"")
+
+    def reply(self):
+        """The next reply, behind the frames that come before it; None at the end."""
+        while isinstance(came := self.next(), Frame):
+            pass
+        return came
+
+    def is_hung_up(self):
+        """Whether nothing comes any more, behind what was asked for."""
+        try:
+            return self.bytes(1) == b""
+        except ConnectionResetError:
+            return True
+
+    def say(self, method, url, *fields, body=b""):
+        """Sends a request, in its session where it has one."""
+        lines = [f"{method} {url} RTSP/1.0", "CSeq: 1", *fields]
+        if self.session:
+            lines.append(f"Session: {self.session}")
+        if body:
+            lines.append(f"Content-Length: {len(body)}")
+        self.send("".join(f"{line}\r\n" for line in lines).encode() + b"\r\n" + body)
+
+    def ask(self, method, url, *fields, body=b""):
+        """Sends a request, and gives the next reply, behind the frames that come before it."""
+        self.say(method, url, *fields, body=body)
+        return self.reply()
+
+    def set_up(self, url, transport):
+        """Sets a track up, and keeps the session. The status."""
+        reply = self.ask("SETUP", url, f"Transport: RTP/AVP/TCP;{transport}")
+        if reply.status == 200:
+            self.session = reply.field("Session").partition(";")[0]
+        return reply.status
+
+
+def wanted(reply, status=200):
+    """That reply; anything else than this status is a failure of what is tried."""
+    if reply is None or reply.status != status:
+        raise AssertionError(f"{status} is wanted, and not {reply}")
+    return reply
+
+
+class Camera(Peer):
+    """Records into a mount of one track, on channels 0 and 1."""
+
+    def __init__(self, server, mount="cam"):
+        super().__init__(server)
+        self.url = f"rtsp://{server.address}/{mount}"
+        wanted(self.ask("ANNOUNCE", self.url, body=SDP))
+        self.set_up(f"{self.url}/streamid=0", "interleaved=0-1;mode=record")
+        wanted(self.ask("RECORD", self.url))
+
+    def publish(self, numbers, size=12):
+        """Publishes packets of these numbers."""
+        self.send(b"".join(frame(packet(number, size)) for number in numbers))
+
+    def is_read(self):
+        """Waits until the server has read all that it said."""
+        wanted(self.ask("OPTIONS", "*"))
+
+
+class Player(Peer):
+    """Has set up the track of a mount, on channels 4 and 5, and plays it unless it shall wait."""
+
+    def __init__(self, server, mount="cam", plays=True):
+        super().__init__(server)
+        self.url = f"rtsp://{server.address}/{mount}"
+        if self.set_up(f"{self.url}/trackID=0", "interleaved=4-5") != 200:
+            raise AssertionError("no SETUP")
+        if plays:
+            wanted(self.play())
+
+    def play(self):
+        return self.ask("PLAY", self.url)
+
+    def plays_at_last(self):
+        """Asks to play until a seat is free, for fifty seconds. Whether it plays."""
+        return until(50, lambda: self.play().status == 200)
+
+    def numbers(self, count):
+        """The numbers of the next so many packets, or fewer where there are no more."""
+        came = []
+        while len(came) < count and isinstance(it := self.next(), Frame):
+            came.append(it.number)
+        return came
