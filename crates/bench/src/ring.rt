@@ -14,7 +14,6 @@ use source::Source;
 use std::alloc::Global;
 use std::fmt::Display;
 use std::io::{Eprint, Print};
-use std::process::Abort;
 use std::sync::Wait;
 use std::thread::Threads;
 use std::time::Clock;
@@ -24,7 +23,7 @@ use timing::{KEEP, SIZE, Times, time};
 /// Standard output tells whether all gave the same bytes, and how many packets were seen.
 pub fn time_all<R>(rt: R, alloc: Global, rounds: u32, seed: u64) -> anyhow::Result<()>
 where
-    R: Threads + Wait + Clock + Print + Eprint + Abort + Copy + Drop + Send + Sync + 'static,
+    R: Threads + Wait + Clock + Print + Eprint + Copy + Send + Sync + 'static,
 {
     eprintln!(rt; "of    seats  ns a publish  ns a take  published a second      lost")?;
     for seats in [0, 1, 3, 64] {
