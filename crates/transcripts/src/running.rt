@@ -41,13 +41,13 @@ fn run(tally: &mut Tally, hasher: RandomState, cutting: Cutting, text: &[u8]) ->
         alloc: tally.alloc,
         hasher,
         cutting,
-        open: None,
+        open: Vec::new(tally.alloc),
     };
     for (index, line) in text.split(|byte| *byte == b'\n').enumerate() {
         tally.line = index.saturating_add(1);
         cases.read(tally, line)?;
     }
-    if cases.open.is_some() {
+    if !cases.open.is_empty() {
         return Err(Fault::NoEnd);
     }
     tally.tell_counts()?;
@@ -60,7 +60,8 @@ struct Cases {
     alloc: Global,
     hasher: RandomState,
     cutting: Cutting,
-    open: Option<Case>,
+    /// In a list, so that what lets a case go is one function, proved once.
+    open: Vec<Case>,
 }
 
 impl Cases {
@@ -74,29 +75,24 @@ impl Cases {
     }
 
     fn begin(&mut self, kind: &[u8], title: &[u8]) -> Result<(), Fault> {
-        if self.open.is_some() {
+        if !self.open.is_empty() {
             return Err(Fault::CaseInCase);
         }
         let kind = Kind::named(kind).ok_or(Fault::UnknownKind)?;
         let case = Case::new(self.alloc, self.hasher, self.cutting, kind, title)?;
-        self.set(Some(case));
+        self.open.push(case)?;
         Ok(())
     }
 
     /// Reads the next line of the open case.
     fn go_on(&mut self, tally: &mut Tally, line: Line<'_>) -> Result<(), Fault> {
-        let Some(case) = &mut self.open else {
+        let Some(case) = self.open.last_mut() else {
             return Err(Fault::NoCase);
         };
         if !tally.go_on(case, line)? {
-            self.set(None);
+            self.open.clear();
         }
         Ok(())
-    }
-
-    /// The only place that lets a case go: that takes a proof of all that each kind of case holds.
-    fn set(&mut self, case: Option<Case>) {
-        self.open = case;
     }
 }
 
