@@ -149,10 +149,11 @@ def accounts_add_up_at_four_speeds(program, *options):
                 reading = [pool.submit(read_slowly, player, pause) for player, pause in zip(players, SPEEDS)]
                 camera.publish(range(PUBLISHED), LARGE)
             numbers = [it.result() for it in reading]
-    told = counts(server, names[0], "publisher of cam")
+    # Who lost nothing has no line.
+    told = counts(server, names[0], "publisher of cam") or {"published": PUBLISHED, "pinned": 0}
     if told["published"] + told["pinned"] != PUBLISHED:
         yield f"of {PUBLISHED} packets are told {told}"
-    of_players = [counts(server, name, "player of cam") for name in names[1:]]
+    of_players = [counts(server, name, "player of cam") or {"sent": told["published"], "lost": 0} for name in names[1:]]
     for came, sent in zip(numbers, of_players):
         if came != sorted(set(came)) or (len(came), told["published"]) != (sent["sent"], sent["sent"] + sent["lost"]):
             yield f"{len(came)} packets came, and of {told} is told {sent}"
