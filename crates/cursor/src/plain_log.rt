@@ -18,7 +18,6 @@ use std::marker::Model;
 
 /// The broadcast log as a value: the whole list of packets, whether it is closed, and a place for
 /// each seat.
-#[derive(Drop)]
 pub struct PlainLog {
     alloc: Global,
     keep: u64,
@@ -36,6 +35,19 @@ impl Model for PlainLog {
     ghost view = { λ p. plain_of p.keep p.packet_bytes p.packets.items p.closed p.seats.items };
 
     ghost invariant = { λ p. IsSound (plain_of p.keep p.packet_bytes p.packets.items p.closed p.seats.items) };
+}
+
+impl Drop for PlainLog {
+    fn drop(self) {
+        let PlainLog {
+            alloc: _,
+            keep: _,
+            packet_bytes: _,
+            packets: _,
+            closed: _,
+            seats: _,
+        } = self;
+    }
 }
 
 impl PlainLog {

@@ -7,7 +7,6 @@ use sdp::Description;
 use std::alloc::{AllocError, Global};
 
 /// A live mount (RFC 2326, 10.3: an ANNOUNCE posts the description of a presentation).
-#[derive(Drop)]
 pub struct Mount {
     /// 1 to 2^63, and never used again.
     pub number: u64,
@@ -17,6 +16,18 @@ pub struct Mount {
     pub name: Bytes,
     pub description: Description,
     pub seats: Seats,
+}
+
+impl Drop for Mount {
+    fn drop(self) {
+        let Mount {
+            number: _,
+            owner: _,
+            name: _,
+            description: _,
+            seats: _,
+        } = self;
+    }
 }
 
 impl Mount {

@@ -17,7 +17,6 @@ pub const MAX_MOUNTS: usize = 64;
 
 /// The live mounts. A contract sees them in the order in which they were announced, with the number that the next one
 /// gets and how many seats each has.
-#[derive(Drop)]
 pub struct Mounts {
     alloc: Global,
     // The names of the mounts, in their order.
@@ -37,6 +36,18 @@ impl Model for Mounts {
     ghost view = { table_of };
 
     ghost invariant = { IsKept };
+}
+
+impl Drop for Mounts {
+    fn drop(self) {
+        let Mounts {
+            alloc: _,
+            names: _,
+            mounts: _,
+            next: _,
+            seats: _,
+        } = self;
+    }
 }
 
 impl Mounts {

@@ -29,7 +29,6 @@ use waking::Next;
 ///
 /// A frame thread holds the tap's lock as long as it takes from it; the thread that reads takes the tap out when it has joined it.
 /// A writer holds the player's lock for one look, and the writing side's meanwhile.
-#[derive(Drop)]
 pub struct SharedPlayer<T, W: Sink, H> {
     pub writing: WritingSide<W>,
     pub wire: H,
@@ -38,6 +37,19 @@ pub struct SharedPlayer<T, W: Sink, H> {
     playing: Mutex<Option<Playing<T>>>,
     /// How many players it has had.
     plays: AtomicU64,
+}
+
+impl<T: Drop, W: Sink + Drop, H: Drop> Drop for SharedPlayer<T, W, H> {
+    fn drop(self) {
+        let SharedPlayer {
+            writing: _,
+            wire: _,
+            phase: _,
+            tap: _,
+            playing: _,
+            plays: _,
+        } = self;
+    }
 }
 
 impl<T, W: Sink + Drop, H> SharedPlayer<T, W, H> {
@@ -263,12 +275,22 @@ enum Sender {
 }
 
 /// A seat that a connection is attached to, and who sends what it takes.
-#[derive(Drop)]
 pub struct Frames {
     mount: u64,
     seat: usize,
     pub signal: Arc<MountSignal, Global>,
     sender: Sender,
+}
+
+impl Drop for Frames {
+    fn drop(self) {
+        let Frames {
+            mount: _,
+            seat: _,
+            signal: _,
+            sender: _,
+        } = self;
+    }
 }
 
 impl Frames {
@@ -344,7 +366,13 @@ impl Frames {
 
     /// The number of the mount, the seat and what tells of its packets.
     pub fn into_seat(self) -> (u64, usize, Arc<MountSignal, Global>) {
-        (self.mount, self.seat, self.signal)
+        let Frames {
+            mount,
+            seat,
+            signal,
+            sender: _,
+        } = self;
+        (mount, seat, signal)
     }
 
     /// Takes the seat from who sends its frames, waits for the end of its thread or its writer's look, and says how they ended.

@@ -17,7 +17,6 @@ use waking::{NO_MARKS, are_marks, next_word};
 /// players sleep on while there is nothing to take.
 ///
 /// Any thread of the server may use it. The points' lock is held for a copy of them or a change of one.
-#[derive(Drop)]
 pub struct MountSignal {
     points: Mutex<[Option<Point>; MOST_TRACKS]>,
     /// How many packets came since the players were last woken.
@@ -30,6 +29,20 @@ pub struct MountSignal {
     pub(crate) pace: Pace,
     pub(crate) tallies: Tallies,
     wake_signal: Arc<WakeSignal, Global>,
+}
+
+impl Drop for MountSignal {
+    fn drop(self) {
+        let MountSignal {
+            points: _,
+            news: _,
+            wakes: _,
+            ended: _,
+            pace: _,
+            tallies: _,
+            wake_signal: _,
+        } = self;
+    }
 }
 
 impl MountSignal {

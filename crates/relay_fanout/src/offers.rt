@@ -47,16 +47,29 @@ impl<M: Maker> Offer<M> {
 /// others are being made or judged. Nobody has used what comes back of one that was refused.
 ///
 /// The lock is held for a change of who has one; no other is taken meanwhile, and no offer is made or dropped.
-#[derive(Drop)]
 pub struct Offers<M: Maker> {
     standing: Mutex<Standing<M>>,
     changed: Condvar,
 }
 
-#[derive(Drop)]
+impl<M: Maker> Drop for Offers<M> {
+    fn drop(self) {
+        let Offers {
+            standing: _,
+            changed: _,
+        } = self;
+    }
+}
+
 struct Standing<M: Maker> {
     kept: Option<Offer<M>>,
     count: usize,
+}
+
+impl<M: Maker> Drop for Standing<M> {
+    fn drop(self) {
+        let Standing { kept: _, count: _ } = self;
+    }
 }
 
 impl<M: Maker> Offers<M> {

@@ -11,7 +11,6 @@ use std::time::{Clock, Duration};
 /// keep up or a round was opened since. The publisher's thread opens a round, wakes the players, and sleeps until the last that
 /// it waits for has taken as many as the round asks for, or left. The lock is held for a look at each seat or a change of one;
 /// it may be taken under the lock of a frame thread's tap or of a writer's player and its writing side, and no other is taken meanwhile.
-#[derive(Drop)]
 pub(crate) struct Pace {
     round: Mutex<Round>,
     over: Condvar,
@@ -21,6 +20,18 @@ pub(crate) struct Pace {
     target: AtomicU64,
     /// How many packets each seat's player has taken.
     cursors: Vec<AtomicU64>,
+}
+
+impl Drop for Pace {
+    fn drop(self) {
+        let Pace {
+            round: _,
+            over: _,
+            changes: _,
+            target: _,
+            cursors: _,
+        } = self;
+    }
 }
 
 /// What a player's thread knows of its own standing: the number of changes at which it was level, if it was.

@@ -19,9 +19,14 @@ struct RecordingMount {
 ///
 /// Its lock is held for a walk over the mounts, and no other lock is taken meanwhile. The room for as many as may live is
 /// made beforehand.
-#[derive(Drop)]
 pub struct RecordingMounts {
     mounts: Mutex<Vec<RecordingMount>>,
+}
+
+impl Drop for RecordingMounts {
+    fn drop(self) {
+        let RecordingMounts { mounts: _ } = self;
+    }
 }
 
 impl RecordingMounts {

@@ -17,13 +17,23 @@ use waking::{Next, Sweep};
 ///
 /// A player has a place with one of them while it plays. A list's lock is held for a look or a change, and no other lock is taken
 /// meanwhile.
-#[derive(Drop)]
 pub struct Writers<T, W: Sink, H> {
     lists: Vec<Mutex<List<T, W, H>>>,
     wake_signal: Arc<WakeSignal, Global>,
     stopped: AtomicBool,
     /// For how many milliseconds a peer may take no byte while some wait for it.
     most: u64,
+}
+
+impl<T: Drop, W: Sink + Drop, H: Drop> Drop for Writers<T, W, H> {
+    fn drop(self) {
+        let Writers {
+            lists: _,
+            wake_signal: _,
+            stopped: _,
+            most: _,
+        } = self;
+    }
 }
 
 /// There is no memory for one more player, or no writer.
@@ -54,11 +64,19 @@ struct Player<T, W: Sink, H> {
 }
 
 /// The players of a writer.
-#[derive(Drop)]
 struct List<T, W: Sink, H> {
     players: Vec<Player<T, W, H>>,
     /// How often a player came or left, which moves another one.
     changes: u64,
+}
+
+impl<T: Drop, W: Sink + Drop, H: Drop> Drop for List<T, W, H> {
+    fn drop(self) {
+        let List {
+            players: _,
+            changes: _,
+        } = self;
+    }
 }
 
 impl<T: Drop, W: Sink + Drop, H: Drop> Writers<T, W, H> {

@@ -25,7 +25,6 @@ use std::thread::Threads;
 use std::time::{Clock, Duration};
 
 /// A connection that is being served, by the thread that reads it.
-#[derive(Drop)]
 pub(crate) struct Connection<R, M: Maker, V, G, W: Sink, H, N> {
     rt: R,
     alloc: Global,
@@ -53,6 +52,31 @@ pub(crate) struct Connection<R, M: Maker, V, G, W: Sink, H, N> {
     counts: Counts,
     events: Events<R>,
     hearing: Hearing<N>,
+}
+
+impl<R: Drop, M: Maker + Drop, V: Drop, G: Drop, W: Sink + Drop, H: Drop, N: Drop> Drop
+    for Connection<R, M, V, G, W, H, N> {
+    fn drop(self) {
+        let Connection {
+            rt: _,
+            alloc: _,
+            shared: _,
+            player: _,
+            writers: _,
+            conn: _,
+            turns: _,
+            session: _,
+            part: _,
+            publishing: _,
+            mount: _,
+            frames: _,
+            is_over: _,
+            torn_down: _,
+            counts: _,
+            events: _,
+            hearing: _,
+        } = self;
+    }
 }
 
 impl<R, M: Maker, V, G, W: Sink, H, N> Connection<R, M, V, G, W, H, N> {

@@ -15,7 +15,6 @@ use std::time::{Clock, Instant};
 
 /// What a connection tells of the mount that it announced and of the seat that it plays from: a line for each as they come and
 /// go, and what reports tell of them while they go on. What there is no memory for counts as a dropped line.
-#[derive(Drop)]
 pub struct Events<R> {
     /// `None` where nothing is told.
     teller: Option<Teller<R>>,
@@ -23,8 +22,16 @@ pub struct Events<R> {
     mount: Option<Announced>,
 }
 
+impl<R: Drop> Drop for Events<R> {
+    fn drop(self) {
+        let Events {
+            teller: _,
+            mount: _,
+        } = self;
+    }
+}
+
 /// Whom lines tell of, and where they go.
-#[derive(Drop)]
 struct Teller<R> {
     lines: Arc<Lines<R>, Global>,
     peer: SocketAddr,
@@ -33,6 +40,18 @@ struct Teller<R> {
     is_verbose: bool,
     /// What is told of them while they go on. `None` for nothing.
     reports: Option<Arc<Reports, Global>>,
+}
+
+impl<R: Drop> Drop for Teller<R> {
+    fn drop(self) {
+        let Teller {
+            lines: _,
+            peer: _,
+            conn: _,
+            is_verbose: _,
+            reports: _,
+        } = self;
+    }
 }
 
 /// A mount that a connection has announced.

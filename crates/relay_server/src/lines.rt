@@ -13,7 +13,6 @@ use std::time::{Clock, Duration};
 /// line that finds 1,024 waiting is dropped, and a later line tells how many were.
 ///
 /// Any thread may log to it. Its lock is held for a change of the list; no other is taken meanwhile.
-#[derive(Drop)]
 pub struct Lines<R> {
     rt: R,
     alloc: Global,
@@ -21,13 +20,33 @@ pub struct Lines<R> {
     changed: Condvar,
 }
 
-#[derive(Drop)]
+impl<R: Drop> Drop for Lines<R> {
+    fn drop(self) {
+        let Lines {
+            rt: _,
+            alloc: _,
+            list: _,
+            changed: _,
+        } = self;
+    }
+}
+
 struct List {
     lines: Backlog<String>,
     /// No line comes any more.
     is_closed: bool,
     /// After the last line nothing is left to write.
     is_written: bool,
+}
+
+impl Drop for List {
+    fn drop(self) {
+        let List {
+            lines: _,
+            is_closed: _,
+            is_written: _,
+        } = self;
+    }
 }
 
 /// What the writing thread does next.

@@ -23,7 +23,6 @@ const READS: u32 = 4;
 /// The peers that were refused and stay a moment, and how many were refused since that was told.
 ///
 /// The thread that accepts puts them in, and one thread closes them. The lock is held for a change of the list alone.
-#[derive(Drop)]
 pub(crate) struct Refusing {
     list: Mutex<List>,
     changed: Condvar,
@@ -31,13 +30,32 @@ pub(crate) struct Refusing {
     began: Option<Instant>,
 }
 
-#[derive(Drop)]
+impl Drop for Refusing {
+    fn drop(self) {
+        let Refusing {
+            list: _,
+            changed: _,
+            began: _,
+        } = self;
+    }
+}
+
 struct List {
     /// Each with the moment at which it is closed.
     leaving: VecDeque<(Socket, u64)>,
     /// By `Refusal::place`.
     tallies: [Tally; Refusal::COUNT],
     is_closed: bool,
+}
+
+impl Drop for List {
+    fn drop(self) {
+        let List {
+            leaving: _,
+            tallies: _,
+            is_closed: _,
+        } = self;
+    }
 }
 
 /// What the closing thread does next.

@@ -18,7 +18,6 @@ const MOST_LINES: usize = 100;
 ///
 /// Its lock is held for a change of its lists, or for one report, whose lines are put meanwhile among those that wait to be
 /// written; no other lock is taken.
-#[derive(Drop)]
 pub struct Reports {
     /// How many packets a ring keeps.
     keep: u64,
@@ -26,15 +25,33 @@ pub struct Reports {
     closed: Condvar,
 }
 
-#[derive(Drop)]
+impl Drop for Reports {
+    fn drop(self) {
+        let Reports {
+            keep: _,
+            list: _,
+            closed: _,
+        } = self;
+    }
+}
+
 struct List {
     mounts: Vec<Mount>,
     players: Vec<Player>,
     is_closed: bool,
 }
 
+impl Drop for List {
+    fn drop(self) {
+        let List {
+            mounts: _,
+            players: _,
+            is_closed: _,
+        } = self;
+    }
+}
+
 /// A mount that is recorded, or has ended since it was last told of.
-#[derive(Drop)]
 struct Mount {
     conn: u64,
     number: u64,
@@ -42,6 +59,19 @@ struct Mount {
     signal: Arc<MountSignal, Global>,
     told: MountTally,
     has_ended: bool,
+}
+
+impl Drop for Mount {
+    fn drop(self) {
+        let Mount {
+            conn: _,
+            number: _,
+            name: _,
+            signal: _,
+            told: _,
+            has_ended: _,
+        } = self;
+    }
 }
 
 /// A player's seat that is to be told of.
@@ -55,7 +85,6 @@ pub(crate) struct ReportedSeat<'a> {
 }
 
 /// A player that has a seat, or has left it since it was last told of.
-#[derive(Drop)]
 struct Player {
     conn: u64,
     peer: SocketAddr,
@@ -67,6 +96,21 @@ struct Player {
     told: u64,
     /// How many it had lost when it left its seat.
     left: Option<u64>,
+}
+
+impl Drop for Player {
+    fn drop(self) {
+        let Player {
+            conn: _,
+            peer: _,
+            mount: _,
+            name: _,
+            seat: _,
+            signal: _,
+            told: _,
+            left: _,
+        } = self;
+    }
 }
 
 impl Mount {

@@ -92,7 +92,6 @@ where
 }
 
 /// What connections share, and where is told what becomes of them.
-#[derive(Drop)]
 pub(crate) struct Server<R, V, G, N> {
     pub(crate) shared: Arc<RingShared<V, G>, Global>,
     /// `None` where each player has a thread of its own.
@@ -106,6 +105,21 @@ pub(crate) struct Server<R, V, G, N> {
     silence: Silence,
     /// Whether lines tell of each mount and each player.
     is_verbose: bool,
+}
+
+impl<R: Drop, V: Drop, G: Drop, N: Drop> Drop for Server<R, V, G, N> {
+    fn drop(self) {
+        let Server {
+            shared: _,
+            writers: _,
+            lines: _,
+            refusing: _,
+            reports: _,
+            moments: _,
+            silence: _,
+            is_verbose: _,
+        } = self;
+    }
 }
 
 /// The writers that are asked for, which aren't started yet.

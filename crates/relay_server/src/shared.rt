@@ -44,7 +44,6 @@ pub(crate) fn let_in<P: Drop>(rt: &impl Wait, book: &SharedBook<P>) -> Result<u6
 }
 
 /// What all threads of a server share.
-#[derive(Drop)]
 pub struct Shared<M: Maker, V, G> {
     pub(crate) maker: M,
     pub(crate) book: SharedBook<Seat<M::Pass>>,
@@ -57,6 +56,22 @@ pub struct Shared<M: Maker, V, G> {
     pub(crate) after_end: Option<Duration>,
     /// How many connections have a thread.
     pub(crate) live: AtomicU64,
+}
+
+impl<M: Maker + Drop, V: Drop, G: Drop> Drop for Shared<M, V, G> {
+    fn drop(self) {
+        let Shared {
+            maker: _,
+            book: _,
+            offers: _,
+            words: _,
+            gate: _,
+            recording: _,
+            wake_signal: _,
+            after_end: _,
+            live: _,
+        } = self;
+    }
 }
 
 impl<M: Maker + Drop, V: Drop, G: Drop> Shared<M, V, G> {

@@ -22,7 +22,6 @@ pub struct Silence {
 /// interrupts is made again too: the system doesn't, for a socket whose reads end after a while.
 ///
 /// Silence is looked for before a read and never behind one, so that what has just come is heard first.
-#[derive(Drop)]
 pub struct Watched<R, P, N, S> {
     rt: R,
     inner: S,
@@ -32,6 +31,20 @@ pub struct Watched<R, P, N, S> {
     silence: Silence,
     /// When it was last looked.
     looked: u64,
+}
+
+impl<R: Drop, P: Drop, N: Drop, S: Drop> Drop for Watched<R, P, N, S> {
+    fn drop(self) {
+        let Watched {
+            rt: _,
+            inner: _,
+            book: _,
+            conn: _,
+            hearing: _,
+            silence: _,
+            looked: _,
+        } = self;
+    }
 }
 
 impl<R: Drop, P, N: Copy, S: Drop> Watched<R, P, N, S> {

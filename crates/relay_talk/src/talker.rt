@@ -43,7 +43,6 @@ type Offer = (Option<Publisher>, Option<Vec<Option<Pass>>>);
 ///
 /// What stands in the book as the pass of a seat may be none, so that a seat is given back with what was handed out for
 /// it, whatever that was.
-#[derive(Drop)]
 pub struct Talker {
     alloc: Global,
     pub book: Book<Option<Pass>>,
@@ -53,6 +52,18 @@ pub struct Talker {
     pub seat: Option<Pass>,
     /// The moment of its last message, where no frame has come since.
     pub heard: Option<u64>,
+}
+
+impl Drop for Talker {
+    fn drop(self) {
+        let Talker {
+            alloc: _,
+            book: _,
+            publishing: _,
+            seat: _,
+            heard: _,
+        } = self;
+    }
 }
 
 impl Talker {

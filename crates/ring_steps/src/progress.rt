@@ -14,7 +14,6 @@ use std::alloc::{AllocError, Global};
 use std::marker::Model;
 
 /// A ring in use, with how many calls of each actor were answered.
-#[derive(Drop)]
 pub(crate) struct Progress {
     ring: Ring,
     publisher: usize,
@@ -25,6 +24,16 @@ impl Model for Progress {
     ghost Value = { At };
 
     ghost view = { λ p. record { ring = p.ring; publisher = p.publisher; seats = p.seats.items } };
+}
+
+impl Drop for Progress {
+    fn drop(self) {
+        let Progress {
+            ring: _,
+            publisher: _,
+            seats: _,
+        } = self;
+    }
 }
 
 impl Progress {

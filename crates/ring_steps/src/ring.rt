@@ -14,7 +14,6 @@ use std::alloc::{AllocError, Global};
 use std::marker::Model;
 
 /// A ring whose publisher and seats make one atomic step at a time.
-#[derive(Drop)]
 pub struct Ring {
     pub(crate) alloc: Global,
     pub(crate) keep: u64,
@@ -29,6 +28,20 @@ impl Model for Ring {
     ghost Value = { State };
 
     ghost view = { λ p. record { keep = p.keep; head = p.head; slots = p.slots.items; log = p.log.items; publisher = p.publisher; seats = p.seats.items } };
+}
+
+impl Drop for Ring {
+    fn drop(self) {
+        let Ring {
+            alloc: _,
+            keep: _,
+            head: _,
+            slots: _,
+            log: _,
+            publisher: _,
+            seats: _,
+        } = self;
+    }
 }
 
 impl Ring {

@@ -28,7 +28,6 @@ pub enum Next {
 }
 
 /// The units of a source, one by one.
-#[derive(Drop)]
 pub struct Intake<S: Source> {
     alloc: Global,
     source: S,
@@ -53,6 +52,20 @@ impl<S: Source> Model for Intake<S> {
     ghost invariant = { IsIntake S.incoming };
 }
 
+impl<S: Source + Drop> Drop for Intake<S> {
+    fn drop(self) {
+        let Intake {
+            alloc: _,
+            source: _,
+            reader: _,
+            units: _,
+            piece: _,
+            held: _,
+            ended: _,
+        } = self;
+    }
+}
+
 impl<S: Source + Drop> Intake<S> {
     ghost use Rattle.rtsp_message.specs.Intakes.{fresh, handed, weight, HandsOut, Tells, IsOver, Lasts, IsNoUnit, IsPrompt, ReadsOnce, TakesAll};
 
@@ -74,7 +87,16 @@ impl<S: Source + Drop> Intake<S> {
     pub fn into_source(self) -> S
         ensures { result ≡ self.source }
     {
-        self.source
+        let Intake {
+            alloc: _,
+            source,
+            reader: _,
+            units: _,
+            piece: _,
+            held: _,
+            ended: _,
+        } = self;
+        source
     }
 
     /// At most so many units are still to come: each takes a byte at least of what the source has left, of what is held

@@ -28,7 +28,6 @@ pub struct Fed {
 /// It keeps the bytes that wait for more, fewer than 73,728 of them, in at most twice the room that they need, and what it
 /// knows of them, so that it doesn't look at them again for each piece. Once there was a fault it keeps that alone, and no
 /// room.
-#[derive(Drop)]
 pub struct Reader {
     store: Store,
     known: Known,
@@ -46,6 +45,17 @@ impl Model for Reader {
     ghost view = { state_of };
 
     ghost invariant = { IsReader };
+}
+
+impl Drop for Reader {
+    fn drop(self) {
+        let Reader {
+            store: _,
+            known: _,
+            fed: _,
+            fault: _,
+        } = self;
+    }
 }
 
 /// The units at the front of some bytes, and how far they go.

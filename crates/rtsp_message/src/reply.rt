@@ -65,7 +65,6 @@ fn copy_value(alloc: Global, value: &Option<Bytes>) -> Result<Option<Bytes>, All
 }
 
 /// A reply (RFC 2326, 7).
-#[derive(Drop)]
 pub struct Reply {
     pub status: Status,
     /// The number of the request that is answered, where it could be read (RFC 2326, 12.17).
@@ -73,6 +72,17 @@ pub struct Reply {
     pub fields: Fields,
     /// Empty where there is no body.
     pub body: Bytes,
+}
+
+impl Drop for Reply {
+    fn drop(self) {
+        let Reply {
+            status: _,
+            cseq: _,
+            fields: _,
+            body: _,
+        } = self;
+    }
 }
 
 impl Reply {

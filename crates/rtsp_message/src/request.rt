@@ -7,7 +7,6 @@ use base_syntax::Bytes;
 use std::alloc::{AllocError, Global};
 
 /// A request as it came (RFC 2326, 6). Its texts are bytes.
-#[derive(Drop)]
 pub struct Request {
     pub method: Bytes,
     pub uri: Bytes,
@@ -17,6 +16,19 @@ pub struct Request {
     pub headers: Headers,
     /// As many bytes as the Content-Length field announces, none without it (RFC 2326, 4.4).
     pub body: Bytes,
+}
+
+impl Drop for Request {
+    fn drop(self) {
+        let Request {
+            method: _,
+            uri: _,
+            version: _,
+            cseq: _,
+            headers: _,
+            body: _,
+        } = self;
+    }
 }
 
 impl Request {

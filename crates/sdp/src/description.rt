@@ -12,14 +12,18 @@ use std::marker::Model;
 use std::sync::Arc;
 
 /// A description that was read: good lines, with a track or more among them (RFC 4566, 5).
-#[derive(Drop)]
 pub struct Description {
     // Copies share it: a description may have thousands of lines.
     shared: Arc<Shared, Global>,
 }
 
+impl Drop for Description {
+    fn drop(self) {
+        let Description { shared: _ } = self;
+    }
+}
+
 /// What the copies of a description share.
-#[derive(Drop)]
 struct Shared {
     sections: Sections,
     // What players are given of them: made once, though each player asks for it.
@@ -39,6 +43,15 @@ impl Model for Description {
     ghost view = { λ d. (arc_value d.shared).sections };
 
     ghost invariant = { λ d. AreGood (arc_value d.shared).sections × (0 < length (arc_value d.shared).sections.tracks) × ((arc_value d.shared).text ≡ description_text (arc_value d.shared).sections) };
+}
+
+impl Drop for Shared {
+    fn drop(self) {
+        let Shared {
+            sections: _,
+            text: _,
+        } = self;
+    }
 }
 
 impl Description {

@@ -37,7 +37,6 @@ pub const CUT: usize = 4096;
 /// A contract sees how many seats each mount has, the whole history, how many of its newest entries are kept, how many may
 /// be before they are cut off, and the passes. The history is legal, `kept` says so, and the base stands for what isn't
 /// kept of it, as `base` says.
-#[derive(Drop)]
 pub struct Book<P> {
     alloc: Global,
     seats: usize,
@@ -54,6 +53,18 @@ impl<P> Model for Book<P> {
     ghost view = { λ b. record { seats = b.seats; cut = b.entries.cut; history = b.entries.history; kept = b.entries.kept; spares = b.spares.mounts } };
 
     ghost invariant = { λ b. IsKept b.seats b.world b.entries b.spares };
+}
+
+impl<P: Drop> Drop for Book<P> {
+    fn drop(self) {
+        let Book {
+            alloc: _,
+            seats: _,
+            world: _,
+            entries: _,
+            spares: _,
+        } = self;
+    }
 }
 
 impl<P: Drop> Book<P> {

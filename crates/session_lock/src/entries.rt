@@ -10,7 +10,6 @@ use std::marker::Model;
 use std::mem;
 
 /// The history as it is written down: its newest entries, and the world that those before them led to.
-#[derive(Drop)]
 pub(crate) struct Entries {
     // How many entries are kept, or more, when all are cut off before the next one.
     cut: usize,
@@ -31,6 +30,18 @@ impl Model for Entries {
     ghost view = { λ e. record { history = e.history.items; cut = e.cut; kept = length e.entries.items; base = e.base; room = vec_capacity e.entries - vec_len e.entries } };
 
     ghost invariant = { λ e. AreNewest e.entries.items e.history.items };
+}
+
+impl Drop for Entries {
+    fn drop(self) {
+        let Entries {
+            cut: _,
+            base: _,
+            retired: _,
+            entries: _,
+            history: _,
+        } = self;
+    }
 }
 
 impl Entries {

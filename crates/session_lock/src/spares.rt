@@ -24,7 +24,6 @@ pub struct MountPasses<P> {
 }
 
 /// The spare passes of the mounts that live.
-#[derive(Drop)]
 pub(crate) struct Spares<P> {
     mounts: Vec<MountPasses<P>>,
     // How many seats of these mounts are out.
@@ -40,6 +39,12 @@ impl<P> Model for Spares<P> {
     ghost view = { λ s. record { mounts = s.mounts.items; room = vec_capacity s.mounts - vec_len s.mounts } };
 
     ghost invariant = { λ s. IsHeld s.mounts.items s.out };
+}
+
+impl<P: Drop> Drop for Spares<P> {
+    fn drop(self) {
+        let Spares { mounts: _, out: _ } = self;
+    }
 }
 
 impl<P: Drop> Spares<P> {

@@ -27,7 +27,6 @@ pub const MAX_CONNECTIONS: usize = 1024;
 
 /// What a server remembers to decide: the live mounts, and the open connections with their sessions. A contract speaks of
 /// every history that it stands for.
-#[derive(Drop)]
 pub struct World {
     pub(crate) mounts: Mounts,
     pub(crate) connections: BTreeMap<u64, Connection>,
@@ -41,6 +40,17 @@ impl Model for World {
     ghost Value = { Tables };
 
     ghost view = { λ w. record { mounts = w.mounts; connections = w.connections.entries; came = w.came; begun = w.begun } };
+}
+
+impl Drop for World {
+    fn drop(self) {
+        let World {
+            mounts: _,
+            connections: _,
+            came: _,
+            begun: _,
+        } = self;
+    }
 }
 
 impl World {

@@ -60,7 +60,6 @@ pub enum Cutting {
 }
 
 /// A book and a world, in which the same has happened.
-#[derive(Drop)]
 pub struct BookCase {
     alloc: Global,
     hasher: RandomState,
@@ -78,6 +77,24 @@ pub struct BookCase {
     offer: Option<u32>,
     /// How many passes were offered so far: these are their numbers.
     offered: u16,
+}
+
+impl Drop for BookCase {
+    fn drop(self) {
+        let BookCase {
+            alloc: _,
+            hasher: _,
+            cutting: _,
+            seats: _,
+            book: _,
+            world: _,
+            entries: _,
+            kept: _,
+            given: _,
+            offer: _,
+            offered: _,
+        } = self;
+    }
 }
 
 impl BookCase {

@@ -9,7 +9,6 @@ use std::alloc::Global;
 use std::collections::hash_map::RandomState;
 
 /// A case, as far as it is read.
-#[derive(Drop)]
 pub struct Case {
     pub kind: Kind,
     /// The name of its kind, and its own.
@@ -17,6 +16,17 @@ pub struct Case {
     pub subject: Subject,
     /// The step that is not run yet.
     step: Option<Step>,
+}
+
+impl Drop for Case {
+    fn drop(self) {
+        let Case {
+            kind: _,
+            title: _,
+            subject: _,
+            step: _,
+        } = self;
+    }
 }
 
 impl Case {

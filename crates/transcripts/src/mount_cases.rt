@@ -51,13 +51,23 @@ const WORDS: [(&str, MountWord); 13] = [
 ];
 
 /// A table of mounts.
-#[derive(Drop)]
 pub struct MountCase {
     alloc: Global,
     hasher: RandomState,
     mounts: Mounts,
     /// What the next mounts are announced with.
     description: Vec<u8>,
+}
+
+impl Drop for MountCase {
+    fn drop(self) {
+        let MountCase {
+            alloc: _,
+            hasher: _,
+            mounts: _,
+            description: _,
+        } = self;
+    }
 }
 
 impl MountCase {

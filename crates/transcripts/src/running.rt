@@ -41,13 +41,13 @@ fn run(tally: &mut Tally, hasher: RandomState, cutting: Cutting, text: &[u8]) ->
         alloc: tally.alloc,
         hasher,
         cutting,
-        open: Vec::new(tally.alloc),
+        open: None,
     };
     for (index, line) in text.split(|byte| *byte == b'\n').enumerate() {
         tally.line = index.saturating_add(1);
         cases.read(tally, line)?;
     }
-    if !cases.open.is_empty() {
+    if cases.open.is_some() {
         return Err(Fault::NoEnd);
     }
     tally.tell_counts()?;
@@ -60,8 +60,7 @@ struct Cases {
     alloc: Global,
     hasher: RandomState,
     cutting: Cutting,
-    /// In a list, so that what lets a case go is one function, proved once.
-    open: Vec<Case>,
+    open: Option<Case>,
 }
 
 impl Cases {
@@ -75,22 +74,22 @@ impl Cases {
     }
 
     fn begin(&mut self, kind: &[u8], title: &[u8]) -> Result<(), Fault> {
-        if !self.open.is_empty() {
+        if self.open.is_some() {
             return Err(Fault::CaseInCase);
         }
         let kind = Kind::named(kind).ok_or(Fault::UnknownKind)?;
         let case = Case::new(self.alloc, self.hasher, self.cutting, kind, title)?;
-        self.open.push(case)?;
+        self.open = Some(case);
         Ok(())
     }
 
     /// Reads the next line of the open case.
     fn go_on(&mut self, tally: &mut Tally, line: Line<'_>) -> Result<(), Fault> {
-        let Some(case) = self.open.last_mut() else {
+        let Some(case) = &mut self.open else {
             return Err(Fault::NoCase);
         };
         if !tally.go_on(case, line)? {
-            self.open.clear();
+            self.open = None;
         }
         Ok(())
     }

@@ -23,12 +23,22 @@ struct Readout {
 }
 
 /// A stream, as far as it came.
-#[derive(Drop)]
 pub struct StreamCase {
     alloc: Global,
     reader: Reader,
     bytes: Vec<u8>,
     read: Readout,
+}
+
+impl Drop for StreamCase {
+    fn drop(self) {
+        let StreamCase {
+            alloc: _,
+            reader: _,
+            bytes: _,
+            read: _,
+        } = self;
+    }
 }
 
 impl StreamCase {

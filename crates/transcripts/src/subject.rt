@@ -17,15 +17,15 @@ use base_syntax::cut;
 use std::alloc::{AllocError, Global};
 use std::collections::hash_map::RandomState;
 
-/// What a case is run over. What holds much is in a box, so that what lets it go is a function of its own, proved once.
+/// What a case is run over.
 #[derive(Drop)]
 pub enum Subject {
-    Book(Box<BookCase>),
-    Stream(Box<StreamCase>),
+    Book(BookCase),
+    Stream(StreamCase),
     Reply,
     Sdp,
     Header(HeaderCase),
-    Mounts(Box<MountCase>),
+    Mounts(MountCase),
     Log(LogCase),
     Steps,
 }
@@ -39,14 +39,12 @@ impl Subject {
         kind: Kind,
     ) -> Result<Subject, AllocError> {
         Ok(match kind {
-            Kind::Book => {
-                Subject::Book(Box::new(alloc, BookCase::new(alloc, hasher, 1, cutting))?)
-            }
-            Kind::Stream => Subject::Stream(Box::new(alloc, StreamCase::new(alloc))?),
+            Kind::Book => Subject::Book(BookCase::new(alloc, hasher, 1, cutting)),
+            Kind::Stream => Subject::Stream(StreamCase::new(alloc)),
             Kind::Reply => Subject::Reply,
             Kind::Sdp => Subject::Sdp,
             Kind::Header => Subject::Header(HeaderCase::new()),
-            Kind::Mounts => Subject::Mounts(Box::new(alloc, MountCase::new(alloc, hasher)?)?),
+            Kind::Mounts => Subject::Mounts(MountCase::new(alloc, hasher)?),
             Kind::Log => Subject::Log(LogCase::new()),
             Kind::Steps => Subject::Steps,
         })

@@ -14,8 +14,7 @@ use std::time::{Clock, Instant};
 pub struct Bench {
     alloc: Global,
     seed: u64,
-    /// In a box, so that what lets it go is one function, proved once.
-    book: Box<Book<u16>>,
+    book: Book<u16>,
     conn: u64,
     given: Given,
 }
@@ -29,13 +28,12 @@ pub struct Times {
 
 impl Bench {
     pub fn new(alloc: Global, seed: u64, hasher: RandomState) -> Result<Bench> {
-        let book = Box::new(alloc, Book::new(alloc, 1, hasher))?;
         let request = texts::announce(alloc, b"kept", false, seed)?;
         let passes = one_pass(alloc)?;
         let mut bench = Bench {
             alloc,
             seed,
-            book,
+            book: Book::new(alloc, 1, hasher),
             conn: 0,
             given: Given {
                 word: (seed % (1 << 32)) as u32,

@@ -26,12 +26,11 @@ fn come_after(book: &mut Book<u16>, last: u64, count: u64) -> bool {
 
 #[test]
 fn who_hangs_up_gives_room_to_others(rt: HostRuntime) -> Result<(), Fail> {
-    let alloc = rt.alloc();
-    let mut book: Box<Book<u16>> = Box::new(alloc, Book::new(alloc, 1, RandomState::new(&rt)?))?;
+    let mut book: Book<u16> = Book::new(rt.alloc(), 1, RandomState::new(&rt)?);
     for number in 1..=IN_TURN {
-        assert!(rt; comes_and_goes(&mut *book, number));
+        assert!(rt; comes_and_goes(&mut book, number));
     }
-    assert!(rt; come_after(&mut *book, IN_TURN, 1024));
+    assert!(rt; come_after(&mut book, IN_TURN, 1024));
     assert!(rt; book.connect() == Err(ConnectFault::Full));
     // Before the 2,049th and the 4,097th there were 4,096.
     assert!(rt; book.kept() == 2 * (5000 - 4096) + 1024);
@@ -41,9 +40,8 @@ fn who_hangs_up_gives_room_to_others(rt: HostRuntime) -> Result<(), Fail> {
 /// The room for each hang-up was made when its connection came.
 #[test]
 fn all_that_are_open_hang_up(rt: HostRuntime) -> Result<(), Fail> {
-    let alloc = rt.alloc();
-    let mut book: Box<Book<u16>> = Box::new(alloc, Book::new(alloc, 1, RandomState::new(&rt)?))?;
-    assert!(rt; connects(&mut *book, 1024));
+    let mut book: Book<u16> = Book::new(rt.alloc(), 1, RandomState::new(&rt)?);
+    assert!(rt; connects(&mut book, 1024));
     for conn in 1..1025 {
         assert!(rt; book.hangup(conn) == Act::None);
     }
@@ -59,10 +57,10 @@ const MANY: usize = 3000;
 #[test]
 fn many_requests_are_answered(rt: HostRuntime) -> Result<(), Fail> {
     let alloc = rt.alloc();
-    let mut book: Box<Book<u16>> = Box::new(alloc, Book::new(alloc, 0, RandomState::new(&rt)?))?;
+    let mut book: Book<u16> = Book::new(alloc, 0, RandomState::new(&rt)?);
     assert!(rt; book.connect() == Ok(1));
     for _ in 0..MANY {
-        assert!(rt; is_accepted(&mut *book, alloc, 1, OPTIONS, None));
+        assert!(rt; is_accepted(&mut book, alloc, 1, OPTIONS, None));
     }
     assert!(rt; book.kept() == MANY + 1);
     Ok(())
@@ -77,25 +75,22 @@ fn retired_with(book: &mut Book<u16>, conn: u64) -> Option<bool> {
 #[test]
 fn comings_and_requests_cut_the_entries_off(rt: HostRuntime) -> Result<(), Fail> {
     let alloc = rt.alloc();
-    let mut book: Box<Book<u16>> = Box::new(
-        alloc,
-        Book::with_cut(alloc, 1, RandomState::new(&rt)?, 2),
-    )?;
+    let mut book: Book<u16> = Book::with_cut(alloc, 1, RandomState::new(&rt)?, 2);
     for kept in [1, 2, 1] {
         assert!(rt; book.connect().is_ok());
         assert!(rt; book.kept() == kept);
     }
     // The base before it comes out once.
-    assert!(rt; retired_with(&mut *book, 1) == Some(false));
-    assert!(rt; retired_with(&mut *book, 1).is_none());
+    assert!(rt; retired_with(&mut book, 1) == Some(false));
+    assert!(rt; retired_with(&mut book, 1).is_none());
     // It stood at the base.
     assert!(rt; book.base().is_open(2) && !book.base().is_open(3));
     assert!(rt; book.hangup(2) == Act::None && book.kept() == 2);
     assert!(rt; book.hangup(1) == Act::None && book.kept() == 3);
     assert!(rt; book.base().is_open(2));
-    assert!(rt; is_accepted(&mut *book, alloc, 3, OPTIONS, None) && book.kept() == 1);
+    assert!(rt; is_accepted(&mut book, alloc, 3, OPTIONS, None) && book.kept() == 1);
     assert!(rt; !book.base().is_open(2) && book.base().is_open(3));
-    assert!(rt; retired_with(&mut *book, 2) == Some(true));
+    assert!(rt; retired_with(&mut book, 2) == Some(true));
     assert!(rt; book.connect() == Ok(4) && book.kept() == 2);
     Ok(())
 }
@@ -163,16 +158,13 @@ const VISITS: u64 = 1_700;
 #[test]
 fn a_book_of_forty_entries_does_not_grow(rt: HostRuntime) -> Result<(), Fail> {
     let alloc = rt.alloc();
-    let mut book: Box<Book<u16>> = Box::new(
-        alloc,
-        Book::with_cut(alloc, 1, RandomState::new(&rt)?, FORTY),
-    )?;
+    let mut book: Book<u16> = Book::with_cut(alloc, 1, RandomState::new(&rt)?, FORTY);
     let mut wanted = Wanted {
         kept: 0,
         open: None,
     };
     for conn in 1..=VISITS {
-        wanted = visited(&mut *book, alloc, conn, wanted).expect(&rt, "what it keeps");
+        wanted = visited(&mut book, alloc, conn, wanted).expect(&rt, "what it keeps");
     }
     Ok(())
 }
@@ -185,18 +177,15 @@ fn holds(book: &Book<u16>, kept: usize, open: usize) -> bool {
 #[test]
 fn who_has_left_is_kept_until_the_next_comes(rt: HostRuntime) -> Result<(), Fail> {
     let alloc = rt.alloc();
-    let mut book: Box<Book<u16>> = Box::new(
-        alloc,
-        Book::with_cut(alloc, 1, RandomState::new(&rt)?, FORTY),
-    )?;
-    assert!(rt; connects(&mut *book, 1024));
+    let mut book: Book<u16> = Book::with_cut(alloc, 1, RandomState::new(&rt)?, FORTY);
+    assert!(rt; connects(&mut book, 1024));
     // Before the 41st there were 40, and so before each fortieth after it.
-    assert!(rt; holds(&*book, 24, 1000));
+    assert!(rt; holds(&book, 24, 1000));
     for conn in 1..1025 {
         assert!(rt; book.hangup(conn) == Act::None);
     }
-    assert!(rt; holds(&*book, 24 + 1024, 1000));
+    assert!(rt; holds(&book, 24 + 1024, 1000));
     assert!(rt; book.connect() == Ok(1025));
-    assert!(rt; holds(&*book, 1, 0));
+    assert!(rt; holds(&book, 1, 0));
     Ok(())
 }

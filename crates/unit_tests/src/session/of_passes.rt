@@ -86,18 +86,18 @@ fn play_without_pass(book: &mut Book<u16>, alloc: Global) -> Option<u16> {
 fn as_many_seats_as_there_may_be_are_handed_out(rt: HostRuntime) -> Result<(), Fail> {
     let alloc = rt.alloc();
     assert!(rt; MAX_SEATS == MOST);
-    let mut book: Box<Book<u16>> = Box::new(alloc, Book::new(alloc, MOST, RandomState::new(&rt)?))?;
-    assert!(rt; is_set_up(&mut *book, alloc));
+    let mut book: Book<u16> = Book::new(alloc, MOST, RandomState::new(&rt)?);
+    assert!(rt; is_set_up(&mut book, alloc));
     let mut is_out = vec![in alloc; false; MOST].expect(&rt, "memory");
     for _ in 0..MOST {
-        assert!(rt; takes_another(&mut *book, alloc, is_out.as_mut_slice()));
+        assert!(rt; takes_another(&mut book, alloc, is_out.as_mut_slice()));
     }
-    assert!(rt; play_without_pass(&mut *book, alloc) == Some(453));
+    assert!(rt; play_without_pass(&mut book, alloc) == Some(453));
     for seat in 0..1024u16 {
         assert!(rt; book.give_back(1, seat as usize, seat).is_none());
         assert!(rt; book.give_back(1, seat as usize, seat) == Some(seat));
     }
-    assert!(rt; seat_taken(&mut *book, alloc).is_some());
+    assert!(rt; seat_taken(&mut book, alloc).is_some());
     Ok(())
 }
 
@@ -170,8 +170,8 @@ fn spare_passes_go_with_their_owner(rt: HostRuntime) -> Result<(), Fail> {
     let hasher = RandomState::new(&rt)?;
     let first = Arc::new(alloc, 1)?;
     let second = Arc::new(alloc, 2)?;
-    let mut book: Box<Book<Counted>> = Box::new(alloc, Book::new(alloc, 3, hasher))?;
-    assert!(rt; ends_while_played(&mut *book, alloc, &first, &second));
+    let mut book: Book<Counted> = Book::new(alloc, 3, hasher);
+    assert!(rt; ends_while_played(&mut book, alloc, &first, &second));
     assert!(rt; owners(&first, &second) == (1, 4));
     drop(book);
     assert!(rt; owners(&first, &second) == (1, 1));
@@ -192,11 +192,11 @@ fn spare_passes_go_with_a_teardown(rt: HostRuntime) -> Result<(), Fail> {
     let hasher = RandomState::new(&rt)?;
     let first = Arc::new(alloc, 1)?;
     let second = Arc::new(alloc, 2)?;
-    let mut book: Box<Book<Counted>> = Box::new(alloc, Book::new(alloc, 3, hasher))?;
-    let pass = played(&mut *book, alloc, &first, &second);
-    assert!(rt; pass.is_some() && is_accepted(&mut *book, alloc, 1, SETUP, None));
+    let mut book: Book<Counted> = Book::new(alloc, 3, hasher);
+    let pass = played(&mut book, alloc, &first, &second);
+    assert!(rt; pass.is_some() && is_accepted(&mut book, alloc, 1, SETUP, None));
     assert!(rt; owners(&first, &second) == (4, 4));
-    assert!(rt; tears_down(&mut *book, alloc));
+    assert!(rt; tears_down(&mut book, alloc));
     assert!(rt; owners(&first, &second) == (2, 4));
     drop(pass);
     assert!(rt; owners(&first, &second) == (1, 4));
@@ -221,11 +221,11 @@ fn an_offer_that_is_not_used_comes_back_whole(rt: HostRuntime) -> Result<(), Fai
     let hasher = RandomState::new(&rt)?;
     let first = Arc::new(alloc, 1)?;
     let second = Arc::new(alloc, 2)?;
-    let mut book: Box<Book<Counted>> = Box::new(alloc, Book::new(alloc, 3, hasher))?;
-    assert!(rt; played(&mut *book, alloc, &first, &second).is_some());
+    let mut book: Book<Counted> = Book::new(alloc, 3, hasher);
+    assert!(rt; played(&mut book, alloc, &first, &second).is_some());
     // The pass that was handed out is let go.
     assert!(rt; owners(&first, &second) == (3, 4));
-    assert!(rt; is_refused_another(&mut *book, alloc, &first));
+    assert!(rt; is_refused_another(&mut book, alloc, &first));
     assert!(rt; owners(&first, &second) == (3, 4));
     Ok(())
 }

@@ -296,25 +296,25 @@ fn plays(rt: &impl Abort, book: &mut Book<u16>, alloc: Global, cut: usize) -> bo
     true
 }
 
-/// A book of one seat that cuts so many entries off, in a box.
-fn book_of<R: RandomSource + Abort>(rt: &R, alloc: Global, cut: usize) -> Box<Book<u16>>
+/// A book of one seat that cuts so many entries off.
+fn book_of<R: RandomSource + Abort>(rt: &R, alloc: Global, cut: usize) -> Book<u16>
     requires { 1 ≤ cut }
 {
     let hasher = RandomState::new(rt).expect(rt, "random bytes");
-    Box::new(alloc, Book::with_cut(alloc, 1, hasher, cut)).expect(rt, "memory")
+    Book::with_cut(alloc, 1, hasher, cut)
 }
 
 #[test]
 fn a_refused_call_of_the_book_is_made_again(rt: HostRuntime) {
     let mut book = book_of(&rt, rt.alloc(), NO_CUT);
-    assert!(rt; plays(&rt, &mut *book, rt.alloc(), NO_CUT));
+    assert!(rt; plays(&rt, &mut book, rt.alloc(), NO_CUT));
 }
 
 /// Each call but the first copies the world.
 #[test]
 fn a_refused_cut_is_made_again(rt: HostRuntime) {
     let mut book = book_of(&rt, rt.alloc(), 1);
-    assert!(rt; plays(&rt, &mut *book, rt.alloc(), 1));
+    assert!(rt; plays(&rt, &mut book, rt.alloc(), 1));
     assert!(rt; state_of(book.base().session_of(2)) == Some(State::Ready));
 }
 
@@ -333,8 +333,8 @@ fn leave(book: &mut Book<u16>) -> bool {
 #[test]
 fn who_leaves_the_book_takes_no_memory(rt: HostRuntime) {
     let mut book = book_of(&rt, rt.alloc(), NO_CUT);
-    assert!(rt; plays(&rt, &mut *book, rt.alloc(), NO_CUT));
-    assert!(rt; leave(&mut *book));
+    assert!(rt; plays(&rt, &mut book, rt.alloc(), NO_CUT));
+    assert!(rt; leave(&mut book));
     let _next = Vec::from_elem(rt.alloc(), 0u8, 1).is_ok();
 }
 
@@ -363,9 +363,9 @@ fn status_after(rt: &impl Abort, book: &mut Book<u16>, alloc: Global) -> Option<
 #[test]
 fn who_leaves_between_cuts_takes_no_memory(rt: HostRuntime) {
     let mut book = book_of(&rt, rt.alloc(), 1);
-    assert!(rt; plays(&rt, &mut *book, rt.alloc(), 1));
-    assert!(rt; leave_uncut(&mut *book));
-    assert!(rt; comes_at_last(&mut *book) == Some(COME + 1));
+    assert!(rt; plays(&rt, &mut book, rt.alloc(), 1));
+    assert!(rt; leave_uncut(&mut book));
+    assert!(rt; comes_at_last(&mut book) == Some(COME + 1));
     assert!(rt; book.kept() == 1 && book.base().count_open() == 14);
-    assert!(rt; status_after(&rt, &mut *book, rt.alloc()) == Some(404));
+    assert!(rt; status_after(&rt, &mut book, rt.alloc()) == Some(404));
 }

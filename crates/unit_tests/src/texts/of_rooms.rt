@@ -1,7 +1,8 @@
 //! How much room there is for more than what is in units, in copies of requests and of replies, in the lists of them and in texts.
-use base_syntax::Bytes;
-use rtsp_message::{Fields, Header, Reader, Reply, Request, Status, Unit, put_reply};
+use base_syntax::{Bytes, Items};
+use rtsp_message::{Fields, Reader, Reply, Request, Status, Unit, put_reply};
 use std::alloc::{AllocError, Global};
+use std::mem;
 use std::process::Abort;
 
 /// How many frames, and how many header fields, are read.
@@ -12,9 +13,9 @@ fn is_close(capacity: usize, len: usize) -> bool {
     capacity / 2 <= len.saturating_add(4)
 }
 
-/// Looks at the room of a text.
-fn look_at_bytes(rt: &impl Abort, bytes: Bytes) {
-    let bytes = bytes.into_vec();
+/// Looks at the room of a text, and leaves none in its place.
+fn look_at_bytes(rt: &impl Abort, alloc: Global, bytes: &mut Bytes) {
+    let bytes = mem::replace(bytes, Bytes::empty(alloc)).into_vec();
     assert!(rt;
         is_close(bytes.capacity(), bytes.len()),
         "{} of {}",
@@ -24,28 +25,21 @@ fn look_at_bytes(rt: &impl Abort, bytes: Bytes) {
 }
 
 /// Looks at the room of each text of a request, and of the list of its header fields.
-fn look_at_request(rt: &impl Abort, request: Request) {
-    let Request {
-        method,
-        uri,
-        version,
-        headers,
-        body,
-        ..
-    } = request;
-    for text in [method, uri, version, body] {
-        look_at_bytes(rt, text);
-    }
-    let headers = headers.into_vec();
+fn look_at_request(rt: &impl Abort, alloc: Global, mut request: Request) {
+    look_at_bytes(rt, alloc, &mut request.method);
+    look_at_bytes(rt, alloc, &mut request.uri);
+    look_at_bytes(rt, alloc, &mut request.version);
+    look_at_bytes(rt, alloc, &mut request.body);
+    let headers = mem::replace(&mut request.headers, Items::empty(alloc)).into_vec();
     assert_eq!(rt; headers.len(), MANY);
     assert!(rt;
         is_close(headers.capacity(), headers.len()),
         "{}",
         headers.capacity()
     );
-    for Header { name, value } in headers {
-        look_at_bytes(rt, name);
-        look_at_bytes(rt, value);
+    for mut header in headers {
+        look_at_bytes(rt, alloc, &mut header.name);
+        look_at_bytes(rt, alloc, &mut header.value);
     }
 }
 
@@ -78,10 +72,10 @@ fn units_take_at_most_twice_the_room_they_need(rt: HostRuntime) {
     );
     for unit in units {
         match unit {
-            Unit::Frame(frame) => look_at_bytes(&rt, frame.payload),
+            Unit::Frame(mut frame) => look_at_bytes(&rt, alloc, &mut frame.payload),
             Unit::Message(request) => {
-                look_at_request(&rt, request.copy(alloc).expect(&rt, "memory"));
-                look_at_request(&rt, request);
+                look_at_request(&rt, alloc, request.copy(alloc).expect(&rt, "memory"));
+                look_at_request(&rt, alloc, request);
             }
         }
     }
@@ -113,9 +107,8 @@ fn long_reply(rt: &impl Abort, alloc: Global) -> Reply {
 }
 
 /// Looks at the room of each text of a reply.
-fn look_at_reply(rt: &impl Abort, reply: Reply) {
-    let Reply { fields, body, .. } = reply;
-    look_at_bytes(rt, body);
+fn look_at_reply(rt: &impl Abort, alloc: Global, mut reply: Reply) {
+    look_at_bytes(rt, alloc, &mut reply.body);
     let Fields {
         session,
         public,
@@ -125,7 +118,7 @@ fn look_at_reply(rt: &impl Abort, reply: Reply) {
         rtp_info,
         content_base,
         content_type,
-    } = fields;
+    } = mem::replace(&mut reply.fields, Fields::none());
     let values = [
         session,
         public,
@@ -137,7 +130,7 @@ fn look_at_reply(rt: &impl Abort, reply: Reply) {
         content_type,
     ];
     for value in values {
-        look_at_bytes(rt, value.expect(rt, "a field"));
+        look_at_bytes(rt, alloc, &mut value.expect(rt, "a field"));
     }
 }
 
@@ -145,7 +138,7 @@ fn look_at_reply(rt: &impl Abort, reply: Reply) {
 fn replies_take_at_most_twice_the_room_they_need(rt: HostRuntime) {
     let alloc = rt.alloc();
     let reply = long_reply(&rt, alloc);
-    look_at_reply(&rt, reply.copy(alloc).expect(&rt, "memory"));
+    look_at_reply(&rt, alloc, reply.copy(alloc).expect(&rt, "memory"));
     let mut text = Vec::new(alloc);
     put_reply(&mut text, &reply).expect(&rt, "memory");
     assert!(rt;
