@@ -17,8 +17,8 @@ PLACES, FLOOD = 1024, 1000
 # What players say that are heard and ask for nothing.
 RTCP = frame(bytes(8), 5)
 
-# Within so many seconds a seat is free that is left, and a player is let go to which writes fail, after 20 seconds each.
-SOON, LET_GO = 10, 100
+# Within so many seconds a seat is free that is left, and a player is let go to which writes fail, after 20 seconds each: not sooner.
+SOON, LET_GO, SOONEST = 10, 100, 15
 
 
 def ends(server, seconds=30):
@@ -154,10 +154,13 @@ def stall(server, camera, player):
 
 
 def has_gone(server, player, others, speaks):
-    """Tells if no line tells of the player's end in time. Until then no session expires: the others ask, and it may speak."""
-    name = player.name()
+    """Tells if no line tells of the player's end in time, or one too soon. Until then no session expires: the others ask, and it may
+    speak."""
+    name, begun = player.name(), time.monotonic()
     for _ in range(LET_GO):
         if until(1, lambda: any(f" {name}: " in line for line in server.lines)):
+            if (passed := time.monotonic() - begun) < SOONEST:
+                yield f"it is let go after {passed:.1f} seconds"
             return
         for peer in others:
             wanted(peer.ask("OPTIONS", "*"))

@@ -1,16 +1,20 @@
 """Players and their camera: what comes to whom, on which channel, behind which reply, and who has a seat."""
 import concurrent.futures
 import contextlib
+import itertools
 import threading
 import time
 
-from peers import MODES, OPTIONS, Camera, Frame, Peer, Player, Reply, frame, packet, serving
+from peers import MODES, OPTIONS, Camera, Frame, Peer, Player, Reply, frame, packet, serving, wanted
 
 # So many bytes, and packets, are more than a system's buffers mostly hold; so many are published before they are read.
 SIZE, PUBLISHED, BATCH = 6_000, 2_000, 20
 
 # Many players come, one before each third batch, and from the eleventh on the first of those that are there leaves.
 BATCHES, COMING, AT_A_TIME = 100, 30, 10
+
+# So many packets a player reads of a stream that runs: all of thirty, six of them at a time, take some 2,000.
+STAY, SIDE_BY_SIDE = 400, 6
 
 # How often a stalled player asks to pause and to play again, and how often a player joins.
 PAUSES, JOINS = 500, 60
@@ -270,6 +274,42 @@ def players_that_come_and_leave_read_all_meanwhile(program, *options):
         yield from ends(server)
 
 
+def publish_at_a_pace(camera, over):
+    """Publishes, sixteen packets at a time and then a moment nothing, until it is over."""
+    for first in itertools.count(0, 16):
+        camera.publish(range(first, first + 16))
+        if over.wait(0.004):
+            return
+
+
+def stay(server, turn):
+    """The numbers that a player reads of a stream that runs. Then it tears its session down, or just closes, where its system resets
+    the connection in the middle of a frame, by turns."""
+    with Player(server) as player:
+        numbers = player.numbers(STAY)
+        if turn % 2:
+            wanted(player.ask("TEARDOWN", player.url))
+    return numbers
+
+
+def players_that_come_and_leave_amid_a_stream_miss_nothing(program, *options):
+    """Each of thirty players, six at a time, reads all packets from its first to its last, while others come and leave."""
+    with serving(program, "--accept", str(COMING + 1), "--keep", "4095", "--seats", "16", *options) as server:
+        with Camera(server) as camera, concurrent.futures.ThreadPoolExecutor(SIDE_BY_SIDE) as pool:
+            over = threading.Event()
+            publishing = threading.Thread(target=publish_at_a_pace, args=(camera, over))
+            publishing.start()
+            try:
+                came = list(pool.map(lambda turn: stay(server, turn), range(COMING)))
+            finally:
+                over.set()
+                publishing.join()
+            for turn, numbers in enumerate(came):
+                if numbers != [(numbers[0] + place) % 65536 for place in range(STAY)]:
+                    yield f"player {turn} reads {numbers}"
+        yield from ends(server)
+
+
 def each_pause_of_a_stalled_player_is_answered(program, *options):
     """A player that reads nothing asks often to pause and to play: another peer is answered meanwhile, and it once it reads."""
     with serving(program, "--accept", "2", "--seats", "1", *options) as server:
@@ -344,6 +384,7 @@ IN_BOTH_MODES = (
     a_pause_of_a_quiet_stream_is_answered_at_once,
     seats_come_back_in_any_order,
     players_that_come_and_leave_read_all_meanwhile,
+    players_that_come_and_leave_amid_a_stream_miss_nothing,
     each_pause_of_a_stalled_player_is_answered,
     each_mount_has_its_own_packets,
     a_track_has_its_owners_name_and_its_players,

@@ -26,8 +26,8 @@ pub struct Counts {
     /// sixteen of them go nowhere.
     pub taken: u64,
     /// The packets of any track that this player lost, since it was too far behind: those that a take told lost, and those
-    /// after its cursor that the ring kept no longer when it left its seat. What the ring still kept for a player that left by
-    /// itself is in no count; it is lost to one that was given up after its mount's end.
+    /// after its cursor that the ring kept no longer when it left its seat. What the ring still kept for a player that left a
+    /// live mount is in no count; it is lost to one that was given up after its mount's end.
     pub lost: u64,
     /// For how many milliseconds in all its packets waited for the players that keep up.
     pub slowed: u64,

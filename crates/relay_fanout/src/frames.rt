@@ -349,6 +349,7 @@ impl Frames {
         H: HangUp + Drop,
     {
         let signal = Arc::try_clone(&self.signal)?;
+        // The player before its place in the list: a writer that finds the place finds the player.
         let number = player.play(rt, signal, self.seat, channels, after_end);
         self.sender = Sender::Writer(writers.add(rt, player, number)?);
         Ok(())

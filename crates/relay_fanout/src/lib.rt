@@ -1,5 +1,5 @@
 //! What goes from a mount's publisher to its players: the ring between them and the passes to it, what tells players of
-//! packets, how a publisher gives way to them, and the thread that writes a player's frames.
+//! packets, how a publisher gives way to them, and the writers, or the thread of its own, that send a player's frames.
 #![tactic(auto)]
 
 mod closing;

@@ -90,6 +90,7 @@ impl<R: Clock + Drop, F: Feed> Posting<R, F> {
             signal,
             ..
         } = self;
+        // The end into the ring before it is told: who is woken by it finds it there.
         feed.close();
         signal.end();
         waited

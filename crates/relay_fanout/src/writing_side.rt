@@ -19,7 +19,8 @@ pub(crate) const GATHERED: usize = 32 * 1024;
 pub(crate) const TAKES: u64 = 16;
 
 /// The sink of a connection. A reply, or the frames of up to sixteen takes, are written while its lock is held, so that
-/// each stays whole. Its lock may be held as long as the peer reads nothing; no other lock is taken meanwhile.
+/// each stays whole. Its lock may be held as long as the peer reads nothing. The only lock that is taken meanwhile is that of
+/// the mount's pace, which is held for a few words.
 ///
 /// A writer, which waits for nothing, passes one whose lock is taken over, and marks it: who gives the lock back looks for
 /// the mark afterwards.
