@@ -17,8 +17,9 @@ PLACES, FLOOD = 1024, 1000
 # What players say that are heard and ask for nothing.
 RTCP = frame(bytes(8), 5)
 
-# Within so many seconds a seat is free that is left, and a player is let go to which writes fail, after 20 seconds each: not sooner.
-SOON, LET_GO, SOONEST = 10, 100, 15
+# Within so many seconds a seat is free that is left, and a player is let go to which writes fail, after 20 seconds each; not before so
+# many have passed since packets began to come.
+SOON, LET_GO, SOONEST = 10, 100, 19
 
 
 def ends(server, seconds=30):
@@ -153,10 +154,10 @@ def stall(server, camera, player):
     raise AssertionError(f"the player isn't stalled: the sockets hold {held} bytes")
 
 
-def has_gone(server, player, others, speaks):
-    """Tells if no line tells of the player's end in time, or one too soon. Until then no session expires: the others ask, and it may
-    speak."""
-    name, begun = player.name(), time.monotonic()
+def has_gone(server, player, others, speaks, begun):
+    """Tells if no line tells of the player's end in time, or one too soon behind that moment. Until then no session expires: the others
+    ask, and it may speak."""
+    name = player.name()
     for _ in range(LET_GO):
         if until(1, lambda: any(f" {name}: " in line for line in server.lines)):
             if (passed := time.monotonic() - begun) < SOONEST:
@@ -179,13 +180,14 @@ def frees_its_seat(program, options, said="", is_silent=False, stays=False, fail
     failed. The server ends behind those that close, also if the first one stays."""
     with serving(program, "--accept", "3", "--seats", "1", *options) as server:
         with Camera(server) as camera, Player(server) as first, Player(server, plays=False) as second:
+            begun = time.monotonic()
             stall(server, camera, first)
             wanted(second.play(), 453)
             first.send(said.format(first).encode())
             if is_silent:
                 first.fall_silent()
             if fails:
-                yield from has_gone(server, first, (camera, second), not said)
+                yield from has_gone(server, first, (camera, second), not said, begun)
             plays_soon(second)
             for peer in (camera, second) if stays else (camera, second, first):
                 peer.close()
