@@ -155,12 +155,12 @@ def stall(server, camera, player):
 
 
 def has_gone(server, player, others, speaks, begun):
-    """Tells if no line tells of the player's end in time, or one too soon behind that moment. Until then no session expires: the others
-    ask, and it may speak."""
+    """Tells if no line tells of the player's end in time, or of one that speaks too soon behind that moment. Until then no session
+    expires: the others ask, and it may speak. (One that is silent ends at once where its reply finds room.)"""
     name = player.name()
     for _ in range(LET_GO):
         if until(1, lambda: any(f" {name}: " in line for line in server.lines)):
-            if (passed := time.monotonic() - begun) < SOONEST:
+            if speaks and (passed := time.monotonic() - begun) < SOONEST:
                 yield f"it is let go after {passed:.1f} seconds"
             return
         for peer in others:
