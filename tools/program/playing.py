@@ -283,8 +283,8 @@ def publish_at_a_pace(camera, over):
 
 
 def stay(server, turn):
-    """The numbers that a player reads of a stream that runs. Then it tears its session down, or just closes, where its system resets
-    the connection in the middle of a frame, by turns."""
+    """The numbers that a player reads of a stream that runs. Then it tears its session down, or just closes while more comes, by
+    turns."""
     with Player(server) as player:
         numbers = player.numbers(STAY)
         if turn % 2:
