@@ -5,7 +5,7 @@ import subprocess
 import sys
 import time
 
-from peers import GATHER, MODES, OPTIONS, Camera, Frame, Peer, Player, Reply, counts, ending, frame, packet, until, wanted
+from peers import GATHER, MODES, OPTIONS, OUT, Camera, Frame, Peer, Player, Reply, counts, ending, frame, packet, until, wanted
 
 # A ring keeps so many packets, and a burst has so many more that its publisher has to wait some twenty times. Were it not woken in
 # each, the time that it may wait would be used up after four.
@@ -144,7 +144,7 @@ SPEEDS = 0, 0.0005, 0.001, 0.003
 
 
 def accounts_add_up_at_four_speeds(program, *options):
-    """Four players that read at four speeds are sent rising numbers, and what each was sent and lost is all that was published."""
+    """Four players that read at four speeds are sent rising numbers, and what is told of each adds up to all that was published."""
     with ending(program, 5, "--keep", "16", "--seats", "4", "--hang-up-ended", *GATHER, *options) as server:
         with contextlib.ExitStack() as peers, concurrent.futures.ThreadPoolExecutor(4) as pool:
             with Camera(server) as camera:
@@ -157,9 +157,10 @@ def accounts_add_up_at_four_speeds(program, *options):
     told = counts(server, names[0], "publisher of cam") or {"published": PUBLISHED, "pinned": 0}
     if told["published"] + told["pinned"] != PUBLISHED:
         yield f"of {PUBLISHED} packets are told {told}"
-    of_players = [counts(server, name, "player of cam") or {"sent": told["published"], "lost": 0} for name in names[1:]]
+    all_sent = {"sent": told["published"], "skipped": 0, "lost": 0, "unsent": 0}
+    of_players = [counts(server, name, "player of cam") or all_sent for name in names[1:]]
     for came, sent in zip(numbers, of_players):
-        if came != sorted(set(came)) or (len(came), told["published"]) != (sent["sent"], sent["sent"] + sent["lost"]):
+        if came != sorted(set(came)) or (len(came), told["published"]) != (sent["sent"], sum(sent[word] for word in OUT)):
             yield f"{len(came)} packets came, and of {told} is told {sent}"
     if of_players[-1]["lost"] == 0:
         yield f"the slowest one lost nothing: {of_players}"
@@ -273,7 +274,7 @@ def begins_before(server, given):
 
 
 # On which channel a packet goes out that came on channel 0, 1, 2 or 3.
-OUT = 6, 7, 4, 5
+GOES_OUT_ON = 6, 7, 4, 5
 
 
 def sets_both_up(server, *transports):
@@ -305,8 +306,8 @@ def last_of_all_tracks(program, *options):
 def reads_on_channels(player, numbers):
     """The packets of these numbers come next, each on its own channel."""
     for number in numbers:
-        if (came := player.next()) != Frame(OUT[number % 4], packet(number)):
-            yield f"{came}, and not {number} on channel {OUT[number % 4]}"
+        if (came := player.next()) != Frame(GOES_OUT_ON[number % 4], packet(number)):
+            yield f"{came}, and not {number} on channel {GOES_OUT_ON[number % 4]}"
 
 
 # How many packets are published before a stay of a player and during it, and how many it is sent. After the first pause both packets back
@@ -328,7 +329,7 @@ def each_play_goes_back(program, *options):
                 first += during
     left = f"[INFO  relay_server::events] {name}: leaves seat 0 of cam: "
     told = [line for line in server.lines if "leaves" in line]
-    if told != [f"{left}sent {sent}, lost 0" for _, _, sent in STAYS]:
+    if told != [f"{left}sent {sent}, skipped 0, lost 0, unsent 0" for _, _, sent in STAYS]:
         yield f"of the stays is told {told}"
 
 

@@ -5,9 +5,11 @@ import contextlib
 import pathlib
 import re
 import select
+import subprocess
 import time
 
-from peers import GATHER, MODES, SDP, Camera, Frame, Peer, Player, counts, ending, packet, until, wanted
+from peers import GATHER, LISTENS, MODES, OF_BUFFERS, PLAYER_REPORT, SDP, Camera, Frame, Peer, Player, counts, ending, ends_told
+from peers import frame, mounts_reported, packet, until, wanted
 
 
 def come_and_go(server):
@@ -32,88 +34,121 @@ def nothing_is_told_unasked(program, *options):
         yield f"it tells {server.lines}"
 
 
-COUNTED = r"published {}, pinned 0, too long 0, bad RTP 0, unknown channel 0, no memory 0; sent 0, lost 0"
+COUNTED = "published {}, pinned 0, too long 0, bad RTP 0, unknown channel 0, no memory 0; sent {}, skipped 0, lost 0, unsent 0; strangers 0"
 
-# Of whom a verbose server tells, and what: the first mount has published a packet, and the other one was never recorded.
-CAMERA, PLAYER = 0, 1
+# The lines of a verbose server about a camera and about its player: the first mount has published a packet, and the other one was never
+# recorded.
+OF_CAMERA = (
+    "mount cam is announced, 1 track",
+    "mount cam is recorded",
+    r"mount cam has ended after \d+ s: " + COUNTED.format(1, 0),
+    "publisher of cam: " + COUNTED.format(1, 0),
+    "mount a%20b is announced, 2 tracks",
+    "mount a%20b has ended: " + COUNTED.format(0, 0),
+)
 
-EVENTS = (
-    (CAMERA, "mount cam is announced, 1 track"),
-    (CAMERA, "mount cam is recorded"),
-    (PLAYER, "plays cam from seat 3"),
-    (PLAYER, "leaves seat 3 of cam: sent 1, lost 0"),
-    (CAMERA, r"mount cam has ended after \d+ s: " + COUNTED.format(1)),
-    (CAMERA, "mount a%20b is announced, 2 tracks"),
-    (CAMERA, "mount a%20b has ended: " + COUNTED.format(0)),
+OF_PLAYER = (
+    "plays cam from seat 3",
+    "leaves seat 3 of cam: sent 1, skipped 0, lost 0, unsent 0",
+    "player of cam: " + COUNTED.format(0, 1),
 )
 
 
 def verbose_tells_of_mounts_and_players(program, *options):
-    """A verbose server tells of mounts and players: a line for each as they come and go, and no other."""
+    """A verbose server has a line about mounts, players and sessions as they come and go, and no other."""
     with ending(program, 2, "--seats", "4", "--verbose", *GATHER, *options) as server:
         names = come_and_go(server)
-    if len(server.lines) != len(EVENTS):
-        yield f"there are {len(server.lines)} lines, and not {len(EVENTS)}: {server.lines}"
-    for line, (who, text) in zip(server.lines, EVENTS):
-        if not re.fullmatch(re.escape(f"[INFO  relay_server::events] {names[who]}: ") + text, line):
-            yield f"{line!r}, and not {text!r} of {names[who]}"
+    for name, texts in zip(names, (OF_CAMERA, OF_PLAYER)):
+        head = f"[INFO  relay_server::events] {name}: "
+        came = [line.removeprefix(head) for line in server.lines if line.startswith(head)]
+        if len(came) != len(texts) or not all(map(re.fullmatch, texts, came)):
+            yield f"{came}, and not {texts}"
+    if len(server.lines) != len(OF_CAMERA) + len(OF_PLAYER):
+        yield f"there are other lines: {server.lines}"
 
 
 # So many packets of so many bytes are more than a socket's buffers hold.
 PACKETS, LARGE = 2_000, 6_000
 
-# Lines of reports.
-OF_MOUNT = re.compile(r"\[INFO  relay_server::reports\] mount cam: players \d+, packets (\d+), bytes (\d+), pinned (\d+)")
-
-OF_PLAYER = re.compile(r"\[INFO  relay_server::reports\] (\S+): seat \d+ of cam: lost (\d+), in all (\d+)")
-
 MORE = re.compile(r"\[INFO  relay_server::reports\] (\d+) more")
 
 
 def publish_to_one_that_stalls(server):
-    """A camera publishes to a player that reads nothing, for some two and a half seconds; both close. The player's name."""
+    """A camera publishes to a player that reads nothing, for some two and a half seconds; both close. Their names."""
     with Camera(server) as camera, Player(server) as stalled:
         for first in range(0, PACKETS, PACKETS // 100):
             camera.publish(range(first, first + PACKETS // 100), LARGE)
             time.sleep(0.025)
         camera.is_read()
-        return stalled.name()
+        return camera.name(), stalled.name()
 
 
-def adds_up(server, name):
-    """Lines tell of all that was offered to the mount, and of what the player lost, also in all by then: as much as its last line."""
-    told = [tuple(map(int, found.groups())) for found in map(OF_MOUNT.fullmatch, server.lines) if found]
-    packets, size, pinned = map(sum, zip((0, 0, 0), *told))
-    if packets + pinned != PACKETS or size != packets * LARGE:
-        yield f"of {PACKETS} packets is told {told}"
-    if any(came == refused == 0 for came, _, refused in told):
-        yield f"a line tells of nothing: {told}"
-    lost, last = 0, counts(server, name, "player of cam").get("lost")
-    for peer, since, in_all in (found.groups() for found in map(OF_PLAYER.fullmatch, server.lines) if found):
-        lost += int(since)
-        if (peer, int(in_all)) != (name, lost):
-            yield f"{peer} has lost {in_all} in all, and not {name} {lost}"
-    if not last or lost != last:
-        yield f"reports tell {lost} packets lost, and the last line {last}"
+def adds_up(server, camera, player):
+    """Reports count all that was offered to the mount, and what the player lost, also in all by then: as much as its account."""
+    told = mounts_reported(server.lines)
+    packets, size, pinned = (sum(it[word] for it in told) for word in ("packets", "bytes", "pinned"))
+    if packets + pinned != PACKETS or size != packets * LARGE or {it["publisher"] for it in told} != {camera}:
+        yield f"of {PACKETS} packets of {camera} is told {told}"
+    sent, lost, last = 0, 0, counts(server, player, "player of cam")
+    for it in players_reported(server.lines):
+        sent, lost = sent + int(it["sent"]), lost + int(it["lost"])
+        if (it["peer"], int(it["all"])) != (player, lost) or it["lost"] == "0":
+            yield f"{it['peer']} has lost {it['all']} in all, and not {player} {lost}"
+    if not last or lost != last["lost"] or not 0 < sent <= last["sent"]:
+        yield f"reports tell {sent} packets sent and {lost} lost, and the last line {last}"
+
+
+def players_reported(lines):
+    """The lines of reports about players."""
+    return [found.groupdict() for found in map(PLAYER_REPORT.fullmatch, lines) if found]
 
 
 def reports_add_up(program, *options):
     """What is reported once in a second adds up, while packets come."""
     with ending(program, 2, "--report", "1", "--keep", "8", "--seats", "1", *GATHER, *options) as server:
-        name = publish_to_one_that_stalls(server)
-    yield from adds_up(server, name)
-    reports = [line for line in server.lines if OF_MOUNT.fullmatch(line)]
-    if len(reports) < 2 or "players 1," not in reports[0]:
+        names = publish_to_one_that_stalls(server)
+    yield from adds_up(server, *names)
+    reports = mounts_reported(server.lines)
+    if len(reports) < 2 or reports[0]["players"] != 1:
         yield f"there is no report meanwhile: {reports}"
 
 
 def last_report_adds_up(program, *options):
     """What is reported in the end alone adds up."""
     with ending(program, 2, "--report", "3600", "--keep", "8", "--seats", "1", *GATHER, *options) as server:
-        name = publish_to_one_that_stalls(server)
-    yield from adds_up(server, name)
-    if sum(bool(OF_MOUNT.fullmatch(line)) for line in server.lines) != 1:
+        names = publish_to_one_that_stalls(server)
+    yield from adds_up(server, *names)
+    if len(mounts_reported(server.lines)) != 1:
         yield f"there isn't just one report: {server.lines}"
+
+
+# So many packets are more than a socket takes, and the ring keeps them all.
+KEPT = 200
+
+
+def each_loss_is_reported_under_its_players_name(program, *options):
+    """A player that lost nothing pauses while its socket takes nothing, and leaves the only seat to another one. Reports count the losses
+    of each as its own account does."""
+    told = "--report", "1", "--verbose", "--send-buffer", "65536", "--seats", "1"
+    with ending(program, 3, *told, *GATHER, *options) as server, Camera(server) as camera:
+        with Player(server) as first, Player(server, plays=False) as second:
+            names = first.name(), second.name()
+            first.take_little()
+            camera.publish(range(KEPT), LARGE)
+            camera.is_read()
+            # Until its socket takes nothing more.
+            time.sleep(0.5)
+            first.say("PAUSE", first.url)
+            if not second.plays_at_last():
+                yield "the seat isn't free"
+            camera.publish(range(PACKETS), LARGE)
+            camera.is_read()
+            # At least one report has come meanwhile.
+            time.sleep(2.2)
+            first.reply()
+    lost, due = lost_by_peer(server.lines), [counts(server, it, "player of cam").get("lost") for it in names]
+    if [lost[it] for it in names] != due or due[0] != 0 or not due[1]:
+        yield f"reports tell of {lost}, and accounts of {due}: {server.lines}"
 
 
 # So many players lose nine of ten packets each, more of them than lines are told at once.
@@ -123,9 +158,8 @@ PLAYERS, LOST = 110, 9
 def lost_by_peer(lines):
     """How many packets each peer is told to have lost."""
     lost = collections.Counter()
-    for found in map(OF_PLAYER.fullmatch, lines):
-        if found:
-            lost[found[1]] += int(found[2])
+    for it in players_reported(lines):
+        lost[it["peer"]] += int(it["lost"])
     return lost
 
 
@@ -151,7 +185,7 @@ def hundred_lines_at_once(program, *options):
         if (lost := lost_by_peer(lines)) != {it.name(): LOST for it in players}:
             yield f"{len(lost)} players are told to have lost {lost.total()} packets, and not {PLAYERS} of them {LOST} each"
         more = next((line for line in lines if MORE.fullmatch(line)), None)
-        before = more and sum(bool(OF_PLAYER.fullmatch(line)) for line in lines[:lines.index(more)])
+        before = more and len(players_reported(lines[:lines.index(more)]))
         # The mount's own line may be one of the hundred.
         if before not in (99, 100) or MORE.fullmatch(more)[1] != str(PLAYERS - before):
             yield f"{before} players' lines come before {more!r}"
@@ -176,7 +210,7 @@ def silence_is_hung_up(program, *options):
         asking, silent, slow, half, owner = (peers.enter_context(Peer(server)) for _ in range(5))
         wanted(owner.ask("ANNOUNCE", url, body=SDP))
         wanted(asking.ask("ANNOUNCE", url, body=SDP), 403)
-        told = [f"[WARN  relay_server::server] {it.name()}: silent without a session" for it in (silent, slow, half, owner)]
+        names = [it.name() for it in (silent, slow, half, owner)]
         pool = peers.enter_context(concurrent.futures.ThreadPoolExecutor(4))
         ends = [pool.submit(hung_up_after, it, begun) for it in (silent, slow, half, owner)]
         while concurrent.futures.wait(ends, 0.2).not_done:
@@ -191,8 +225,129 @@ def silence_is_hung_up(program, *options):
         passed = [it.result() for it in ends] + [free or IDLE]
         if min(passed) < IDLE - 0.1 or max(passed) > SURELY:
             yield f"four are hung up and the mount is free after {passed} s, and not after {IDLE}"
-    if sorted(server.lines) != sorted(told):
+    others = [line for line in server.lines if " refused 403 on cam, " not in line]
+    if [ends_told(server, it) for it in names] != [["silent without a session"]] * 4 or len(others) != 4:
         yield f"it tells {server.lines}"
+
+
+# So many frames of each kind, and the word that counts them: packets, those that are too long, no RTP, and those of no track.
+KINDS = ("packets", 5, packet(7)), ("long", 7, packet(7, 101)), ("bad", 3, bytes(12)), ("unknown", 2, packet(7))
+
+
+def refused_frames_are_reported(program):
+    """Frames that are refused are counted in the next report, while their camera goes on and says nothing else."""
+    with ending(program, 1, "--report", "1", "--packet-bytes", "100") as server, Camera(server) as camera:
+        name, due = camera.name(), {word: count for word, count, _ in KINDS}
+        for word, count, text in KINDS:
+            camera.send(frame(text, 9 if word == "unknown" else 0) * count)
+        if not until(3, lambda: reported(server, name, due) == due):
+            yield f"of {due} is told {server.lines}"
+        camera.is_read()
+    # The report at the end counts none of them again.
+    if (came := reported(server, name, due)) != due:
+        yield f"of {due} is told {came} in all"
+
+
+def reported(server, name, words):
+    """What reports count of this camera in all, by these words."""
+    rows = [it for it in mounts_reported(list(server.lines)) if (it["mount"], it["publisher"]) == ("cam", name)]
+    return {word: sum(it[word] for it in rows) for word in words}
+
+
+def silent_camera_is_reported(program):
+    """A camera that publishes nothing, though frames of it are refused, has a line in each report, which tells for how many seconds after
+    more than two. The server runs for three seconds before."""
+    with ending(program, 1, "--report", "1") as server:
+        time.sleep(3)
+        with Camera(server) as camera:
+            for _ in range(11):
+                camera.send(frame(bytes(12)))
+                time.sleep(0.5)
+            camera.publish([7])
+            time.sleep(1.5)
+            told = [(it["packets"], it["silent"]) for it in mounts_reported(list(server.lines))]
+    before = told[:told.index((1, 0))] if (1, 0) in told else told
+    silent = [seconds for _, seconds in before]
+    if (1, 0) not in told or len(before) not in (5, 6) or any(packets for packets, _ in before):
+        yield f"it tells {told}"
+    if silent != sorted(silent) or silent[:2] != [0, 0] or not 4 <= silent[-1] <= 5 or not set(silent) <= {0, 3, 4, 5}:
+        yield f"it tells of silence {silent}"
+
+
+def slowed_camera_is_reported(program, *options):
+    """For how long a camera waits for its players is told in reports while it goes on, in all as much as in its account."""
+    with ending(program, 2, "--report", "1", "--keep", "128", "--seats", "1", *GATHER, *options) as server, Camera(server) as camera:
+        name = camera.name()
+        with Player(server) as player, concurrent.futures.ThreadPoolExecutor(1) as pool:
+            reading = pool.submit(player.reply)
+            for first in range(0, 30_000, 2_000):
+                camera.publish(range(first, first + 2_000), 1_200)
+                time.sleep(0.1)
+            camera.is_read()
+            if not until(3, lambda: any(it["slowed"] for it in mounts_reported(list(server.lines)))):
+                yield f"it tells {server.lines}"
+            player.fall_silent()
+            reading.result()
+    in_reports, last = sum(it["slowed"] for it in mounts_reported(server.lines)), counts(server, name, "publisher of cam").get("slowed")
+    if in_reports != last:
+        yield f"reports tell of {in_reports} ms, and its account of {last}"
+
+
+# A player reads half of so many packets of 1,200 bytes: in the end it is 2.4 MB behind.
+STEADY, STEP = 4_000, 100
+
+
+def loss_is_reported_soon(program, *options):
+    """A player that reads half of a stream is reported to lose packets before it is 2.4 MB behind: its send buffer doesn't hold more."""
+    told = "--report", "1", "--keep", "128", "--send-buffer", "131072", "--seats", "1"
+    with ending(program, 2, *told, *GATHER, *options) as server:
+        with Camera(server) as camera, Player(server) as player:
+            player.take_little()
+            for first in range(0, STEADY, STEP):
+                camera.publish(range(first, first + STEP), 1_200)
+                camera.is_read()
+                player.numbers(STEP // 2)
+            if not until(3, lambda: lost_by_peer(list(server.lines))[player.name()]):
+                yield f"no loss is reported: {server.lines}"
+
+
+# How many packets come at once before a mount's end. The ring keeps one.
+LAST = 10
+
+
+def losses_at_an_end_are_reported(program, *options):
+    """What a player loses of the last packets of its mount is reported while it stays. It is woken once all of them have come."""
+    told = "--report", "1", "--keep", "1", "--gather", "100", "--seats", "1"
+    with ending(program, 2, *told, *options) as server, Camera(server) as camera, Player(server) as player:
+        if not until(10, lambda: sleeps(server)):
+            yield "its threads don't sleep"
+        camera.publish(range(LAST))
+        camera.tear_down()
+        came = player.numbers(1)
+        while came[-1:] and came[-1] != LAST - 1:
+            came += player.numbers(1)
+        due = {player.name(): LAST - len(came)}
+        if not until(3, lambda: lost_by_peer(list(server.lines)) == due) or len(came) == LAST:
+            yield f"it reads {came}, and is told {server.lines}"
+
+
+# What may be asked for as send buffers, and the greatest that is taken.
+DEFAULT, LEAST, GREATEST = 524_288, 16_384, 4_194_304
+
+
+def small_send_buffers_are_told(program):
+    """If the system grants less than what is asked for, or than the default, one line at the start tells so, and else none."""
+    most = int(pathlib.Path("/proc/sys/net/core/wmem_max").read_text())
+    for asked, options in (DEFAULT, ()), *((it, ("--send-buffer", str(it))) for it in (0, LEAST, GREATEST)):
+        ran = subprocess.run(
+            [program, "serve", "127.0.0.1:0", "--until-eof", *options], input="", capture_output=True, text=True, timeout=30
+        )
+        lines = [line for line in ran.stderr.splitlines() if not LISTENS.match(line)]
+        # The system doubles what a socket is set to.
+        is_due, may_be = most < asked // 2, most < asked
+        well = all(OF_BUFFERS.match(it) and re.search(rf"\b{asked}\b.*: net\.core\.wmem_max is too small", it) for it in lines)
+        if ran.returncode != 0 or not well or not is_due <= len(lines) <= may_be:
+            yield f"{options}, of {most} bytes, tells {lines}, with status {ran.returncode}"
 
 
 def silence_lasts_without_limit(program, *options):
@@ -204,12 +359,15 @@ def silence_lasts_without_limit(program, *options):
 
 
 # These wait, and do next to nothing else.
-LONG = [(silence_is_hung_up, ()), (silence_lasts_without_limit, ())]
+LONG = [(part, ()) for part in (silence_is_hung_up, silence_lasts_without_limit, silent_camera_is_reported)]
 
 PARTS = [
     (hundred_lines_at_once, ("--writers", "2")),
     *((part, mode) for part in (reports_add_up, last_report_adds_up, verbose_tells_of_mounts_and_players) for mode in MODES),
+    *((part, mode) for part in (slowed_camera_is_reported, loss_is_reported_soon) for mode in MODES),
+    *((part, mode) for part in (each_loss_is_reported_under_its_players_name, losses_at_an_end_are_reported) for mode in MODES),
     (nothing_is_told_unasked, ("--writers", "0")),
+    *((part, ()) for part in (refused_frames_are_reported, small_send_buffers_are_told)),
 ]
 
 ALONE = []

@@ -22,6 +22,36 @@ GATHER = "--gather", "1"
 # By whom frames are sent: by two writers, and by a thread a player.
 MODES = ("--writers", "2"), ("--writers", "0")
 
+# The words of an account, as lines have them: what became of a publisher's frames, and of the packets of a player's mount.
+IN = "published", "pinned", "too long", "bad RTP", "unknown channel", "no memory"
+OUT = "sent", "skipped", "lost", "unsent"
+
+# The counts that a line of an account, of an ended mount or of a left seat has.
+COUNTED = re.compile(r"([A-Za-z][A-Za-z ]*) (\d+)")
+
+# On some systems a server has a line about its sockets' send buffers, which no part looks at.
+OF_BUFFERS = re.compile(r"\[WARN  relay_main::serve\] send buffers ")
+
+# The line of a server that listens on a port.
+LISTENS = re.compile(r"relay: listening on .*:(\d+)$")
+
+# A mount's line in a report, and a player's.
+MOUNT_REPORT = re.compile(
+    r"\[INFO  relay_server::reports\] mount (?P<mount>\S+): publisher (?P<publisher>\S+), players (?P<players>\d+), "
+    r"packets (?P<packets>\d+), bytes (?P<bytes>\d+), pinned (?P<pinned>\d+), too long (?P<long>\d+), bad RTP (?P<bad>\d+), "
+    r"unknown channel (?P<unknown>\d+), no memory (?P<unkept>\d+)(?:, slowed (?P<slowed>\d+) ms)?(?:, silent (?P<silent>\d+) s)?"
+)
+
+PLAYER_REPORT = re.compile(
+    r"\[INFO  relay_server::reports\] (?P<peer>\S+): seat (?P<seat>\d+) of (?P<mount>\S+): "
+    r"sent (?P<sent>\d+), lost (?P<lost>\d+), in all (?P<all>\d+), behind (?P<behind>\d+)"
+)
+
+# A line about how a connection ended, and one about refused requests.
+END = re.compile(r"\[WARN  relay_server::server\] (\S+): (.+) \(connection \d+\)")
+
+REFUSED = re.compile(r"\[WARN  relay_server::refusing\] (\d+) refused (\d+) on (\S+), the last (\S+)")
+
 
 class Server:
     """A server of the program on a free port, whose lines are read unless they shall wait."""
@@ -31,15 +61,26 @@ class Server:
             [program, "serve", "127.0.0.1:0", *options], stderr=subprocess.PIPE, text=True, env={**os.environ, **ALLOCATOR}
         )
         self.pid, self.lines = self.process.pid, []
-        first = self.process.stderr.readline()
-        self.port = int(re.search(r":(\d+)$", first.strip())[1])
+        self.port = self.listens()
         self.address = f"127.0.0.1:{self.port}"
         self.reader = threading.Thread(target=self.read, daemon=True)
         if reads:
             self.reader.start()
 
+    def listens(self):
+        """Waits until it listens. Its port."""
+        for line in self.process.stderr:
+            if found := LISTENS.match(line):
+                return int(found[1])
+            self.add(line)
+        raise AssertionError(f"it doesn't listen: {self.lines}")
+
     def read(self):
         for line in self.process.stderr:
+            self.add(line)
+
+    def add(self, line):
+        if not OF_BUFFERS.match(line):
             self.lines.append(line.rstrip("\n"))
 
     def answers(self):
@@ -80,13 +121,31 @@ def ending(program, count, *options):
         server.reader.join()
 
 
+def numbers_in(text):
+    """The counts of a line by their words."""
+    return {word: int(number) for word, number in COUNTED.findall(text)}
+
+
+def accounts(server, name, part):
+    """The counts of each account of a peer's sessions with this part in a mount (`player of cam`), in the order of their lines."""
+    head = f"[INFO  relay_server::events] {name}: {part}: "
+    return [numbers_in(line[len(head):]) for line in server.lines if line.startswith(head)]
+
+
 def counts(server, name, part):
-    """What the last line of a peer counts, by its words, in its part of a mount. Empty where it has no such line."""
-    head = f"[INFO  relay_server::server] {name}: {part}: "
-    for line in server.lines:
-        if line.startswith(head):
-            return {word: int(number) for word, number in re.findall(r"([A-Za-z][A-Za-z ]*) (\d+)", line[len(head):])}
-    return {}
+    """The counts of the last of these accounts. Empty if there is none."""
+    return (accounts(server, name, part) or [{}])[-1]
+
+
+def ends_told(server, name):
+    """How connections of this peer ended, by their lines (`player of cam: write failed`)."""
+    return [found[2] for found in map(END.fullmatch, server.lines) if found and found[1] == name]
+
+
+def mounts_reported(lines):
+    """The lines of reports about mounts, as numbers by their words. `slowed` is 0 if it isn't told, and so is `silent`."""
+    found = [it.groupdict("0") for it in map(MOUNT_REPORT.fullmatch, lines) if it]
+    return [{word: it if word in ("mount", "publisher") else int(it) for word, it in row.items()} for row in found]
 
 
 def until(seconds, holds):
@@ -139,8 +198,9 @@ def frame(packet, channel=0):
 class Peer:
     """A connection, which gives up when nothing comes for thirty seconds. What came and wasn't asked for yet waits in it."""
 
-    def __init__(self, server):
-        self.socket = socket.create_connection(("127.0.0.1", server.port), timeout=30)
+    def __init__(self, server, source=None):
+        here = source and (source, 0)
+        self.socket = socket.create_connection(("127.0.0.1", server.port), timeout=30, source_address=here)
         self.socket.setsockopt(socket.IPPROTO_TCP, socket.TCP_NODELAY, 1)
         self.rest, self.session = bytearray(), None
 
@@ -153,9 +213,18 @@ class Peer:
     def close(self):
         self.socket.close()
 
+    def reset(self):
+        """Resets the connection."""
+        self.socket.setsockopt(socket.SOL_SOCKET, socket.SO_LINGER, struct.pack("ii", 1, 0))
+        self.close()
+
     def fall_silent(self):
         """Says nothing more."""
         self.socket.shutdown(socket.SHUT_WR)
+
+    def take_little(self):
+        """Has a buffer for 64 KB of what comes, which the system doesn't widen."""
+        self.socket.setsockopt(socket.SOL_SOCKET, socket.SO_RCVBUF, 65_536)
 
     def name(self):
         """The address by which lines name it."""
@@ -231,6 +300,15 @@ class Peer:
             self.session = reply.field("Session").partition(";")[0]
         return reply.status
 
+    def is_read(self):
+        """Waits until the server has read all that it said."""
+        wanted(self.ask("OPTIONS", "*"))
+
+    def tear_down(self):
+        """Ends its session."""
+        wanted(self.ask("TEARDOWN", self.url))
+        self.session = None
+
 
 def wanted(reply, status=200):
     """That reply; anything else than this status is a failure of what is tried."""
@@ -240,22 +318,26 @@ def wanted(reply, status=200):
 
 
 class Camera(Peer):
-    """Records into a mount of one track, on channels 0 and 1."""
+    """Records into a mount of one track, on channels 0 and 1, unless it shall wait."""
 
-    def __init__(self, server, mount="cam"):
+    def __init__(self, server, mount="cam", records=True):
         super().__init__(server)
-        self.url = f"rtsp://{server.address}/{mount}"
+        self.announce(f"rtsp://{server.address}/{mount}")
+        if records:
+            self.record()
+
+    def announce(self, url):
+        """Announces a mount of one track, and sets the track up."""
+        self.url = url
         wanted(self.ask("ANNOUNCE", self.url, body=SDP))
         self.set_up(f"{self.url}/streamid=0", "interleaved=0-1;mode=record")
+
+    def record(self):
         wanted(self.ask("RECORD", self.url))
 
     def publish(self, numbers, size=12):
         """Publishes packets of these numbers."""
         self.send(b"".join(frame(packet(number, size)) for number in numbers))
-
-    def is_read(self):
-        """Waits until the server has read all that it said."""
-        wanted(self.ask("OPTIONS", "*"))
 
 
 class Player(Peer):

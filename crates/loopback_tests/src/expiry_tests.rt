@@ -83,7 +83,7 @@ fn a_vanished_publishers_name_is_free_and_one_line_tells_it(rt: HostRuntime) {
         let served = Kept::new(rt, alloc);
         let camera = vanishes_from(&rt, served, alloc, writers);
         let want = format!(in alloc;
-            "[WARN  relay_server::server] {camera}: session expired"
+            "[WARN  relay_server::server] {camera}: publisher of cam: session expired after 60 s of silence (connection 1)"
         ).expect(&rt, "memory");
         let lines = served.lines().expect(&rt, "memory");
         assert!(rt; lines.len() == 1);
@@ -309,7 +309,7 @@ fn a_reply_that_waits_is_whole_and_then_the_session_has_expired(rt: HostRuntime)
         let first = reads_late_from(&rt, served, alloc, writers);
         let peer = format!(in alloc; " {first}: ").expect(&rt, "memory");
         let want = format!(in alloc;
-            "[WARN  relay_server::server] {first}: session expired"
+            "[WARN  relay_server::server] {first}: player of cam: session expired after 60 s of silence (connection 2)"
         ).expect(&rt, "memory");
         let lines = served.lines().expect(&rt, "memory");
         assert!(rt; warnings_of(lines.as_slice(), peer.as_str()) == 1);

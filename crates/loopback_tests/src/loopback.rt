@@ -2,7 +2,7 @@
 use crate::dial::{Dial, Told};
 use log::Log;
 use packet_ring::Pass;
-use relay_server::{Accepts, Gate, Options, RingMaker, Seat, SharedBook, run_server};
+use relay_server::{Accepts, Gate, Options, RingMaker, Seat, SharedBook, Stopping, run_server};
 use relay_talk::FixedWord;
 use session_lock::Book;
 use std::alloc::{AllocError, Global};
@@ -281,8 +281,12 @@ where
     G: Gate + Drop + Send + Sync + 'static,
 {
     thread::spawn(rt, move || {
+        let stopping = match Arc::new(alloc, Stopping::new()) {
+            Ok(stopping) => stopping,
+            Err(_) => return Err(AllocError),
+        };
         run_server(
-            served, alloc, &listener, options, maker, book, WORD, gate, moments,
+            served, alloc, &listener, options, maker, book, WORD, gate, moments, stopping,
         )
     })
     .expect(rt, "a thread")

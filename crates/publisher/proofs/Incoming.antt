@@ -23,7 +23,7 @@ use Rattle.publisher.specs.declared.report.InReport.{InReport}
 use Rattle.publisher.specs.declared.report.InStop.{InStop}
 use Rattle.publisher.specs.Rtp.{point_of}
 use Rattle.publisher.specs.Fates.{Handling, HasFate, AreCounted, CountsOne, published, published_as, is_published, is_pinned, is_oversize, is_worn, is_unkept, is_bad_rtp, is_stranger, one_if, count_of, total}
-use Rattle.publisher.specs.FramesIn.{IsPointAfter, ArePointsAfter, GrowsBy, HaveFates, frames_of, answer_of, RelaysIn, StaysOver, Meets, MeetInTurn}
+use Rattle.publisher.specs.FramesIn.{IsPointAfter, ArePointsAfter, GrowsBy, HaveFates, frames_of, answer_of, RelaysIn, RelaysSeen, StaysOver, Meets, MeetInTurn, SeesInTurn}
 
 -- one RTP packet moves the point of its track, and no other
 pub point_moves : (points : List (Option Point)) (packet : Packet) (place : ℕ) (point : Point) → packet.tag % 2 ≡ 0 → place ≡ packet.tag / 2 → point ≡ point_of packet.bytes
@@ -121,6 +121,12 @@ meet-push : {F : Type 0} (gives : F → Packet → Result ℕ Refusal → F → 
 meet-push gives pairs [] h old now new same one = (new, subst (λ o. Meets gives pairs h.frame h.fate o new) same one, refl)
 meet-push gives pairs (first ∷ hs) h old now new met one = (met.0, met.1, meet-push gives pairs hs h met.0 now new met.2 one)
 
+-- one frame more for an observer
+pub see-push : {O : Type 0} (observes : O → Fate → ℕ → O → Type 0) (hs : List Handling) (h : Handling) (old now new : O)
+    → SeesInTurn observes hs old now → observes now h.fate (length h.frame.payload) new → SeesInTurn observes (hs ++ h ∷ []) old new
+see-push observes [] h old now new same one = (new, subst (λ o. observes o h.fate (length h.frame.payload) new) same one, refl)
+see-push observes (first ∷ hs) h old now new seen one = (seen.0, seen.1, see-push observes hs h seen.0 now new seen.2 one)
+
 module _ {S F : Type 0} (incoming : S → Option (List ℕ)) (gives : F → Packet → Result ℕ Refusal → F → Type 0) (pairs : List (Option ChannelPair)) (room : ℕ) (may : Refusal → Type 0) where
   -- nothing happened yet, or these units were handed out
   abbrev pub HasHanded : (old now : IntakeState S) → List StreamUnit → Type 0
@@ -174,6 +180,11 @@ module _ {S F : Type 0} (incoming : S → Option (List ℕ)) (gives : F → Pack
             (point-trans track _ (get_or points track None) _ (published hs) (published_as frame outcome) (so.moved track within) (moved track (omega (arith, long))));
       }
 
+  -- the same, with an observer that has seen them
+  pub record SoFarSeen {O : Type 0} (observes : O → Fate → ℕ → O → Type 0) (old now : IntakeState S) (old_feed feed : F) (old_log log : Option (List Packet)) (old_points points : List (Option Point)) (old_observer observer : O) (report : InReport) : Type 0 where
+    pub met : SoFar old now old_feed feed old_log log old_points points report
+    pub seen : SeesInTurn observes met.handlings old_observer observer
+
   -- the answer that ends the frames
   pub ends : (failed : S → Bool) (old now new : IntakeState S) (old_feed feed : F) (old_log log : Option (List Packet)) (old_points points : List (Option Point)) (report : InReport) (stop : InStop)
       → SoFar old now old_feed feed old_log log old_points points report
@@ -199,6 +210,33 @@ module _ {S F : Type 0} (incoming : S → Option (List ℕ)) (gives : F → Pack
     log = so.grown;
     points = so.moved;
   }
+
+  module _ {O : Type 0} (observes : O → Fate → ℕ → O → Type 0) where
+    pub none_seen : (old : IntakeState S) (feed : F) (log : Option (List Packet)) (points : List (Option Point)) (observer : O) (report : InReport) → AreCounted [] report → SoFarSeen observes old old feed feed log log points points observer observer report
+    unfolding none_so_far
+    none_seen old feed log points observer report counts = record { met = none_so_far old feed log points report counts; seen = refl }
+
+    pub one_more_seen : (old now new : IntakeState S) (old_feed feed new_feed : F) (old_log log new_log : Option (List Packet)) (old_points points new_points : List (Option Point)) (old_observer observer new_observer : O) (report new_report : InReport) (frame : Frame) (outcome : Fate)
+        → SoFarSeen observes old now old_feed feed old_log log old_points points old_observer observer report → length points ≡ length old_points
+        → HandsOut incoming now new (content.Frame frame ∷ []) → HasFate pairs room may frame outcome → Meets gives pairs frame outcome feed new_feed → CountsOne report outcome new_report
+        → GrowsBy log (published_as frame outcome) new_log → ArePointsAfter points (published_as frame outcome) new_points
+        → observes observer outcome (length frame.payload) new_observer
+        → SoFarSeen observes old new old_feed new_feed old_log new_log old_points new_points old_observer new_observer new_report
+    unfolding one_more
+    one_more_seen old now new old_feed feed new_feed old_log log new_log old_points points new_points old_observer observer new_observer report new_report frame outcome so long out has meets counted grown moved sees = record {
+      met = one_more old now new old_feed feed new_feed old_log log new_log old_points points new_points report new_report frame outcome so.met long out has meets counted grown moved;
+      seen = see-push observes so.met.handlings (handling frame outcome) old_observer observer new_observer so.seen sees;
+    }
+
+    pub ends_seen : (failed : S → Bool) (old now new : IntakeState S) (old_feed feed : F) (old_log log : Option (List Packet)) (old_points points : List (Option Point)) (old_observer observer : O) (report : InReport) (stop : InStop)
+        → SoFarSeen observes old now old_feed feed old_log log old_points points old_observer observer report
+        → HandsOut incoming now new (handed (answer_of stop)) → Tells incoming failed new (answer_of stop) → Lasts failed new (answer_of stop)
+        → RelaysSeen incoming failed gives observes pairs room may old new old_feed feed old_log log old_points points old_observer observer (record report { stop = stop })
+    unfolding ends
+    ends_seen failed old now new old_feed feed old_log log old_points points old_observer observer report stop so out tells lasts = record {
+      relays = ends failed old now new old_feed feed old_log log old_points points report stop so.met out tells lasts;
+      seen = so.seen;
+    }
 
 -- an intake that was over gives its answer for good
 pub stays : {S : Type 0} (failed : S → Bool) (old now : IntakeState S) (report : InReport) (stop : InStop)

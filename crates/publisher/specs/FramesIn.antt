@@ -88,6 +88,12 @@ module _ {F : Type 0} (gives : F → Packet → Result ℕ Refusal → F → Typ
   MeetInTurn [] old new = new ≡ old
   MeetInTurn (h ∷ hs) old new = (mid : F) × Meets h.frame h.fate old mid × MeetInTurn hs mid new
 
+module _ {O : Type 0} (observes : O → Fate → ℕ → O → Type 0) where
+  -- an observer saw each of these frames once, in order, with its fate and how many bytes of data it has
+  abbrev pub SeesInTurn : List Handling → (old new : O) → Type 0
+  SeesInTurn [] old new = new ≡ old
+  SeesInTurn (h ∷ hs) old new = (mid : O) × observes old h.fate (length h.frame.payload) mid × SeesInTurn hs mid new
+
 -- What was done with the frames of a stream, up to the first unit that is none, the end or a fault: the intake handed
 -- them out in order and then gave its last answer, which lasts where it is an end; each met its fate at the feed, in
 -- turn, and was counted by it; what was published stands in the log, in order; and the points are those of the last RTP
@@ -103,3 +109,9 @@ pub record RelaysIn {S F : Type 0} (incoming : S → Option (List ℕ)) (failed 
   pub counts : AreCounted handlings report
   pub log : GrowsBy old_log (published handlings) new_log
   pub points : ArePointsAfter old_points (published handlings) new_points
+
+-- The same, with an observer that saw each frame as it met its fate.
+pub record RelaysSeen {S F O : Type 0} (incoming : S → Option (List ℕ)) (failed : S → Bool) (gives : F → Packet → Result ℕ Refusal → F → Type 0) (observes : O → Fate → ℕ → O → Type 0) (pairs : List (Option ChannelPair)) (room : ℕ) (may : Refusal → Type 0)
+    (old new : IntakeState S) (old_feed new_feed : F) (old_log new_log : Option (List Packet)) (old_points new_points : List (Option Point)) (old_observer new_observer : O) (report : InReport) : Type 0 where
+  pub relays : RelaysIn incoming failed gives pairs room may old new old_feed new_feed old_log new_log old_points new_points report
+  pub seen : SeesInTurn observes relays.handlings old_observer new_observer

@@ -2,7 +2,7 @@
 
 /// What becomes of a frame of a publisher.
 #[derive(Clone, Copy, Debug, PartialEq, Eq, Drop)]
-pub(crate) enum Fate {
+pub enum Fate {
     /// It is a packet of the feed, with this tag.
     Published { tag: u8 },
     /// The feed refused it, because the place for it is pinned.

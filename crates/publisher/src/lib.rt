@@ -3,11 +3,14 @@
 #![tactic(auto)]
 
 mod fate;
+mod observing;
 mod offering;
 mod relaying;
 mod report;
 mod rtp;
 
-pub use relaying::relay_in;
+pub use fate::Fate;
+pub use observing::FateObserver;
+pub use relaying::{relay_in, relay_in_observed};
 pub use report::{InReport, InStop};
 pub use rtp::{is_rtp, point_of};

@@ -2,8 +2,9 @@
 ghost use Rattle.std.specs.Prelude.{◌≡◌, ◌≤◌, ◌+◌, ℕ, length};
 ghost use Rattle.rtsp_message.specs.Intakes.{weight};
 ghost use Rattle.cursor.specs.declared.refusals.Refused.TheVariants.{Pinned, Worn, OutOfMemory};
-ghost use Rattle.publisher.specs.FramesIn.{HasPlaces, RelaysIn, StaysOver, handed_out};
+ghost use Rattle.publisher.specs.FramesIn.{HasPlaces, RelaysIn, RelaysSeen, StaysOver, handed_out};
 
+use crate::observing::{FateObserver, Unobserved};
 use crate::offering::take_in;
 use crate::report::{InReport, InStop};
 use cursor::Feed;
@@ -35,18 +36,40 @@ pub fn relay_in<S: Source + Drop, F: Feed>(
     ensures ends { weight S.bound intake.new + handed_out result ≤ weight S.bound intake.old }
     ensures for_good { StaysOver S.failed intake.old result }
 {
-    relay_frames(intake, feed, channels, points)
+    relay_in_observed(intake, feed, channels, points, &mut Unobserved)
 }
 
-// The same, without what follows of the counts of answers that the feed never gives.
-fn relay_frames<S: Source + Drop, F: Feed>(
+/// As `relay_in`, with an observer that sees each frame's fate as it comes: what is reported of a stream that goes on for days
+/// can't wait until this returns.
+pub fn relay_in_observed<S: Source + Drop, F: Feed, O: FateObserver>(
     intake: &mut Intake<S>,
     feed: &mut F,
     channels: &TrackChannels,
     points: &mut [Option<Point>],
+    observer: &mut O,
 ) -> InReport
     requires { HasPlaces channels.now (length points.old) }
-    ensures relays { RelaysIn S.incoming S.failed F.publish_gives channels.now (F.packet_bytes feed.old) F.may_refuse intake.old intake.new feed.old feed.new (F.told feed.old) (F.told feed.new) points.old points.new result }
+    ensures relays { RelaysSeen S.incoming S.failed F.publish_gives O.observes channels.now (F.packet_bytes feed.old) F.may_refuse intake.old intake.new feed.old feed.new (F.told feed.old) (F.told feed.new) points.old points.new observer.old observer.new result }
+    ensures never_pinned { ((pins : ℕ) → ¬ F.may_refuse (Pinned pins)) → result.pinned ≡ 0 }
+    ensures never_worn { ¬ F.may_refuse Worn → result.worn ≡ 0 }
+    ensures never_unkept { ¬ F.may_refuse OutOfMemory → result.unkept ≡ 0 }
+    ensures same { F.packet_bytes feed.new ≡ F.packet_bytes feed.old }
+    ensures ends { weight S.bound intake.new + handed_out result ≤ weight S.bound intake.old }
+    ensures for_good { StaysOver S.failed intake.old result }
+{
+    relay_frames(intake, feed, channels, points, observer)
+}
+
+// The same, without what follows of the counts of answers that the feed never gives.
+fn relay_frames<S: Source + Drop, F: Feed, O: FateObserver>(
+    intake: &mut Intake<S>,
+    feed: &mut F,
+    channels: &TrackChannels,
+    points: &mut [Option<Point>],
+    observer: &mut O,
+) -> InReport
+    requires { HasPlaces channels.now (length points.old) }
+    ensures relays { RelaysSeen S.incoming S.failed F.publish_gives O.observes channels.now (F.packet_bytes feed.old) F.may_refuse intake.old intake.new feed.old feed.new (F.told feed.old) (F.told feed.new) points.old points.new observer.old observer.new result }
     ensures same { F.packet_bytes feed.new ≡ F.packet_bytes feed.old }
     ensures ends { weight S.bound intake.new + handed_out result ≤ weight S.bound intake.old }
     ensures for_good { StaysOver S.failed intake.old result }
@@ -59,6 +82,7 @@ fn relay_frames<S: Source + Drop, F: Feed>(
             Next::Unit(Unit::Frame(frame)) => {
                 let fate = take_in(&frame, feed, channels, points);
                 report.count(fate);
+                observer.observe(fate, frame.payload.len());
             }
             Next::Unit(Unit::Message(request)) => {
                 return report.stopped(InStop::Message(request));

@@ -1,12 +1,11 @@
 -- What becomes of the counts of a connection.
-use Rattle.std.specs.Prelude.{ℕ, ◌+◌, ◌-◌, ◌^◌, min}
+use Rattle.std.specs.Prelude.{ℕ, ◌+◌, ◌-◌, min}
 use Rattle.cursor.specs.declared.takes.Left.{Left}
 use Rattle.publisher.specs.declared.report.InReport.{InReport}
 use Rattle.relay_accounts.specs.declared.counts.Counts.{Counts}
-
--- a count that would pass 2^64 - 1 stays there
-abbrev pub capped : ℕ → ℕ
-capped n = min n (2 ^ 64 - 1)
+use Rattle.relay_accounts.specs.declared.handover.HandedOver.{HandedOver}
+use Rattle.relay_accounts.specs.declared.seat_account.SeatAccount.{SeatAccount}
+use Rattle.relay_accounts.specs.Capped.{capped}
 
 -- no packet came and none went
 abbrev pub nothing_counted : Counts
@@ -15,21 +14,32 @@ nothing_counted = record {
   pinned = 0;
   oversize = 0;
   bad_rtp = 0;
-  strangers = 0;
+  unknown_channel = 0;
   unkept = 0;
-  taken = 0;
+  strangers = 0;
+  sent = 0;
+  skipped = 0;
   lost = 0;
+  unsent = 0;
   slowed = 0;
 }
 
--- the counts with what is told of frames that came in
+-- how many frames came while the connection recorded
+abbrev pub came_in : Counts → ℕ
+came_in counts = counts.published + counts.pinned + counts.oversize + counts.bad_rtp + counts.unknown_channel + counts.unkept
+
+-- how many packets were published while the connection had a seat
+abbrev pub accounted : Counts → ℕ
+accounted counts = counts.sent + counts.skipped + counts.lost + counts.unsent
+
+-- the counts with what is told of the frames of a stretch of recording; one that had no number is counted with those that had no memory
 abbrev pub with_report : Counts → InReport → Counts
 with_report counts report = record counts {
   published = capped (counts.published + report.published);
   pinned = capped (counts.pinned + report.pinned);
   oversize = capped (counts.oversize + report.oversize);
   bad_rtp = capped (counts.bad_rtp + report.bad_rtp);
-  strangers = capped (counts.strangers + report.strangers);
+  unknown_channel = capped (counts.unknown_channel + report.strangers);
   unkept = capped (counts.unkept + report.worn + report.unkept);
 }
 
@@ -37,17 +47,37 @@ with_report counts report = record counts {
 abbrev pub with_strangers : Counts → ℕ → Counts
 with_strangers counts frames = record counts { strangers = capped (counts.strangers + frames) }
 
--- The counts with the account of a seat that was left, of a ring that keeps so many packets. Of the packets after its
--- cursor only the last so many are still there; the others are lost.
-abbrev pub with_left : Counts → Left → (keep : ℕ) → Counts
-with_left counts left keep = record counts {
-  taken = capped (counts.taken + left.taken);
-  lost = capped (counts.lost + left.lost + (left.left - keep));
+-- of the packets that a seat took, those that its sender skipped, as far as there were so many
+abbrev pub skipped_of : Left → HandedOver → ℕ
+skipped_of left handed = min handed.skipped left.taken
+
+-- of the others those that it sent
+abbrev pub sent_of : Left → HandedOver → ℕ
+sent_of left handed = min handed.sent (left.taken - skipped_of left handed)
+
+-- The account of a seat that was left, of a ring that keeps so many packets. Of the packets after its cursor only the last so
+-- many are still there; the others are lost. What was taken and neither sent nor skipped is unsent.
+abbrev pub account_of : Left → HandedOver → (keep : ℕ) → SeatAccount
+account_of left handed keep = record {
+  sent = sent_of left handed;
+  skipped = skipped_of left handed;
+  lost = capped (left.lost + (left.left - keep));
+  unsent = capped (left.taken - skipped_of left handed - sent_of left handed + min left.left keep);
 }
 
--- the account of a seat that is sent nothing more: what was left for later is lost
-abbrev pub with_rest_lost : Left → Left
-with_rest_lost account = record { taken = account.taken; lost = capped (account.lost + account.left); left = 0 }
+-- the counts with the account of a seat that was left
+abbrev pub with_account : Counts → SeatAccount → Counts
+with_account counts account = record counts {
+  sent = capped (counts.sent + account.sent);
+  skipped = capped (counts.skipped + account.skipped);
+  lost = capped (counts.lost + account.lost);
+  unsent = capped (counts.unsent + account.unsent);
+}
+
+-- What a player would have lost if it left its seat now: those that it was told lost, and of those that were published behind
+-- its cursor the ones that its ring keeps no longer.
+abbrev pub lost_by_now : (lost cursor published keep : ℕ) → ℕ
+lost_by_now lost cursor published keep = capped (lost + (published - cursor - keep))
 
 -- the counts with so many milliseconds for which packets waited
 abbrev pub with_wait : Counts → (milliseconds : ℕ) → Counts
@@ -60,13 +90,16 @@ counted_since counts earlier = record {
   pinned = counts.pinned - earlier.pinned;
   oversize = counts.oversize - earlier.oversize;
   bad_rtp = counts.bad_rtp - earlier.bad_rtp;
-  strangers = counts.strangers - earlier.strangers;
+  unknown_channel = counts.unknown_channel - earlier.unknown_channel;
   unkept = counts.unkept - earlier.unkept;
-  taken = counts.taken - earlier.taken;
+  strangers = counts.strangers - earlier.strangers;
+  sent = counts.sent - earlier.sent;
+  skipped = counts.skipped - earlier.skipped;
   lost = counts.lost - earlier.lost;
+  unsent = counts.unsent - earlier.unsent;
   slowed = counts.slowed - earlier.slowed;
 }
 
 -- how many packets of a mount were lost or refused
 abbrev pub losses : Counts → ℕ
-losses counts = counts.pinned + counts.oversize + counts.bad_rtp + counts.unkept + counts.lost
+losses counts = counts.pinned + counts.oversize + counts.bad_rtp + counts.unknown_channel + counts.unkept + counts.lost

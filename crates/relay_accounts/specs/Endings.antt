@@ -25,7 +25,14 @@ end_of ends.OutOfMemory sent is_over = ends.OutOfMemory
 end_of ends.NoThread sent is_over = ends.NoThread
 end_of ends.Expired sent is_over = ends.Expired
 end_of ends.Idle sent is_over = ends.Idle
+end_of ends.Reset sent is_over = ends.Reset
 end_of read sent is_over = told_end read sent is_over
+
+-- how a connection ended whose peer reset it while it was sent frames, if it did: no read and no write failed otherwise
+abbrev pub reset_end : ConnectionEnd → (was_reset : Bool) → ConnectionEnd
+reset_end ends.ReadFailed true = ends.Reset
+reset_end ends.WriteFailed true = ends.Reset
+reset_end end was_reset = end
 
 -- the status of the fixed text after a fault (RFC 2326, 7.1.1): a head or a body that is too long, else a bad request
 abbrev pub status_of : Fault → Status

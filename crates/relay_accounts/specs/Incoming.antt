@@ -1,5 +1,5 @@
 -- What comes in between the requests of a connection.
-use Rattle.std.specs.Prelude.{◌≡◌, ℕ, Bool, List, Option, Some, Result, ◌++◌, length, map}
+use Rattle.std.specs.Prelude.{◌≡◌, ℕ, ◌+◌, ◌^◌, ◌<◌, Bool, List, Option, Some, Result, ◌++◌, length, map}
 use Rattle.interleaved.specs.declared.frame.Frame.{Frame}
 use Rattle.rtsp_message.specs.declared.unit.Unit.{Unit as StreamUnit}
 use Rattle.rtsp_message.specs.declared.unit.Unit.TheVariants as content
@@ -12,7 +12,7 @@ use Rattle.publisher.specs.declared.report.InReport.{InReport}
 use Rattle.publisher.specs.declared.report.InStop.{InStop}
 use Rattle.publisher.specs.FramesIn.{RelaysIn, answer_of}
 use Rattle.relay_accounts.specs.declared.counts.Counts.{Counts}
-use Rattle.relay_accounts.specs.Counting.{with_report, with_strangers}
+use Rattle.relay_accounts.specs.Counting.{came_in, with_report, with_strangers}
 
 -- frames as units of a stream
 abbrev pub units_of : List Frame → List StreamUnit
@@ -27,7 +27,7 @@ pub record DropsFrames {S : Type 0} (incoming : S → Option (List ℕ)) (failed
   pub counted : after ≡ with_strangers before (length frames)
 
 -- The frames that came in were offered to the feed of the mount, on these channels, up to this answer; what became of them is
--- told in a report, and counted by it.
+-- told in a report, and counted by it: the sum of the fates grows by as many as came.
 pub record PublishesFrames {S F : Type 0} (incoming : S → Option (List ℕ)) (failed : S → Bool) (gives : F → Packet → Result ℕ Refusal → F → Type 0) (pairs : List (Option ChannelPair)) (room : ℕ) (may : Refusal → Type 0)
     (old new : IntakeState S) (feed : F) (after : Option F) (before counts : Counts) (stop : InStop) : Type 0 where
   pub left : F
@@ -40,3 +40,4 @@ pub record PublishesFrames {S F : Type 0} (incoming : S → Option (List ℕ)) (
   pub old_points : List (Option Point)
   pub new_points : List (Option Point)
   pub relays : RelaysIn incoming failed gives pairs room may old new feed left old_log new_log old_points new_points report
+  pub closes : came_in before + length relays.handlings < 2 ^ 64 → came_in counts ≡ came_in before + length relays.handlings

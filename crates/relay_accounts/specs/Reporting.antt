@@ -1,12 +1,36 @@
--- What is told of a mount and of a player while they go on.
-use Rattle.std.specs.Prelude.{ℕ, ◌-◌}
-use Rattle.cursor.specs.declared.takes.Left.{Left}
+-- What is told of a mount while it goes on.
+use Rattle.std.specs.Prelude.{ℕ, ◌+◌, ◌-◌}
+use Rattle.publisher.specs.declared.fate.Fate.{Fate}
+use Rattle.publisher.specs.declared.fate.Fate.TheVariants as fate
 use Rattle.relay_accounts.specs.declared.mount_tally.MountTally.{MountTally}
-use Rattle.relay_accounts.specs.Counting.{nothing_counted, with_left}
+use Rattle.relay_accounts.specs.Capped.{capped}
 
--- no packet was offered to a mount
+-- no frame came to a mount
 abbrev pub nothing_published : MountTally
-nothing_published = record { packets = 0; bytes = 0; pinned = 0 }
+nothing_published = record {
+  packets = 0;
+  bytes = 0;
+  pinned = 0;
+  oversize = 0;
+  bad_rtp = 0;
+  unknown_channel = 0;
+  unkept = 0;
+  slowed = 0;
+}
+
+-- how many frames came to a mount
+abbrev pub came_to_mount : MountTally → ℕ
+came_to_mount tally = tally.packets + tally.pinned + tally.oversize + tally.bad_rtp + tally.unknown_channel + tally.unkept
+
+-- the tally with one frame more, which has so many bytes and met this fate
+abbrev pub with_fate : MountTally → Fate → (bytes : ℕ) → MountTally
+with_fate tally (fate.Published tag) bytes = record tally { packets = capped (tally.packets + 1); bytes = capped (tally.bytes + bytes) }
+with_fate tally fate.Pinned bytes = record tally { pinned = capped (tally.pinned + 1) }
+with_fate tally fate.Oversize bytes = record tally { oversize = capped (tally.oversize + 1) }
+with_fate tally fate.BadRtp bytes = record tally { bad_rtp = capped (tally.bad_rtp + 1) }
+with_fate tally fate.Stranger bytes = record tally { unknown_channel = capped (tally.unknown_channel + 1) }
+with_fate tally fate.Worn bytes = record tally { unkept = capped (tally.unkept + 1) }
+with_fate tally fate.Unkept bytes = record tally { unkept = capped (tally.unkept + 1) }
 
 -- what came between two moments of one mount
 abbrev pub published_since : (tally earlier : MountTally) → MountTally
@@ -14,9 +38,9 @@ published_since tally earlier = record {
   packets = tally.packets - earlier.packets;
   bytes = tally.bytes - earlier.bytes;
   pinned = tally.pinned - earlier.pinned;
+  oversize = tally.oversize - earlier.oversize;
+  bad_rtp = tally.bad_rtp - earlier.bad_rtp;
+  unknown_channel = tally.unknown_channel - earlier.unknown_channel;
+  unkept = tally.unkept - earlier.unkept;
+  slowed = tally.slowed - earlier.slowed;
 }
-
--- What a player would have lost if it left its seat now: those that it was told lost, and of those that were published behind
--- its cursor the ones that its ring keeps no longer.
-abbrev pub lost_by_now : (lost cursor published keep : ℕ) → ℕ
-lost_by_now lost cursor published keep = (with_left nothing_counted (record { taken = 0; lost = lost; left = published - cursor }) keep).lost

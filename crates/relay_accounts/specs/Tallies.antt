@@ -1,7 +1,7 @@
 -- What is told of at most once a minute. Moments are milliseconds.
 use Rattle.std.specs.Prelude.{ℕ, ◌+◌, ◌==◌, ◌≤◌, Option, None, Some, if◌then◌else◌, IsSomeAnd}
 use Rattle.relay_accounts.specs.declared.tally.Tally.{Tally}
-use Rattle.relay_accounts.specs.Counting.{capped}
+use Rattle.relay_accounts.specs.Capped.{capped}
 
 -- a minute after this moment, or at once
 abbrev pub a_minute_after : Option ℕ → ℕ

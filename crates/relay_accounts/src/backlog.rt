@@ -1,6 +1,6 @@
 //! What waits for whoever takes it.
 ghost use Rattle.std.specs.Prelude.{◌≡◌, ◌+◌, ◌∷◌, [], ◌++◌, ◌<◌, ◌≤◌, length, IfOk, IfSome, IfNone, IsTrue, ◌↔◌};
-ghost use Rattle.relay_accounts.specs.Counting.{capped};
+ghost use Rattle.relay_accounts.specs.Capped.{capped};
 
 use std::alloc::{AllocError, Global};
 use std::collections::VecDeque;
@@ -55,6 +55,13 @@ impl<T: Drop> Backlog<T> {
         self.waiting.is_empty() && self.missed == 0
     }
 
+    /// Whether one more finds no room.
+    pub fn is_full(&self) -> bool
+        ensures { IsTrue result ↔ (1024 ≤ length self.now.waiting) }
+    {
+        self.waiting.len() >= MOST
+    }
+
     /// A thing comes. Where there is no room it is dropped and counted.
     pub fn put(&mut self, item: T)
         ensures kept { length self.old.waiting < 1024 → self.new ≡ record { waiting = self.old.waiting ++ record { missed = self.old.missed; item = item } ∷ []; missed = 0 } }
@@ -72,7 +79,14 @@ impl<T: Drop> Backlog<T> {
     pub fn miss(&mut self)
         ensures { self.new ≡ record self.old { missed = capped (self.old.missed + 1) } }
     {
-        self.missed = self.missed.saturating_add(1);
+        self.miss_all(1);
+    }
+
+    /// So many things came that couldn't be made.
+    pub fn miss_all(&mut self, count: u64)
+        ensures { self.new ≡ record self.old { missed = capped (self.old.missed + count) } }
+    {
+        self.missed = self.missed.saturating_add(count);
     }
 
     /// The oldest thing that waits.

@@ -1,35 +1,43 @@
 //! What became of the packets of a connection.
-ghost use Rattle.std.specs.Prelude.{◌≡◌, ◌<◌, ◌↔◌, IsTrue};
-ghost use Rattle.relay_accounts.specs.Counting.{counted_since, losses, nothing_counted, with_left, with_report, with_rest_lost, with_strangers, with_wait};
-ghost use Rattle.relay_accounts.specs.Reporting.{lost_by_now};
+ghost use Rattle.std.specs.Prelude.{◌≡◌, ◌+◌, ◌^◌, ◌<◌, ◌≤◌, ◌↔◌, IsTrue};
+ghost use Rattle.publisher.specs.Fates.{total};
+ghost use Rattle.relay_accounts.specs.Counting.{accounted, came_in, counted_since, losses, nothing_counted, with_account, with_report, with_strangers, with_wait};
 
-use cursor::Left;
+use crate::seat_account::SeatAccount;
 use publisher::InReport;
-use std::fmt;
+use std::{fmt, mem};
 
-/// What became of the packets of a connection. A count that would pass 2^64 - 1 stays there.
+/// What became of the packets of a connection since its session began, or since the session before it ended. A count that
+/// would pass 2^64 - 1 stays there.
+///
+/// The frames that came while it recorded are the sum of the first six counts. The packets that were published to the mount
+/// while it had a seat are the sum of `sent`, `skipped`, `lost` and `unsent`.
 #[derive(Clone, Copy, Debug, PartialEq, Eq, Drop)]
 pub struct Counts {
-    /// The frames that came in and were published.
+    /// Frames that were published.
     pub published: u64,
-    /// Those that were refused, since a player was just copying what they would have replaced.
+    /// Frames that were refused, since a player was just copying the packet that they would have replaced.
     pub pinned: u64,
-    /// Those that are longer than a packet may be.
+    /// Frames that are longer than a packet may be.
     pub oversize: u64,
-    /// Those on an RTP channel that are no RTP packets (RFC 3550, 5.1).
+    /// Frames on an RTP channel that are no RTP packets (RFC 3550, 5.1).
     pub bad_rtp: u64,
-    /// Those on a channel of no track that is set up, and those that came while nothing was recorded.
-    pub strangers: u64,
-    /// Those that the mount had no number or no memory for.
+    /// Frames on a channel of no track that is set up.
+    pub unknown_channel: u64,
+    /// Frames that the mount had no number or no memory for.
     pub unkept: u64,
-    /// The packets that were taken from the ring, of tracks that the player set up or not; of a write that fails up to
-    /// sixteen of them go nowhere.
-    pub taken: u64,
-    /// The packets of any track that this player lost, since it was too far behind: those that a take told lost, and those
-    /// after its cursor that the ring kept no longer when it left its seat. What the ring still kept for a player that left a
-    /// live mount is in no count; it is lost to one that was given up after its mount's end.
+    /// Frames that came while nothing was recorded: nobody's loss.
+    pub strangers: u64,
+    /// Packets that the system's socket took, each as a whole frame. What its buffer held when the connection broke is among
+    /// them.
+    pub sent: u64,
+    /// Packets of tracks that aren't set up.
+    pub skipped: u64,
+    /// Packets that the ring no longer kept when their turn came, or when the seat was left.
     pub lost: u64,
-    /// For how many milliseconds in all its packets waited for the players that keep up.
+    /// Packets that the ring still kept when the seat was left, and those that were taken from it and not handed to the system.
+    pub unsent: u64,
+    /// For how many milliseconds in all the packets that were published waited for players.
     pub slowed: u64,
 }
 
@@ -43,23 +51,27 @@ impl Counts {
             pinned: 0,
             oversize: 0,
             bad_rtp: 0,
-            strangers: 0,
+            unknown_channel: 0,
             unkept: 0,
-            taken: 0,
+            strangers: 0,
+            sent: 0,
+            skipped: 0,
             lost: 0,
+            unsent: 0,
             slowed: 0,
         }
     }
 
-    /// Adds what is told of frames that came in.
+    /// Adds the frames of a stretch of recording, each of which has one fate.
     pub fn add_in(&mut self, report: &InReport)
-        ensures { self.new ≡ with_report self.old report.now }
+        ensures counts { self.new ≡ with_report self.old report.now }
+        ensures closes { came_in self.old + total report.now < 2 ^ 64 → came_in self.new ≡ came_in self.old + total report.now }
     {
         self.published = self.published.saturating_add(report.published);
         self.pinned = self.pinned.saturating_add(report.pinned);
         self.oversize = self.oversize.saturating_add(report.oversize);
         self.bad_rtp = self.bad_rtp.saturating_add(report.bad_rtp);
-        self.strangers = self.strangers.saturating_add(report.strangers);
+        self.unknown_channel = self.unknown_channel.saturating_add(report.strangers);
         self.unkept = self
             .unkept
             .saturating_add(report.worn)
@@ -73,15 +85,16 @@ impl Counts {
         self.strangers = self.strangers.saturating_add(1);
     }
 
-    /// Adds the account of a seat that was left, of a ring that keeps so many packets.
-    pub fn add_out(&mut self, left: &Left, keep: u64)
-        ensures { self.new ≡ with_left self.old left.now keep }
+    /// Adds the account of a seat that was left.
+    pub fn add_out(&mut self, account: &SeatAccount)
+        ensures counts { self.new ≡ with_account self.old account.now }
+        ensures closes { accounted self.old + (account.now.sent + account.now.skipped + account.now.lost + account.now.unsent) < 2 ^ 64
+            → accounted self.new ≡ accounted self.old + (account.now.sent + account.now.skipped + account.now.lost + account.now.unsent) }
     {
-        self.taken = self.taken.saturating_add(left.taken);
-        self.lost = self
-            .lost
-            .saturating_add(left.lost)
-            .saturating_add(left.left.saturating_sub(keep));
+        self.sent = self.sent.saturating_add(account.sent);
+        self.skipped = self.skipped.saturating_add(account.skipped);
+        self.lost = self.lost.saturating_add(account.lost);
+        self.unsent = self.unsent.saturating_add(account.unsent);
     }
 
     /// Adds the milliseconds for which packets waited for players.
@@ -89,6 +102,14 @@ impl Counts {
         ensures { self.new ≡ with_wait self.old milliseconds }
     {
         self.slowed = self.slowed.saturating_add(milliseconds);
+    }
+
+    /// The session has ended: its counts, which begin anew.
+    pub fn end(&mut self) -> Counts
+        ensures all { result ≡ self.old }
+        ensures anew { self.new ≡ nothing_counted }
+    {
+        mem::replace(self, Counts::new())
     }
 
     /// What was counted since these counts were taken, of the same connection.
@@ -100,65 +121,62 @@ impl Counts {
             pinned: self.pinned.saturating_sub(earlier.pinned),
             oversize: self.oversize.saturating_sub(earlier.oversize),
             bad_rtp: self.bad_rtp.saturating_sub(earlier.bad_rtp),
-            strangers: self.strangers.saturating_sub(earlier.strangers),
+            unknown_channel: self.unknown_channel.saturating_sub(earlier.unknown_channel),
             unkept: self.unkept.saturating_sub(earlier.unkept),
-            taken: self.taken.saturating_sub(earlier.taken),
+            strangers: self.strangers.saturating_sub(earlier.strangers),
+            sent: self.sent.saturating_sub(earlier.sent),
+            skipped: self.skipped.saturating_sub(earlier.skipped),
             lost: self.lost.saturating_sub(earlier.lost),
+            unsent: self.unsent.saturating_sub(earlier.unsent),
             slowed: self.slowed.saturating_sub(earlier.slowed),
         }
     }
 
-    /// Whether a packet of a mount was lost or refused. Strangers are nobody's loss.
+    /// Whether a packet of a mount was lost or refused. Strangers are nobody's loss, and what a player left unsent is none.
     pub fn has_losses(&self) -> bool
         ensures { IsTrue result ↔ (0 < losses self.now) }
     {
-        self.pinned > 0 || self.oversize > 0 || self.bad_rtp > 0 || self.unkept > 0 || self.lost > 0
+        self.pinned > 0
+            || self.oversize > 0
+            || self.bad_rtp > 0
+            || self.unknown_channel > 0
+            || self.unkept > 0
+            || self.lost > 0
     }
-}
-
-/// The account of a player that is sent nothing more of its mount: what it hadn't taken is lost to it.
-pub fn given_up(left: Left) -> Left
-    ensures { result ≡ with_rest_lost left }
-{
-    Left {
-        taken: left.taken,
-        lost: left.lost.saturating_add(left.left),
-        left: 0,
-    }
-}
-
-/// How many packets a player would have lost if it left its seat now: it was told so many lost and stands at this cursor, and
-/// so many were published to its ring, which keeps so many.
-pub fn lost_so_far(lost: u64, cursor: u64, published: u64, keep: u64) -> u64
-    ensures { result ≡ lost_by_now lost cursor published keep }
-{
-    let mut counts = Counts::new();
-    let left = Left {
-        taken: 0,
-        lost,
-        left: published.saturating_sub(cursor),
-    };
-    counts.add_out(&left, keep);
-    counts.lost
 }
 
 impl fmt::Display for Counts {
     fn fmt<W: fmt::Write>(&self, f: &mut fmt::Formatter<W>) -> fmt::Result {
-        write!(
-            f,
-            "published {}, pinned {}, too long {}, bad RTP {}, unknown channel {}, no memory {}; sent {}, lost {}",
-            self.published,
-            self.pinned,
-            self.oversize,
-            self.bad_rtp,
-            self.strangers,
-            self.unkept,
-            self.taken,
-            self.lost
-        )?;
+        self.write_in(f)?;
+        self.write_out(f)?;
         if self.slowed > 0 {
             write!(f, ", slowed {} ms", self.slowed)?;
         }
         Ok(())
+    }
+}
+
+impl Counts {
+    /// Writes what became of the frames that came in.
+    fn write_in<W: fmt::Write>(&self, f: &mut fmt::Formatter<W>) -> fmt::Result {
+        write!(
+            f,
+            "published {}, pinned {}, too long {}, bad RTP {}, unknown channel {}, no memory {}; ",
+            self.published,
+            self.pinned,
+            self.oversize,
+            self.bad_rtp,
+            self.unknown_channel,
+            self.unkept
+        )
+    }
+
+    /// Writes what became of the packets that were to go out, and the strangers.
+    fn write_out<W: fmt::Write>(&self, f: &mut fmt::Formatter<W>) -> fmt::Result {
+        write!(
+            f,
+            "sent {}, skipped {}, lost {}, unsent {}; strangers {}",
+            self.sent, self.skipped, self.lost, self.unsent, self.strangers
+        )
     }
 }

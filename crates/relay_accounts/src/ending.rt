@@ -1,6 +1,6 @@
 //! How connections end.
 ghost use Rattle.std.specs.Prelude.{◌≡◌};
-ghost use Rattle.relay_accounts.specs.Endings.{end_of as connection_end, status_of as fault_status};
+ghost use Rattle.relay_accounts.specs.Endings.{end_of as connection_end, reset_end, status_of as fault_status};
 
 use rtsp_message::{Fault, Status};
 use std::fmt;
@@ -20,6 +20,8 @@ pub enum ConnectionEnd {
     Expired,
     /// It was silent for too long without a session.
     Idle,
+    /// Its peer reset it while it was sent frames.
+    Reset,
 }
 
 impl fmt::Display for ConnectionEnd {
@@ -36,8 +38,9 @@ impl fmt::Display for ConnectionEnd {
             ConnectionEnd::WriteFailed => write!(f, "write failed"),
             ConnectionEnd::OutOfMemory => write!(f, "out of memory"),
             ConnectionEnd::NoThread => write!(f, "no thread for its frames"),
-            ConnectionEnd::Expired => write!(f, "session expired"),
+            ConnectionEnd::Expired => write!(f, "session expired after 60 s of silence"),
             ConnectionEnd::Idle => write!(f, "silent without a session"),
+            ConnectionEnd::Reset => write!(f, "left by a reset"),
         }
     }
 }
@@ -64,11 +67,22 @@ pub fn end_of(read: ConnectionEnd, sent: FrameEnd, is_over: bool) -> ConnectionE
         | (ConnectionEnd::OutOfMemory, _)
         | (ConnectionEnd::NoThread, _)
         | (ConnectionEnd::Expired, _)
-        | (ConnectionEnd::Idle, _) => read,
+        | (ConnectionEnd::Idle, _)
+        | (ConnectionEnd::Reset, _) => read,
         (_, FrameEnd::OutOfMemory) => ConnectionEnd::OutOfMemory,
         _ if is_over => ConnectionEnd::Done,
         (_, FrameEnd::WriteFailed) => ConnectionEnd::WriteFailed,
         (_, FrameEnd::Stopped | FrameEnd::Ended) => read,
+    }
+}
+
+/// How a connection ended whose peer reset it while it was sent frames, if it did: what failed then failed by the reset.
+pub fn end_by_reset(end: ConnectionEnd, was_reset: bool) -> ConnectionEnd
+    ensures { result ≡ reset_end end was_reset }
+{
+    match end {
+        ConnectionEnd::ReadFailed | ConnectionEnd::WriteFailed if was_reset => ConnectionEnd::Reset,
+        _ => end,
     }
 }
 

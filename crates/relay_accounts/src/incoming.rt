@@ -1,30 +1,31 @@
 //! What comes in between a connection's requests.
 ghost use Rattle.std.specs.Prelude.{List, Option};
 ghost use Rattle.transport_header.specs.declared.point.Point.{Point};
-ghost use Rattle.publisher.specs.FramesIn.{RelaysIn};
+ghost use Rattle.publisher.specs.FramesIn.{RelaysSeen};
 ghost use Rattle.relay_accounts.specs.Incoming.{DropsFrames};
 
 use crate::counts::Counts;
 use crate::heard::Heard;
 use cursor::Feed;
 use interleaved::Source;
-use publisher::{InReport, InStop, relay_in};
+use publisher::{FateObserver, InReport, InStop, relay_in_observed};
 use rtsp_message::{Intake, Next, Unit};
 use transport_header::{MOST_TRACKS, TrackChannels};
 
 /// Publishes frames until a message comes, the end or a fault, by `relay_in`. Nobody reads its points: the feed posts each
-/// as soon as its packet is in.
-pub fn publish_frames<S: Source + Drop, F: Feed>(
+/// as soon as its packet is in. The observer sees each frame's fate as it comes.
+pub fn publish_frames<S: Source + Drop, F: Feed, O: FateObserver>(
     intake: &mut Intake<S>,
     feed: &mut F,
     channels: &TrackChannels,
+    observer: &mut O,
 ) -> InReport
-    ensures { (old_points new_points : List (Option Point)) × RelaysIn S.incoming S.failed F.publish_gives channels.now (F.packet_bytes feed.old) F.may_refuse intake.old intake.new feed.old feed.new (F.told feed.old) (F.told feed.new) old_points new_points result }
+    ensures { (old_points new_points : List (Option Point)) × RelaysSeen S.incoming S.failed F.publish_gives O.observes channels.now (F.packet_bytes feed.old) F.may_refuse intake.old intake.new feed.old feed.new (F.told feed.old) (F.told feed.new) old_points new_points observer.old observer.new result }
 {
     let mut points = [None; MOST_TRACKS];
     // Read for the proof alone: no more tracks than there are places are set up.
     let _pair = channels.pair_of(0);
-    relay_in(intake, feed, channels, &mut points)
+    relay_in_observed(intake, feed, channels, &mut points, observer)
 }
 
 /// Drops frames until a message comes, the end or a fault, counts each as a stranger and notes it as heard.

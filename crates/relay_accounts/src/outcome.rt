@@ -28,7 +28,10 @@ impl fmt::Display for Part {
 #[derive(Drop)]
 pub struct Outcome {
     pub end: ConnectionEnd,
+    /// What was counted since its last session began, or since that ended.
     pub counts: Counts,
+    /// Whether they are that session's account, which isn't told yet.
+    pub has_account: bool,
     /// Its part in the mount of its last session. `None` where it had none, or there was no memory for the name.
     pub part: Option<Part>,
 }

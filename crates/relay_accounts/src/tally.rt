@@ -1,6 +1,6 @@
 //! What is told of once in a while.
 ghost use Rattle.std.specs.Prelude.{◌≡◌, ◌+◌, None, Some, MatchOption};
-ghost use Rattle.relay_accounts.specs.Counting.{capped};
+ghost use Rattle.relay_accounts.specs.Capped.{capped};
 ghost use Rattle.relay_accounts.specs.Tallies.{due_at, IsDue};
 
 /// How long nothing is told after what was told last, in milliseconds.

@@ -1,11 +1,19 @@
 -- What the command line of the server may ask for.
 use Rattle.std.specs.Prelude.{◌≡◌, ◌≤◌, ⊤, true, IfSome}
 use Rattle.relay_command.specs.declared.settings.Settings.{Settings}
+use Rattle.relay_command.specs.declared.settings.SendBuffer.{SendBuffer}
+use Rattle.relay_command.specs.declared.settings.SendBuffer.TheVariants as buffer
 use Rattle.relay_command.specs.declared.asked.Asked.{Asked}
 use Rattle.relay_command.specs.declared.asked.Asked.TheVariants as asks
 
--- the ranges of a ring's numbers, of the time that packets gather for, in milliseconds, of how many threads send frames, and of
--- the seconds between reports
+-- a send buffer that is set has 4 MiB at most
+abbrev pub IsBounded : SendBuffer → Type 0
+IsBounded buffer.Default = ⊤
+IsBounded buffer.System = ⊤
+IsBounded (buffer.Bytes bytes) = bytes ≤ 4194304
+
+-- the ranges of a ring's numbers, of the time that packets gather for, in milliseconds, of how many threads send frames, of
+-- the seconds between reports, and of the bytes of a send buffer
 pub record IsInRange (settings : Settings) : Type 0 where
   pub keeps : (1 ≤ settings.keep) × (settings.keep ≤ 4095)
   pub seated : (1 ≤ settings.seats) × (settings.seats ≤ 1024)
@@ -14,14 +22,21 @@ pub record IsInRange (settings : Settings) : Type 0 where
   pub goes_back : settings.back ≤ 4095
   pub writes : IfSome settings.writers (λ count. count ≤ 64)
   pub reports : IfSome settings.report (λ seconds. (1 ≤ seconds) × (seconds ≤ 86400))
+  pub buffers : IsBounded settings.send_buffer
 
 -- what is sent from where it lies in the ring is sent by no writer
 abbrev pub SendsItself : Settings → Type 0
 SendsItself settings = settings.is_direct ≡ true → IfSome settings.writers (λ count. count ≡ 0)
 
+-- a send buffer that is set has 16 KiB at least
+abbrev pub HasRoomToSend : SendBuffer → Type 0
+HasRoomToSend buffer.Default = ⊤
+HasRoomToSend buffer.System = ⊤
+HasRoomToSend (buffer.Bytes bytes) = 16384 ≤ bytes
+
 -- a server that is asked for has its numbers in their ranges, and no writers beside players that send themselves
 abbrev pub IsServedInRange : Asked → Type 0
-IsServedInRange (asks.Serve addr settings) = IsInRange settings × SendsItself settings
+IsServedInRange (asks.Serve addr settings) = IsInRange settings × SendsItself settings × HasRoomToSend settings.send_buffer
 IsServedInRange (asks.Talk word) = ⊤
 IsServedInRange (asks.Steps stopped) = ⊤
 IsServedInRange asks.Nothing = ⊤

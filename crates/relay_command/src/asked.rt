@@ -1,13 +1,13 @@
 //! A command line, from its words to what it asks for.
-ghost use Rattle.std.specs.Prelude.{◌≡◌, IfOk, IfErr};
+ghost use Rattle.std.specs.Prelude.{◌≡◌, ◌↔◌, IfOk, IfErr, IsTrue};
 ghost use Rattle.clap.specs.Values.{kind_of};
 ghost use Rattle.clap.specs.declared.error.kind.ErrorKind.TheVariants.{ArgumentConflict, ValueValidation};
 ghost use Rattle.std.specs.Option.{option_copied};
-ghost use Rattle.relay_command.specs.Serving.{IsServedInRange};
+ghost use Rattle.relay_command.specs.Serving.{HasRoomToSend, IsServedInRange};
 ghost use Rattle.relay_command.specs.Stopping.{IsStopped, IsNoActor};
 
 use crate::commands::{command, serve_command, steps_command};
-use crate::settings::Settings;
+use crate::settings::{SendBuffer, Settings};
 use crate::task::{Task, task_named};
 use clap::error::ErrorKind;
 use clap::{ArgMatches, Error};
@@ -57,6 +57,9 @@ fn asked_of(alloc: Global, matches: &ArgMatches) -> Result<Asked, Error>
             if settings.is_direct && settings.writers.is_some_and(|count| count != 0) {
                 return Err(direct_by_writers(alloc)?);
             }
+            if is_short(settings.send_buffer) {
+                return Err(short_send_buffer(alloc)?);
+            }
             Ok(Asked::Serve(addr, settings))
         }
         None => Ok(Asked::Nothing),
@@ -92,6 +95,28 @@ fn direct_by_writers(alloc: Global) -> Result<Error, AllocError>
     let why = "the argument '--direct' cannot be used with '--writers <N>' other than 0";
     let mut command = serve_command(alloc)?.bin_name("relay serve")?;
     command.error(ErrorKind::ArgumentConflict, why)
+}
+
+/// The least send buffer that can be asked for, in bytes.
+const LEAST_SEND_BUFFER: u32 = 16_384;
+
+/// Whether a send buffer that is asked for is too short.
+fn is_short(buffer: SendBuffer) -> bool
+    ensures { IsTrue result ↔ (HasRoomToSend buffer → ⊥) }
+{
+    match buffer {
+        SendBuffer::Bytes(bytes) => bytes < LEAST_SEND_BUFFER,
+        SendBuffer::Default | SendBuffer::System => false,
+    }
+}
+
+/// Tells that a send buffer is too short, as a command line is told that it isn't understood.
+fn short_send_buffer(alloc: Global) -> Result<Error, AllocError>
+    ensures { IfOk result (λ error. kind_of error ≡ ValueValidation) }
+{
+    let why = "invalid value for '--send-buffer <BYTES>': neither 0 nor 16384 to 4194304";
+    let mut command = serve_command(alloc)?.bin_name("relay serve")?;
+    command.error(ErrorKind::ValueValidation, why)
 }
 
 /// Tells that a text names no actor, as a command line is told that it isn't understood.

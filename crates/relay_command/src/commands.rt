@@ -75,7 +75,9 @@ pub(crate) fn serve_command<'a>(alloc: Global) -> Result<Command<'a>, AllocError
         .arg(writers_arg(alloc))?
         .arg(direct_arg(alloc))?
         .arg(verbose_arg(alloc))?
-        .arg(report_arg(alloc))
+        .arg(report_arg(alloc))?
+        .arg(send_buffer_arg(alloc))?
+        .arg(until_eof_arg(alloc))
 }
 
 fn addr_arg<'a>(alloc: Global) -> Arg<'a> {
@@ -192,5 +194,24 @@ fn report_arg<'a>(alloc: Global) -> Arg<'a> {
         .value_parser(clap::value_parser!(u64).range(1..86_401))
         .help(
             "Tell each mount's packets and each player's losses so often on standard error, 1 to 86400",
+        )
+}
+
+fn send_buffer_arg<'a>(alloc: Global) -> Arg<'a> {
+    Arg::new(alloc, "send-buffer")
+        .long("send-buffer")
+        .value_name("BYTES")
+        .value_parser(clap::value_parser!(u64).range(0..4_194_305))
+        .help(
+            "The send buffer that the system is asked for, in bytes, 16384 to 4194304, or 0 for its own; Linux holds up to twice as many: more keeps bursts, less keeps the picture live [default: 524288 if the system grants it, else 0]",
+        )
+}
+
+fn until_eof_arg<'a>(alloc: Global) -> Arg<'a> {
+    Arg::new(alloc, "until-eof")
+        .long("until-eof")
+        .action(ArgAction::SetTrue)
+        .help(
+            "End when standard input ends, and first log what each connection lost and a last report",
         )
 }

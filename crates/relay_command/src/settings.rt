@@ -3,6 +3,17 @@ ghost use Rattle.relay_command.specs.Serving.{IsInRange};
 
 use clap::ArgMatches;
 
+/// The send buffer of a connection: what the system may hold for a peer that is behind.
+#[derive(Clone, Copy, Debug, PartialEq, Eq, Drop)]
+pub enum SendBuffer {
+    /// The program's default where the system grants it, else as much as the system likes.
+    Default,
+    /// As much as the system likes.
+    System,
+    /// So many bytes, 16,384 to 4,194,304, as far as the system grants them.
+    Bytes(u32),
+}
+
 /// The numbers and switches of a server.
 #[derive(Clone, Copy, Debug, PartialEq, Eq, Drop)]
 pub struct Settings {
@@ -31,6 +42,10 @@ pub struct Settings {
     pub is_verbose: bool,
     /// After how many seconds, 1 to 86,400, and again after as many, lines tell of mounts and losses; `None` for never.
     pub report: Option<u64>,
+    /// What the system may hold for a peer that is behind.
+    pub send_buffer: SendBuffer,
+    /// Whether the server ends when standard input does.
+    pub until_eof: bool,
 }
 
 impl Settings {
@@ -59,6 +74,12 @@ impl Settings {
             report: matches
                 .get_one::<u64>("report")
                 .map(|seconds| seconds.clamp(1, 86_400)),
+            send_buffer: match matches.get_one::<u64>("send-buffer") {
+                None => SendBuffer::Default,
+                Some(0) => SendBuffer::System,
+                Some(bytes) => SendBuffer::Bytes(bytes.clamp(1, 4_194_304) as u32),
+            },
+            until_eof: matches.get_flag("until-eof"),
         }
     }
 }

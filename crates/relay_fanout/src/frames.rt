@@ -2,10 +2,10 @@
 ghost use Rattle.relay_fanout.specs.Ways.{HasRoom};
 
 use crate::maker::Leave;
-use crate::mount_signal::MountSignal;
+use crate::mount_signal::{MountSignal, Stand};
 use crate::pace::KnownLevel;
 use crate::phase::FramePhase;
-use crate::playing::{Playing, TapPlace};
+use crate::playing::{Playing, SentFrames, TapPlace};
 use crate::socket::HangUp;
 use crate::wake_signal::WakeSignal;
 use crate::way::Way;
@@ -14,7 +14,7 @@ use crate::writing_side::WritingSide;
 use cursor::{Lend, Tap};
 use interleaved::{Failed, Sink, TrySink};
 use player::OutStop;
-use relay_accounts::FrameEnd;
+use relay_accounts::{FrameEnd, Handover};
 use rtsp_message::{Status, put_plain};
 use std::alloc::{AllocError, Global};
 use std::sync::atomic::{AtomicU64, Ordering};
@@ -116,13 +116,13 @@ impl<T: Lend + Leave + Drop, W: Sink + Drop, H: HangUp + Drop> SharedPlayer<T, W
     }
 
     /// Takes the player out again, after at most one look of its writer, and says how its frames ended. Its tap is put back.
-    fn stop_playing(&self, rt: &impl Wait) -> FrameEnd {
+    fn stop_playing(&self, rt: &impl Wait) -> SentFrames {
         let Some(playing) = self.playing.lock(rt).take() else {
-            return FrameEnd::Stopped;
+            return SentFrames::none();
         };
-        let (end, tap) = playing.stop(rt);
+        let (sent, tap) = playing.stop(rt);
         *self.tap.lock(rt) = tap;
-        end
+        sent
     }
 
     /// Puts a tap in, which a frame thread or a writer will take from.
@@ -148,16 +148,17 @@ impl<T: Lend + Leave + Drop, W: Sink + Drop, H: HangUp + Drop> SharedPlayer<T, W
         rt: &R,
         alloc: Global,
         sending: &Sending,
-    ) -> FrameEnd {
+    ) -> SentFrames {
         let Sending {
             signal,
             seat,
             after_end,
             ..
         } = sending;
+        let mut handover = Handover::new();
         signal.pace.join(rt, *seat);
         let end = match &mut *self.tap.lock(rt) {
-            TapPlace::Attached(tap) => self.send_all(rt, alloc, tap, sending),
+            TapPlace::Attached(tap) => self.send_all(rt, alloc, tap, sending, &mut handover),
             _ => FrameEnd::Stopped,
         };
         signal.pace.leave(rt, *seat);
@@ -171,7 +172,7 @@ impl<T: Lend + Leave + Drop, W: Sink + Drop, H: HangUp + Drop> SharedPlayer<T, W
             FrameEnd::Stopped
         };
         self.phase.end(rt);
-        end
+        SentFrames { end, handover }
     }
 
     /// Hangs up where the frames ended by themselves, so that the thread that reads sees it. At the end of the mount the
@@ -189,14 +190,28 @@ impl<T: Lend + Leave + Drop, W: Sink + Drop, H: HangUp + Drop> SharedPlayer<T, W
         self.wire.hang_up();
     }
 
-    fn send_all(&self, rt: &impl Wait, alloc: Global, tap: &mut T, sending: &Sending) -> FrameEnd {
+    fn send_all(
+        &self,
+        rt: &impl Wait,
+        alloc: Global,
+        tap: &mut T,
+        sending: &Sending,
+        handover: &mut Handover,
+    ) -> FrameEnd {
         match Way::new(alloc, sending.is_direct, tap.packet_bytes()) {
-            Ok(mut way) => self.send_from(rt, tap, sending, &mut way),
+            Ok(mut way) => self.send_from(rt, tap, sending, &mut way, handover),
             Err(_) => FrameEnd::OutOfMemory,
         }
     }
 
-    fn send_from(&self, rt: &impl Wait, tap: &mut T, sending: &Sending, way: &mut Way) -> FrameEnd
+    fn send_from(
+        &self,
+        rt: &impl Wait,
+        tap: &mut T,
+        sending: &Sending,
+        way: &mut Way,
+        handover: &mut Handover,
+    ) -> FrameEnd
         requires { HasRoom way.old (T.packet_bytes tap.old) }
     {
         let signal: &MountSignal = &sending.signal;
@@ -208,16 +223,26 @@ impl<T: Lend + Leave + Drop, W: Sink + Drop, H: HangUp + Drop> SharedPlayer<T, W
             if !self.phase.is_running(rt) {
                 return FrameEnd::Stopped;
             }
-            let stop = self.writing.relay(rt, tap, &sending.channels, way);
-            let (cursor, lost) = (tap.cursor(), tap.account().lost);
+            let stop = self
+                .writing
+                .relay(rt, tap, &sending.channels, way, handover);
+            // All frames before the last batch were taken, and that batch too unless a write failed.
+            let stand = Stand {
+                cursor: tap.cursor(),
+                sent: handover.handed(0).sent,
+                lost: tap.account().lost,
+            };
             match stop {
-                OutStop::Done => signal.reach(rt, seat, cursor, lost, &mut known),
+                OutStop::Done => signal.reach(rt, seat, stand, &mut known),
                 OutStop::Empty => {
                     // Before it sleeps: the publisher opens a round before it wakes.
-                    signal.level(rt, seat, cursor, lost, &mut known);
+                    signal.level(rt, seat, stand, &mut known);
                     signal.sleep(rt, wakes);
                 }
-                OutStop::Ended => return FrameEnd::Ended,
+                OutStop::Ended => {
+                    signal.stand(seat, stand);
+                    return FrameEnd::Ended;
+                }
                 OutStop::WriteFailed => return FrameEnd::WriteFailed,
             }
         }
@@ -269,7 +294,7 @@ pub(crate) struct Sending {
 enum Sender {
     /// Nobody yet.
     Nobody,
-    Thread(JoinHandle<FrameEnd>),
+    Thread(JoinHandle<SentFrames>),
     /// The writer with which it has this place.
     Writer(Place),
 }
@@ -382,7 +407,7 @@ impl Frames {
         rt: &R,
         player: &SharedPlayer<T, W, H>,
         writers: Option<&Writers<T, W, H>>,
-    ) -> FrameEnd
+    ) -> SentFrames
     where
         R: Threads + Wait,
         T: Lend + Leave + Drop,

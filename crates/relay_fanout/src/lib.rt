@@ -3,7 +3,9 @@
 #![tactic(auto)]
 
 mod closing;
+mod counted;
 mod frames;
+mod gather;
 mod maker;
 mod mount_signal;
 mod offers;
@@ -24,13 +26,13 @@ mod writing_side;
 pub use closing::close_behind_text;
 pub use frames::{Frames, SharedPlayer};
 pub use maker::{Leave, Maker, RingMaker, Seat};
-pub use mount_signal::{MountSignal, low_half};
+pub use mount_signal::{MountSignal, PlayerFigures, low_half};
 pub use offers::{Busy, Offer, Offers};
 pub use phase::FramePhase;
-pub use playing::TapPlace;
+pub use playing::{SentFrames, TapPlace};
 pub use posting::Posting;
 pub use recording_mounts::RecordingMounts;
-pub use socket::{HangUp, Socket};
+pub use socket::{HangUp, Socket, Wire, set_send_buffer, stop_listening};
 pub use wake_signal::{WakeSignal, wake_players};
 pub use writers::{NoWriter, Writers};
 pub use writing_side::WritingSide;

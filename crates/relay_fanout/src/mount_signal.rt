@@ -6,12 +6,31 @@ use crate::tallies::Tallies;
 use crate::wake_signal::WakeSignal;
 use crate::writing_side::TAKES;
 use base_syntax::Items;
+use publisher::Fate;
 use relay_accounts::{MountTally, lost_so_far};
 use std::alloc::{AllocError, Global};
 use std::sync::atomic::{AtomicBool, AtomicU64, Ordering};
 use std::sync::{Arc, Mutex, Wait};
 use transport_header::{MOST_TRACKS, Point};
 use waking::{NO_MARKS, are_marks, next_word};
+
+/// Where a player stands: how many packets it was sent and told lost, and the number of the next one.
+#[derive(Clone, Copy, Drop)]
+pub(crate) struct Stand {
+    pub(crate) cursor: u64,
+    pub(crate) sent: u64,
+    pub(crate) lost: u64,
+}
+
+/// What a player has come to in its seat, in packets.
+#[derive(Clone, Copy, Debug, PartialEq, Eq, Drop)]
+pub struct PlayerFigures {
+    pub sent: u64,
+    /// How many it has lost at least.
+    pub lost: u64,
+    /// How many were published and not taken for it yet.
+    pub behind: u64,
+}
 
 /// What the publisher of a mount and its players share beside the ring: where each track stands, and the word that
 /// players sleep on while there is nothing to take.
@@ -105,48 +124,59 @@ impl MountSignal {
     /// A player is attached to its seat, at this cursor. The player before it has left.
     pub fn attached(&self, seat: usize, cursor: u64) {
         self.pace.stand(seat, cursor);
-        self.tallies.set_lost(seat, 0);
+        self.tallies.set_player(seat, 0, 0);
     }
 
-    /// A player has come to this cursor, was told so many packets lost, and may have more to take.
-    pub(crate) fn reach(
-        &self,
-        rt: &impl Wait,
-        seat: usize,
-        cursor: u64,
-        lost: u64,
-        known: &mut KnownLevel,
-    ) {
-        self.pace.reach(rt, seat, cursor, known);
-        self.tallies.set_lost(seat, lost);
+    /// A player stands so, and may have more to take.
+    pub(crate) fn reach(&self, rt: &impl Wait, seat: usize, stand: Stand, known: &mut KnownLevel) {
+        self.pace.reach(rt, seat, stand.cursor, known);
+        self.tallies.set_player(seat, stand.sent, stand.lost);
     }
 
-    /// A player had nothing more to take at this cursor, and was told so many packets lost.
-    pub(crate) fn level(
-        &self,
-        rt: &impl Wait,
-        seat: usize,
-        cursor: u64,
-        lost: u64,
-        known: &mut KnownLevel,
-    ) {
-        self.pace.level(rt, seat, cursor, known);
-        self.tallies.set_lost(seat, lost);
+    /// A player stands so, and had nothing more to take.
+    pub(crate) fn level(&self, rt: &impl Wait, seat: usize, stand: Stand, known: &mut KnownLevel) {
+        self.pace.level(rt, seat, stand.cursor, known);
+        self.tallies.set_player(seat, stand.sent, stand.lost);
     }
 
-    /// What became of the packets that were offered to the mount.
-    pub fn tally(&self) -> MountTally {
-        self.tallies.of_mount()
+    /// A player stands so, and nothing more comes.
+    pub(crate) fn stand(&self, seat: usize, stand: Stand) {
+        self.pace.stand(seat, stand.cursor);
+        self.tallies.set_player(seat, stand.sent, stand.lost);
     }
 
-    /// How many packets the player in a seat has lost so far at least, of a ring that keeps so many: those that it was told, and
-    /// those behind its cursor that aren't kept any more. Its next sixteen takes may have been made and not told yet.
-    pub fn lost(&self, seat: usize, keep: u64) -> u64 {
+    /// A frame with so many bytes of data came from the publisher at this moment, in milliseconds, and met this fate.
+    pub fn note(&self, rt: &impl Wait, fate: Fate, bytes: usize, now: u64) {
+        self.tallies.add(rt, fate, bytes, now);
+    }
+
+    /// The mount is recorded from this moment on.
+    pub fn begin(&self, rt: &impl Wait, now: u64) {
+        self.tallies.begin(rt, now);
+    }
+
+    /// What became of the frames that came to the mount.
+    pub fn tally(&self, rt: &impl Wait) -> MountTally {
+        self.tallies.of_mount(rt)
+    }
+
+    /// The moment of its last packet, or of its first RECORD where none came, in milliseconds.
+    pub fn last_packet(&self, rt: &impl Wait) -> u64 {
+        self.tallies.last(rt)
+    }
+
+    /// What the player in a seat has come to, of a ring that keeps so many packets. It has lost at least what it was told, and of
+    /// the packets behind its cursor those that aren't kept any more: its next sixteen takes may have been made and not told yet.
+    pub fn player(&self, rt: &impl Wait, seat: usize, keep: u64) -> PlayerFigures {
         // In this order, each before what is written first: none counts as lost twice.
-        let published = self.tally().packets;
+        let published = self.tally(rt).packets;
         let lost = self.tallies.lost(seat);
         let cursor = self.pace.cursor(seat);
-        lost_so_far(lost, cursor, published, keep.saturating_add(TAKES))
+        PlayerFigures {
+            sent: self.tallies.sent(seat),
+            lost: lost_so_far(lost, cursor, published, keep.saturating_add(TAKES)),
+            behind: published.saturating_sub(cursor),
+        }
     }
 
     /// No packet comes any more.

@@ -1,16 +1,15 @@
 //! A player whose frames a writer sends.
-ghost use Rattle.std.specs.Prelude.{◌≡◌, ◌≤◌, length};
-
+use crate::gather::{Line, gather};
 use crate::maker::Leave;
-use crate::mount_signal::MountSignal;
+use crate::mount_signal::{MountSignal, Stand};
 use crate::pace::KnownLevel;
 use crate::socket::HangUp;
-use crate::writing_side::{GATHERED, TAKES, WritingSide};
+use crate::writing_side::WritingSide;
 use cursor::{Left, Tap};
-use interleaved::{Gathering, TrySink};
+use interleaved::TrySink;
 use pacing::Patience;
-use player::{OutStop, relay_out};
-use relay_accounts::{FrameEnd, given_up};
+use player::OutStop;
+use relay_accounts::{FrameEnd, Handover};
 use std::alloc::Global;
 use std::mem;
 use std::sync::{Arc, Wait};
@@ -24,7 +23,7 @@ pub enum TapPlace<T> {
     /// Its frames are taken from it.
     Attached(T),
     /// Its mount has ended, and it was left with this account, so that nothing is kept of the mount's packets for a
-    /// player that stays. What it hadn't taken is lost.
+    /// player that stays.
     Left(Left),
 }
 
@@ -32,10 +31,28 @@ impl<T: Leave + Drop> TapPlace<T> {
     /// The tap is left for good, if it is here.
     pub(crate) fn leave(&mut self) {
         let left = match mem::replace(self, TapPlace::Nowhere) {
-            TapPlace::Attached(tap) => TapPlace::Left(given_up(tap.leave_for_good())),
+            TapPlace::Attached(tap) => TapPlace::Left(tap.leave_for_good()),
             other => other,
         };
         *self = left;
+    }
+}
+
+/// How a player's frames ended, and what its sender made of the packets that it took. The last of its frames may wait in the
+/// connection's buffer yet.
+#[derive(Drop)]
+pub struct SentFrames {
+    pub end: FrameEnd,
+    pub handover: Handover,
+}
+
+impl SentFrames {
+    /// No packet was taken.
+    pub(crate) fn none() -> SentFrames {
+        SentFrames {
+            end: FrameEnd::Stopped,
+            handover: Handover::new(),
+        }
     }
 }
 
@@ -45,6 +62,7 @@ pub(crate) struct Playing<T> {
     /// How many players its connection had before.
     number: u64,
     tap: TapPlace<T>,
+    handover: Handover,
     signal: Arc<MountSignal, Global>,
     seat: usize,
     channels: TrackChannels,
@@ -78,6 +96,7 @@ impl<T> Playing<T> {
         Playing {
             number,
             tap: TapPlace::Attached(tap),
+            handover: Handover::new(),
             signal,
             seat,
             channels,
@@ -98,13 +117,14 @@ impl<T> Playing<T> {
     }
 
     /// How its frames ended, and where the tap is: `Stopped` where they hadn't, or where the last of them weren't written.
-    pub(crate) fn stop(mut self, rt: &impl Wait) -> (FrameEnd, TapPlace<T>) {
+    pub(crate) fn stop(mut self, rt: &impl Wait) -> (SentFrames, TapPlace<T>) {
         self.leave_pace(rt);
         let end = match (self.end, &self.patience) {
             (None, _) | (Some(FrameEnd::Ended), Some(_)) => FrameEnd::Stopped,
             (Some(end), _) => end,
         };
-        (end, self.tap)
+        let Playing { tap, handover, .. } = self;
+        (SentFrames { end, handover }, tap)
     }
 
     /// No publisher waits for it any more.
@@ -196,7 +216,7 @@ impl<T: Tap + Leave + Drop> Playing<T> {
     fn take<W: TrySink + Drop>(
         &mut self,
         rt: &impl Wait,
-        sink: &mut Gathering<W>,
+        sink: &mut Line<W>,
         buf: &mut Vec<u8>,
         wakes: u64,
     ) -> Option<FrameEnd> {
@@ -206,24 +226,33 @@ impl<T: Tap + Leave + Drop> Playing<T> {
         if buf.len() < tap.packet_bytes() && buf.resize(tap.packet_bytes(), 0).is_err() {
             return Some(FrameEnd::OutOfMemory);
         }
-        let stop = gather(tap, sink, &self.channels, buf.as_mut_slice());
+        let stop = gather(
+            tap,
+            sink,
+            &self.channels,
+            buf.as_mut_slice(),
+            &mut self.handover,
+        );
         let (cursor, lost) = (tap.cursor(), tap.account().lost);
         if sink.try_flush().is_err() {
             return Some(FrameEnd::WriteFailed);
         }
+        let sent = self.handover.handed(sink.inner().taken()).sent;
+        let stand = Stand { cursor, sent, lost };
         match stop {
             OutStop::Done => {
-                self.signal
-                    .reach(rt, self.seat, cursor, lost, &mut self.known);
+                self.signal.reach(rt, self.seat, stand, &mut self.known);
                 self.attention.look_again();
             }
             OutStop::Empty => {
                 // Before the writer sleeps: the publisher opens a round before it wakes.
-                self.signal
-                    .level(rt, self.seat, cursor, lost, &mut self.known);
+                self.signal.level(rt, self.seat, stand, &mut self.known);
                 self.attention.found_empty(wakes);
             }
-            OutStop::Ended => return Some(FrameEnd::Ended),
+            OutStop::Ended => {
+                self.signal.stand(self.seat, stand);
+                return Some(FrameEnd::Ended);
+            }
             OutStop::WriteFailed => return Some(FrameEnd::WriteFailed),
         }
         None
@@ -303,26 +332,4 @@ impl<T: Tap + Leave + Drop> Playing<T> {
             }
         }
     }
-}
-
-/// Makes up to sixteen takes, fewer where that is as much as leaves in one write, and says why no more came. A frame has room
-/// after what is gathered, so none is written with waiting.
-fn gather<T: Tap, W: TrySink + Drop>(
-    tap: &mut T,
-    sink: &mut Gathering<W>,
-    channels: &TrackChannels,
-    buf: &mut [u8],
-) -> OutStop
-    requires { T.packet_bytes tap.old ≤ length buf.old }
-{
-    for _ in 0..TAKES {
-        if sink.len() >= GATHERED {
-            break;
-        }
-        match relay_out(tap, sink, channels, 1, buf).stop {
-            OutStop::Done => {}
-            stop => return stop,
-        }
-    }
-    OutStop::Done
 }

@@ -114,17 +114,6 @@ impl<R: Clock + Drop, F: Feed> Posting<R, F> {
     }
 }
 
-impl<R, F> Posting<R, F> {
-    /// Counts what became of a packet of so many bytes, for whoever reports it meanwhile.
-    fn count(&self, published: &Result<u64, Refused>, bytes: usize) {
-        match published {
-            Ok(_) => self.signal.tallies.add_packet(bytes),
-            Err(Refused::Pinned { .. }) => self.signal.tallies.add_pinned(),
-            Err(_) => {}
-        }
-    }
-}
-
 impl<R: Wait + Clock + Drop, F> Posting<R, F> {
     /// Wakes the players where one of those that keep up hasn't taken the last stretch, and waits for them where it is behind by
     /// most of what the ring keeps: the rest of a burst waits in the publisher's socket meanwhile, and not in the ring, which
@@ -170,6 +159,7 @@ impl<R: Wait + Clock + Drop, F> Posting<R, F> {
         let then = self.now().unwrap_or(now.saturating_add(most));
         self.allowance.spend(now, then);
         self.waited = self.waited.saturating_add(then.saturating_sub(now));
+        self.signal.tallies.set_slowed(&self.rt, self.waited / 1000);
         true
     }
 
@@ -206,9 +196,7 @@ impl<R: Wait + Clock + Drop, F: Feed> Feed for Posting<R, F> {
     ghost publish_gives = { PublishesAtLast F.publish_gives };
 
     fn publish(&mut self, tag: u8, bytes: &[u8]) -> Result<u64, Refused> {
-        let published = self.feed.publish(tag, bytes);
-        self.count(&published, bytes.len());
-        let number = published?;
+        let number = self.feed.publish(tag, bytes)?;
         if let Some((track, point)) = point_to_post(tag, bytes) {
             self.signal.post(&self.rt, track, point);
         }

@@ -1,66 +1,110 @@
 //! What a mount has come to, for whoever looks at it meanwhile.
+use publisher::Fate;
 use relay_accounts::MountTally;
 use std::alloc::{AllocError, Global};
 use std::sync::atomic::{AtomicU64, Ordering};
+use std::sync::{Mutex, Wait};
 
 /// What a mount's publisher and the players in its seats have come to.
 ///
-/// Each number is written by one thread at a time. Any thread may read them, each by itself.
-#[derive(Drop)]
+/// The lock is held for a look or a change, and no other is taken meanwhile. Each number of a player is written by one thread at a
+/// time, and any thread may read it, by itself.
 pub(crate) struct Tallies {
-    packets: AtomicU64,
-    bytes: AtomicU64,
-    pinned: AtomicU64,
-    /// How many packets the player in each seat was told lost.
-    lost: Vec<AtomicU64>,
+    came: Mutex<Came>,
+    players: Vec<PlayerTally>,
+}
+
+impl Drop for Tallies {
+    fn drop(self) {
+        let Tallies {
+            came: _,
+            players: _,
+        } = self;
+    }
+}
+
+/// What came to a mount, and when its last packet did, in milliseconds of the server's clock.
+#[derive(Clone, Copy, Drop)]
+struct Came {
+    tally: MountTally,
+    last: u64,
+}
+
+/// What the player in a seat was sent and lost.
+#[derive(Drop)]
+struct PlayerTally {
+    sent: AtomicU64,
+    lost: AtomicU64,
 }
 
 impl Tallies {
     /// Of a mount with so many seats to which nothing came.
     pub(crate) fn new(alloc: Global, seats: usize) -> Result<Tallies, AllocError> {
-        let mut lost = Vec::with_capacity(alloc, seats)?;
+        let mut players = Vec::with_capacity(alloc, seats)?;
         for _ in 0..seats {
-            lost.push(AtomicU64::new(0))?;
+            players.push(PlayerTally {
+                sent: AtomicU64::new(0),
+                lost: AtomicU64::new(0),
+            })?;
         }
         Ok(Tallies {
-            packets: AtomicU64::new(0),
-            bytes: AtomicU64::new(0),
-            pinned: AtomicU64::new(0),
-            lost,
+            came: Mutex::new(Came {
+                tally: MountTally::new(),
+                last: 0,
+            }),
+            players,
         })
     }
 
-    /// A packet of so many bytes was published.
-    pub(crate) fn add_packet(&self, bytes: usize) {
-        self.bytes.fetch_add(bytes as u64, Ordering::SeqCst);
-        self.packets.fetch_add(1, Ordering::SeqCst);
-    }
-
-    /// A packet was refused, since a player was just copying what it would have replaced.
-    pub(crate) fn add_pinned(&self) {
-        self.pinned.fetch_add(1, Ordering::SeqCst);
-    }
-
-    /// The player in a seat was told so many packets lost in all.
-    pub(crate) fn set_lost(&self, seat: usize, lost: u64) {
-        if let Some(place) = self.lost.get(seat) {
-            place.store(lost, Ordering::SeqCst);
+    /// A frame with so many bytes of data came at this moment and met this fate.
+    pub(crate) fn add(&self, rt: &impl Wait, fate: Fate, bytes: usize, now: u64) {
+        let mut came = self.came.lock(rt);
+        came.tally.add(fate, bytes as u64);
+        if let Fate::Published { .. } = fate {
+            came.last = now;
         }
     }
 
-    /// What the publisher has come to.
-    pub(crate) fn of_mount(&self) -> MountTally {
-        MountTally {
-            packets: self.packets.load(Ordering::SeqCst),
-            bytes: self.bytes.load(Ordering::SeqCst),
-            pinned: self.pinned.load(Ordering::SeqCst),
+    /// The mount is recorded from this moment on.
+    pub(crate) fn begin(&self, rt: &impl Wait, now: u64) {
+        self.came.lock(rt).last = now;
+    }
+
+    /// Packets have waited for players for so many milliseconds in all.
+    pub(crate) fn set_slowed(&self, rt: &impl Wait, milliseconds: u64) {
+        self.came.lock(rt).tally.slowed = milliseconds;
+    }
+
+    /// What became of the frames that came to the mount.
+    pub(crate) fn of_mount(&self, rt: &impl Wait) -> MountTally {
+        self.came.lock(rt).tally
+    }
+
+    /// The moment of its last packet, or of its first RECORD where none came.
+    pub(crate) fn last(&self, rt: &impl Wait) -> u64 {
+        self.came.lock(rt).last
+    }
+
+    /// The player in a seat was sent so many packets, and told so many lost, in all.
+    pub(crate) fn set_player(&self, seat: usize, sent: u64, lost: u64) {
+        if let Some(player) = self.players.get(seat) {
+            player.sent.store(sent, Ordering::SeqCst);
+            player.lost.store(lost, Ordering::SeqCst);
+        }
+    }
+
+    /// How many packets the player in a seat was sent.
+    pub(crate) fn sent(&self, seat: usize) -> u64 {
+        match self.players.get(seat) {
+            Some(player) => player.sent.load(Ordering::SeqCst),
+            None => 0,
         }
     }
 
     /// How many packets the player in a seat was told lost.
     pub(crate) fn lost(&self, seat: usize) -> u64 {
-        match self.lost.get(seat) {
-            Some(place) => place.load(Ordering::SeqCst),
+        match self.players.get(seat) {
+            Some(player) => player.lost.load(Ordering::SeqCst),
             None => 0,
         }
     }

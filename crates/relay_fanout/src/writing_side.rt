@@ -2,11 +2,14 @@
 ghost use Rattle.std.specs.Prelude.{◌≡◌};
 ghost use Rattle.relay_fanout.specs.Ways.{HasRoom};
 
+use crate::counted::Counted;
+use crate::gather::{Line, gather, gather_held};
 use crate::socket::HangUp;
 use crate::way::Way;
 use cursor::Lend;
 use interleaved::{FRAME_HEAD, Failed, Gathering, Sink, write_all};
-use player::{OutStop, relay_out, relay_out_held};
+use player::OutStop;
+use relay_accounts::Handover;
 use std::alloc::Global;
 use std::sync::atomic::{AtomicBool, Ordering};
 use std::sync::{Mutex, MutexGuard, Wait};
@@ -26,7 +29,7 @@ pub(crate) const TAKES: u64 = 16;
 /// the mark afterwards.
 #[derive(Drop)]
 pub struct WritingSide<W: Sink> {
-    sink: Mutex<Gathering<W>>,
+    sink: Mutex<Line<W>>,
     gathers: bool,
     skipped: AtomicBool,
 }
@@ -40,7 +43,7 @@ impl<W: Sink + Drop> WritingSide<W> {
             Err(_) => (Vec::new(alloc), false),
         };
         WritingSide {
-            sink: Mutex::new(Gathering::new(sink, buffer)),
+            sink: Mutex::new(Gathering::new(Counted::new(sink), buffer)),
             gathers,
             skipped: AtomicBool::new(false),
         }
@@ -52,7 +55,7 @@ impl<W: Sink + Drop> WritingSide<W> {
     }
 
     /// The sink, where nobody has it. `None` marks it: who has the sink tells the writers when it gives it back.
-    pub(crate) fn try_hold(&self) -> Option<MutexGuard<'_, Gathering<W>>> {
+    pub(crate) fn try_hold(&self) -> Option<MutexGuard<'_, Line<W>>> {
         if let Some(sink) = self.sink.try_lock() {
             return Some(sink);
         }
@@ -76,6 +79,11 @@ impl<W: Sink + Drop> WritingSide<W> {
         sink.flush()
     }
 
+    /// How many bytes the socket has taken.
+    pub fn taken(&self, rt: &impl Wait) -> u64 {
+        self.sink.lock(rt).inner().taken()
+    }
+
     /// Tells the peer the end of its stream, after what is being written.
     pub(crate) fn close_writes(&self, rt: &impl Wait, wire: &impl HangUp) {
         let _sink = self.sink.lock(rt);
@@ -89,18 +97,22 @@ impl<W: Sink + Drop> WritingSide<W> {
         tap: &mut T,
         channels: &TrackChannels,
         way: &mut Way,
+        handover: &mut Handover,
     ) -> OutStop
         requires { HasRoom way.old (T.packet_bytes tap.old) }
         ensures same { T.packet_bytes tap.new ≡ T.packet_bytes tap.old }
         ensures room { HasRoom way.new (T.packet_bytes tap.new) }
     {
         let mut sink = self.sink.lock(rt);
-        let report = match way {
-            Way::Copied(buf) => { relay_out(tap, &mut *sink, channels, TAKES, buf.as_mut_slice()) }
-            Way::Direct => relay_out_held(tap, &mut *sink, channels, TAKES),
+        let stop = match way {
+            Way::Copied(buf) => gather(tap, &mut *sink, channels, buf.as_mut_slice(), handover),
+            Way::Direct => gather_held(tap, &mut *sink, channels, handover),
         };
         match sink.flush() {
-            Ok(()) => report.stop,
+            Ok(()) => {
+                handover.pass();
+                stop
+            }
             Err(_) => OutStop::WriteFailed,
         }
     }

@@ -24,7 +24,7 @@ fn main(rt: HostRuntime) -> anyhow::Result<ExitCode> {
     match read_words(alloc, words.as_slice()) {
         Ok(Asked::Talk(text)) => talk_on_standard_streams(&rt, text.as_deref()),
         Ok(Asked::Steps(stopped)) => steps_on_standard_streams(&rt, stopped),
-        Ok(Asked::Serve(addr, settings)) => match serve(rt, alloc, &addr, settings) {
+        Ok(Asked::Serve(addr, settings)) => match serve(rt, alloc, &addr, settings, rt.stdin()) {
             Ok(()) => Ok(exit_code(0)),
             Err(line) => Ok(fails(&rt, FAILED, line)),
         },

@@ -6,15 +6,18 @@ ghost use Rattle.relay_main.specs.Served.{milliseconds_of, told_to};
 use log::{Log, warn};
 use rand::make_rng;
 use rand::rngs::StdRng;
-use relay_command::Settings;
-use relay_server::{ClockMoments, OpenGate, Options, RingMaker, run_server, shared_book};
+use relay_command::{SendBuffer, Settings};
+use relay_server::{
+    ClockMoments, OpenGate, Options, RingMaker, Stopping, run_server, set_send_buffer, shared_book,
+    stop_listening,
+};
 use relay_talk::{DrawnWords, NoWords};
-use std::alloc::Global;
+use std::alloc::{AllocError, Global};
 use std::collections::hash_map::RandomState;
-use std::io::Eprint;
+use std::io::{Eprint, ErrorKind, Read};
 use std::net::{Net, TcpListener, TcpStream};
 use std::random::RandomSource;
-use std::sync::Wait;
+use std::sync::{Arc, Wait};
 use std::thread::Threads;
 use std::time::Clock;
 use std::{io, thread};
@@ -74,9 +77,93 @@ fn in_milliseconds(seconds: Option<u64>) -> Option<u64>
     }
 }
 
-/// Listens and serves. Answers the line that tells why it can't go on.
-pub fn serve<R>(rt: R, alloc: Global, addr: &str, settings: Settings) -> Result<(), &'static str>
+/// The send buffer of a connection where no other is asked for, in bytes: a burst of a camera's key frame fits in it.
+const SEND_BUFFER: u32 = 524_288;
+
+/// Bounds the send buffer of each connection that the listener accepts. The default is set where the system grants all of it: of
+/// less a burst loses more than of what the system does by itself. Tells how many bytes the system grants, where these are fewer.
+fn bound_send_buffers<R>(rt: &R, listener: &TcpListener, buffer: SendBuffer) -> Option<u32>
 where
+    R: Net<Listener = TcpListener, Stream = TcpStream>,
+{
+    match buffer {
+        SendBuffer::System => None,
+        SendBuffer::Bytes(bytes) => fewer_than(listener, bytes),
+        SendBuffer::Default => {
+            // Of another listener, since what was set once isn't taken back.
+            let Ok(other) = TcpListener::bind(rt, "127.0.0.1:0") else {
+                return fewer_than(listener, SEND_BUFFER);
+            };
+            match fewer_than(&other, SEND_BUFFER) {
+                Some(granted) => Some(granted),
+                None => fewer_than(listener, SEND_BUFFER),
+            }
+        }
+    }
+}
+
+/// Sets a listener's send buffer. How many bytes the system grants, where these are fewer.
+fn fewer_than(listener: &TcpListener, bytes: u32) -> Option<u32> {
+    let granted = set_send_buffer(listener, bytes).unwrap_or(0);
+    (granted < bytes).then_some(granted)
+}
+
+/// Warns that send buffers aren't what was asked for, or aren't bounded.
+fn warn_of_buffers<R: Log>(rt: &R, buffer: SendBuffer, granted: u32) {
+    match buffer {
+        SendBuffer::System => {}
+        SendBuffer::Bytes(bytes) => {
+            warn!(rt; "send buffers have {granted} bytes, fewer than the {bytes} asked for: net.core.wmem_max is too small")
+        }
+        SendBuffer::Default => {
+            warn!(rt; "send buffers are the system's own, since it grants {granted} bytes, fewer than {SEND_BUFFER}: net.core.wmem_max is too small")
+        }
+    }
+}
+
+/// Starts a thread that reads this input to its end, and then has the server stop.
+fn stop_at_end<R, I>(
+    rt: R,
+    input: I,
+    listener: &Arc<TcpListener, Global>,
+    stopping: &Arc<Stopping, Global>,
+) -> Result<(), AllocError>
+where
+    R: Threads + Copy + Send + 'static,
+    I: Read + Drop + Send + 'static,
+{
+    let listener = Arc::try_clone(listener)?;
+    let stopping = Arc::try_clone(stopping)?;
+    thread::spawn(&rt, move || {
+        read_to_end(input);
+        stopping.stop();
+        stop_listening(&listener);
+    })?;
+    Ok(())
+}
+
+/// Reads until nothing more comes.
+fn read_to_end<I: Read + Drop>(mut input: I) {
+    let mut buf = [0; 1024];
+    for _ in 0..u64::MAX {
+        match input.read(&mut buf) {
+            Ok(count) if count > 0 => {}
+            Err(error) if error.kind() == ErrorKind::Interrupted => {}
+            _ => return,
+        }
+    }
+}
+
+/// Listens and serves, if the settings say so until the end of an input. Answers the line that tells why it can't go on.
+pub fn serve<R, I>(
+    rt: R,
+    alloc: Global,
+    addr: &str,
+    settings: Settings,
+    input: I,
+) -> Result<(), &'static str>
+where
+    I: Read + Drop + Send + 'static,
     R: Threads
         + Wait
         + Clock
@@ -97,6 +184,16 @@ where
             return Err(CANNOT_LISTEN);
         }
     };
+    let Ok(listener) = Arc::new(alloc, listener) else {
+        return Err(OUT_OF_MEMORY);
+    };
+    let granted = bound_send_buffers(&rt, &listener, settings.send_buffer);
+    let Ok(stopping) = Arc::new(alloc, Stopping::new()) else {
+        return Err(OUT_OF_MEMORY);
+    };
+    if settings.until_eof && stop_at_end(rt, input, &listener, &stopping).is_err() {
+        return Err(OUT_OF_MEMORY);
+    }
     let Ok(hasher) = RandomState::new(&rt) else {
         return Err(NoWords::NoRandomSource.line());
     };
@@ -112,16 +209,20 @@ where
     if let Ok(bound) = listener.local_addr() {
         let _ = eprintln!(rt; "relay: listening on {bound}");
     }
+    if let Some(granted) = granted {
+        warn_of_buffers(&rt, settings.send_buffer, granted);
+    }
     match run_server(
         rt,
         alloc,
-        &listener,
+        &*listener,
         options,
         maker,
         book,
         DrawnWords(rng),
         OpenGate,
         ClockMoments::new(rt),
+        stopping,
     ) {
         Ok(()) => Ok(()),
         Err(_) => Err(OUT_OF_MEMORY),

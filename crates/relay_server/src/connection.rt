@@ -6,17 +6,20 @@ mod incoming;
 mod session_snapshot;
 
 use crate::events::Events;
+use crate::frame_notes::Publishing;
 use crate::gate::Gate;
-use crate::heard_feed::HeardFeed;
 use crate::hearing::{Hearing, Watch};
 use crate::shared::Shared;
+use cursor::Left;
 use interleaved::{Sink, Source};
 use publisher::InStop;
-use relay_accounts::{ConnectionEnd, Counts, Outcome, Part, end_of, status_of};
+use relay_accounts::{
+    ConnectionEnd, Counts, Handover, Outcome, Part, end_by_reset, end_of, status_of,
+};
 use relay_fanout::{
     Frames, HangUp, Maker, Posting, SharedPlayer, Writers, WritingSide, close_behind_text,
 };
-use rtsp_message::{Intake, Request, Status};
+use rtsp_message::{Intake, Reply, Request, Status};
 use session_snapshot::SessionSnapshot;
 use session_state::{Act, Method, Moments, Words, read_method};
 use std::alloc::Global;
@@ -39,12 +42,18 @@ pub(crate) struct Connection<R, M: Maker, V, G, W: Sink, H, N> {
     session: Option<SessionSnapshot>,
     /// Its part in the mount of its last session.
     part: Option<Part>,
+    /// Whether that session's account isn't told yet.
+    has_account: bool,
+    /// Whether that session expired while it played.
+    is_stranded: bool,
     /// From an accepted ANNOUNCE to the mount's end.
-    publishing: Option<HeardFeed<Posting<R, M::In>>>,
+    publishing: Option<Publishing<R, Posting<R, M::In>>>,
     /// The number of its mount, from the first RECORD on.
     mount: Option<u64>,
     /// From a PLAY that took a seat until the seat is given back.
     frames: Option<Frames>,
+    /// The seat that was left, while frames of it wait for the socket.
+    left: Option<LeftSeat>,
     /// Whether the last packet of the mount was written, and the peer told the end for that.
     is_over: bool,
     /// Whether the last request ended the session.
@@ -67,9 +76,12 @@ impl<R: Drop, M: Maker + Drop, V: Drop, G: Drop, W: Sink + Drop, H: Drop, N: Dro
             turns: _,
             session: _,
             part: _,
+            has_account: _,
+            is_stranded: _,
             publishing: _,
             mount: _,
             frames: _,
+            left: _,
             is_over: _,
             torn_down: _,
             counts: _,
@@ -101,9 +113,12 @@ impl<R, M: Maker, V, G, W: Sink, H, N> Connection<R, M, V, G, W, H, N> {
             turns: 0,
             session: None,
             part: None,
+            has_account: false,
+            is_stranded: false,
             publishing: None,
             mount: None,
             frames: None,
+            left: None,
             is_over: false,
             torn_down: false,
             counts: Counts::new(),
@@ -111,6 +126,14 @@ impl<R, M: Maker, V, G, W: Sink, H, N> Connection<R, M, V, G, W, H, N> {
             hearing,
         }
     }
+}
+
+/// A seat that was left, with its account and what was made of the packets that were taken from it.
+#[derive(Drop)]
+struct LeftSeat {
+    seat: usize,
+    left: Left,
+    handover: Handover,
 }
 
 /// Where a connection's replies and frames go: its writing side, what ends it, and the writers that send its frames, or `None` where a
@@ -159,6 +182,7 @@ where
             return Outcome {
                 end: ConnectionEnd::OutOfMemory,
                 counts: Counts::new(),
+                has_account: false,
                 part: None,
             };
         }
@@ -168,6 +192,7 @@ where
     Outcome {
         end,
         counts: connection.counts,
+        has_account: connection.has_account,
         part: connection.part.take(),
     }
 }
@@ -250,22 +275,44 @@ where
         }
     }
 
-    /// Answers a request, and does what the answer asks for.
+    /// Answers a request, and does what the answer asks for. A player whose session expired while it played is told so by 454,
+    /// and its connection ends: it would wait for frames for good.
     fn answer(&mut self, request: &Request) -> Result<(), ConnectionEnd> {
         self.torn_down = false;
         let now = self.hearing.now();
         self.expire(now)?;
         self.hearing.watch().heard.note();
-        match self.ask(request, now) {
-            Ok((answer, feed)) => {
-                self.torn_down = answer.reply.status == Status::Ok
-                    && read_method(request.method.as_slice()) == Some(Method::Teardown);
-                if answer.act == Act::Open {
-                    self.events.announced(self.alloc, request, &self.counts);
-                }
-                self.carry_out(answer, feed)
+        let status = match self.ask(request, now) {
+            Ok((answer, publishing)) => {
+                let status = answer.reply.status;
+                self.note_answer(request, answer.act, &answer.reply);
+                self.carry_out(answer, publishing)?;
+                status
             }
-            Err(_) => self.write_plain(Status::ServiceUnavailable, request.cseq),
+            Err(_) => {
+                self.events
+                    .refused(&self.rt, self.alloc, request, Status::ServiceUnavailable);
+                self.write_plain(Status::ServiceUnavailable, request.cseq)?;
+                Status::ServiceUnavailable
+            }
+        };
+        if self.is_stranded && status == Status::SessionNotFound {
+            return Err(ConnectionEnd::Expired);
+        }
+        Ok(())
+    }
+
+    /// Notes what an answer says of the connection, and tells of what it refuses.
+    fn note_answer(&mut self, request: &Request, act: Act, reply: &Reply) {
+        self.torn_down = reply.status == Status::Ok
+            && read_method(request.method.as_slice()) == Some(Method::Teardown);
+        if act == Act::Open {
+            self.events
+                .announced(&self.rt, self.alloc, request, &self.counts);
+        }
+        if reply.status != Status::Ok {
+            self.events
+                .refused(&self.rt, self.alloc, request, reply.status);
         }
     }
 
@@ -289,16 +336,19 @@ where
     /// a last text the peer is given a moment to read it.
     fn hang_up<S: Source>(&mut self, end: ConnectionEnd, source: &mut S) -> ConnectionEnd {
         let act = self.shared.book.lock(&self.rt).hangup(self.conn);
-        let has_last_text = matches!(
-            end,
-            ConnectionEnd::StreamFault(_) | ConnectionEnd::OutOfMemory
-        );
+        let has_last_text = self.is_stranded && end == ConnectionEnd::Expired
+            || matches!(
+                end,
+                ConnectionEnd::StreamFault(_) | ConnectionEnd::OutOfMemory
+            );
+        let was_sent_frames = self.frames.is_some();
         self.player.phase.stop(&self.rt);
         // A frame thread may wait for a peer that reads nothing; a writer waits for nobody, and mustn't find it hung up.
         if !has_last_text && self.has_frame_thread() {
             self.player.wire.hang_up();
         }
         let sent = self.detach();
+        self.settle_seat();
         if !has_last_text {
             self.player.wire.hang_up();
         }
@@ -310,7 +360,8 @@ where
             self.hearing.watch().close();
             close_behind_text(&self.player.wire, source, LAST_READS, AFTER_TEXT);
         }
-        end_of(end, sent, self.is_over)
+        let was_reset = was_sent_frames && self.player.wire.was_reset();
+        end_by_reset(end_of(end, sent, self.is_over), was_reset)
     }
 }
 

@@ -1,25 +1,29 @@
 //! Lines that tell of mounts and players as they come and go.
 use crate::lines::Lines;
-use crate::reports::{ReportedSeat, Reports};
+use crate::published::PublishedMounts;
+use crate::refusing::Refusing;
+use crate::reports::{ReportedMount, ReportedSeat, Reports};
 use base_syntax::Bytes;
-use cursor::Left;
-use log::info;
+use log::{Log, info};
 use mounts::{Uri, read_uri};
-use relay_accounts::{Counts, Part};
+use relay_accounts::{Counts, LineRate, Part, SeatAccount};
 use relay_fanout::MountSignal;
-use rtsp_message::Request;
-use std::alloc::Global;
+use rtsp_message::{Request, Status};
+use status::PlayerTold;
+use std::alloc::{AllocError, Global};
 use std::net::SocketAddr;
 use std::sync::{Arc, Wait};
 use std::time::{Clock, Instant};
 
-/// What a connection tells of the mount that it announced and of the seat that it plays from: a line for each as they come and
-/// go, and what reports tell of them while they go on. What there is no memory for counts as a dropped line.
+/// What a connection tells of the mount that it announced, of the seat that it plays from, of its sessions' accounts and of its
+/// requests that are refused. What there is no memory for counts as a dropped line.
 pub struct Events<R> {
     /// `None` where nothing is told.
     teller: Option<Teller<R>>,
-    /// The mount that it has announced, until that ends.
+    /// The mount that it has announced, until that ends, where lines tell of it.
     mount: Option<Announced>,
+    /// How many accounts of its sessions were told in a second.
+    accounts: LineRate,
 }
 
 impl<R: Drop> Drop for Events<R> {
@@ -27,19 +31,22 @@ impl<R: Drop> Drop for Events<R> {
         let Events {
             teller: _,
             mount: _,
+            accounts: _,
         } = self;
     }
 }
 
 /// Whom lines tell of, and where they go.
-struct Teller<R> {
-    lines: Arc<Lines<R>, Global>,
-    peer: SocketAddr,
-    conn: u64,
-    /// Whether a line tells of each mount and each player as they come and go.
-    is_verbose: bool,
-    /// What is told of them while they go on. `None` for nothing.
-    reports: Option<Arc<Reports, Global>>,
+pub(crate) struct Teller<R> {
+    pub(crate) lines: Arc<Lines<R>, Global>,
+    pub(crate) peer: SocketAddr,
+    pub(crate) conn: u64,
+    /// Whether a line tells of each mount, each player, each session's account and each refusal.
+    pub(crate) is_verbose: bool,
+    /// What is told of mounts and players while they go on. `None` for nothing.
+    pub(crate) reports: Option<Arc<Reports, Global>>,
+    pub(crate) published: Arc<PublishedMounts, Global>,
+    pub(crate) refusing: Arc<Refusing, Global>,
 }
 
 impl<R: Drop> Drop for Teller<R> {
@@ -50,6 +57,8 @@ impl<R: Drop> Drop for Teller<R> {
             conn: _,
             is_verbose: _,
             reports: _,
+            published: _,
+            refusing: _,
         } = self;
     }
 }
@@ -70,33 +79,39 @@ impl<R> Events<R> {
         Events {
             teller: None,
             mount: None,
+            accounts: LineRate::new(),
         }
     }
 
-    /// What the connection of this number and peer tells in these lines and reports; nothing where neither is asked for.
-    pub fn new(
+    /// What a connection tells.
+    pub(crate) fn new(teller: Teller<R>) -> Events<R> {
+        Events {
+            teller: Some(teller),
+            mount: None,
+            accounts: LineRate::new(),
+        }
+    }
+
+    /// All that a connection tells, in these lines, of a server that has no other.
+    pub fn alone(
+        clock: &impl Clock,
+        alloc: Global,
         lines: &Arc<Lines<R>, Global>,
         peer: SocketAddr,
         conn: u64,
-        is_verbose: bool,
-        reports: Option<Arc<Reports, Global>>,
-    ) -> Events<R> {
-        if !is_verbose && reports.is_none() {
-            return Events::none();
-        }
-        match Arc::try_clone(lines) {
-            Ok(lines) => Events {
-                teller: Some(Teller {
-                    lines,
-                    peer,
-                    conn,
-                    is_verbose,
-                    reports,
-                }),
-                mount: None,
-            },
-            Err(_) => Events::none(),
-        }
+    ) -> Result<Events<R>, AllocError>
+    where
+        R: Drop,
+    {
+        Ok(Events::new(Teller {
+            lines: Arc::try_clone(lines)?,
+            peer,
+            conn,
+            is_verbose: true,
+            reports: None,
+            published: Arc::new(alloc, PublishedMounts::new(alloc)?)?,
+            refusing: Arc::new(alloc, Refusing::new(clock, alloc)?)?,
+        }))
     }
 
     /// Where lines tell of what comes and goes.
@@ -107,15 +122,19 @@ impl<R> Events<R> {
 
 impl<R: Wait + Clock> Events<R> {
     /// An ANNOUNCE of the connection was accepted, when it had these counts.
-    pub(crate) fn announced(&mut self, alloc: Global, request: &Request, counts: &Counts) {
-        let Some(teller) = self.verbose() else {
+    pub(crate) fn announced(&mut self, rt: &R, alloc: Global, request: &Request, counts: &Counts) {
+        let Some(teller) = &self.teller else {
             return;
         };
-        let Some(name) = name_in(alloc, request) else {
+        let Some(name) = path_in(alloc, request) else {
             teller.lines.miss();
             return;
         };
         let peer = teller.peer;
+        teller.published.add(rt, teller.conn, name.as_slice(), peer);
+        if !teller.is_verbose {
+            return;
+        }
         let tracks = tracks_in(request);
         let plural = if tracks == 1 { "" } else { "s" };
         info!(teller.lines; "{peer}: mount {} is announced, {tracks} track{plural}", name.as_slice().escape_ascii());
@@ -124,6 +143,55 @@ impl<R: Wait + Clock> Events<R> {
             recorded: None,
             earlier: *counts,
         });
+    }
+
+    /// A request was refused with this status. It is counted by mount and status, of which a line is told once in a while.
+    pub(crate) fn refused(&self, rt: &R, alloc: Global, request: &Request, status: Status) {
+        let Some(teller) = &self.teller else {
+            return;
+        };
+        let peer = teller.peer;
+        let path = path_in(alloc, request);
+        let found = match &path {
+            Some(path) => teller.published.find(rt, path.as_slice()),
+            None => None,
+        };
+        if is_counted(status) {
+            let name = found.as_ref().map(|mount| mount.name.as_slice());
+            teller.refusing.count_request(rt, name, status, peer);
+        }
+        if !teller.is_verbose {
+            return;
+        }
+        let code = status.code();
+        let method = told(request.method.as_slice()).escape_ascii();
+        match (&found, &path) {
+            (Some(mount), _) => {
+                let publisher = mount.peer;
+                info!(teller.lines; "{peer}: {method} of {} refused {code}, published by {publisher}", mount.name.as_slice().escape_ascii())
+            }
+            (None, Some(path)) => {
+                info!(teller.lines; "{peer}: {method} of {} refused {code}", told(path.as_slice()).escape_ascii())
+            }
+            (None, None) => {
+                info!(teller.lines; "{peer}: {method} of {} refused {code}", told(request.uri.as_slice()).escape_ascii())
+            }
+        }
+    }
+
+    /// A session of the connection has ended, which had this part in its mount: its account. One of more than ten in a second is
+    /// counted instead, unless each is to be told.
+    pub(crate) fn account(&mut self, rt: &R, part: Option<&Part>, counts: &Counts) {
+        let Some(teller) = &self.teller else {
+            return;
+        };
+        let is_verbose = teller.is_verbose;
+        if !is_verbose && !has_to_be_told(counts) {
+            return;
+        }
+        if is_verbose || teller.refusing.may_tell_account(rt, &mut self.accounts) {
+            tell_account(&*teller.lines, teller.peer, part, counts);
+        }
     }
 
     /// Its mount of this number, in which it has this part, is recorded for the first time.
@@ -153,6 +221,7 @@ impl<R: Wait + Clock> Events<R> {
         let Some(teller) = &self.teller else {
             return;
         };
+        teller.published.remove(rt, teller.conn);
         if let Some(reports) = &teller.reports {
             reports.mount_ends(rt, teller.conn);
         }
@@ -207,26 +276,69 @@ impl<R: Wait + Clock> Events<R> {
         }
     }
 
-    /// The connection leaves this seat with this account, of a ring that keeps so many packets.
-    pub(crate) fn leaves(&self, rt: &R, part: &Option<Part>, seat: usize, left: &Left, keep: u64) {
+    /// The connection gives up its seat: reports tell of it no more but for what it has lost by now.
+    pub(crate) fn gives_up_seat(&self, rt: &R, account: &SeatAccount) {
+        let Some(teller) = &self.teller else {
+            return;
+        };
+        if let Some(reports) = &teller.reports {
+            let told = PlayerTold {
+                sent: account.sent,
+                lost: account.lost,
+            };
+            reports.player_leaves(rt, teller.conn, told);
+        }
+    }
+
+    /// The connection has left this seat with this account.
+    pub(crate) fn leaves(&self, part: &Option<Part>, seat: usize, account: &SeatAccount) {
         let Some(teller) = &self.teller else {
             return;
         };
         let peer = teller.peer;
-        let mut counts = Counts::new();
-        counts.add_out(left, keep);
-        let Counts { taken, lost, .. } = counts;
-        if let Some(reports) = &teller.reports {
-            reports.player_leaves(rt, teller.conn, lost);
-        }
         match part {
             Some(part) if teller.is_verbose => {
-                info!(teller.lines; "{peer}: leaves seat {seat} of {}: sent {taken}, lost {lost}", part.name.as_slice().escape_ascii())
+                info!(teller.lines; "{peer}: leaves seat {seat} of {}: {account}", part.name.as_slice().escape_ascii())
             }
             Some(_) => {}
             None => teller.lines.miss(),
         }
     }
+}
+
+/// Whether an account is told unasked: packets were lost or refused, or waited for players.
+pub(crate) fn has_to_be_told(counts: &Counts) -> bool {
+    counts.has_losses() || counts.slowed > 0
+}
+
+/// A line with a connection's part in a mount and what its packets came to there.
+pub(crate) fn tell_account<R: Log>(rt: &R, peer: SocketAddr, part: Option<&Part>, counts: &Counts) {
+    match part {
+        Some(part) => info!(rt; "{peer}: {part}: {counts}"),
+        None => info!(rt; "{peer}: {counts}"),
+    }
+}
+
+/// What is told of a text that a peer chose: as much of it as a mount's name may have.
+fn told(text: &[u8]) -> &[u8] {
+    let length = text.len().min(LONGEST_NAME);
+    if length == 0 { b"-" } else { &text[..length] }
+}
+
+/// How many bytes a mount's name has at most.
+const LONGEST_NAME: usize = 128;
+
+/// Whether requests that are refused so are counted by mount, and told of without `--verbose`: a name that another has, no
+/// seat, no place for a mount, a name that no mount has, and a transport that isn't interleaved.
+fn is_counted(status: Status) -> bool {
+    matches!(
+        status,
+        Status::Forbidden
+            | Status::NotEnoughBandwidth
+            | Status::ServiceUnavailable
+            | Status::NotFound
+            | Status::UnsupportedTransport
+    )
 }
 
 impl<R: Wait> Teller<R> {
@@ -243,10 +355,13 @@ impl<R: Wait> Teller<R> {
             return;
         };
         let is_told = part.as_ref().is_some_and(|part| {
-            let name = part.name.as_slice();
-            reports
-                .mount_begins(rt, alloc, self.conn, mount, name, signal)
-                .is_ok()
+            let mount = ReportedMount {
+                number: mount,
+                name: part.name.as_slice(),
+                publisher: self.peer,
+                signal,
+            };
+            reports.mount_begins(rt, alloc, self.conn, mount).is_ok()
         });
         if !is_told {
             self.lines.miss();
@@ -262,8 +377,9 @@ impl Announced {
     }
 }
 
-/// The name of the mount that an accepted ANNOUNCE makes, which is its URI's path. `None` without memory for it.
-fn name_in(alloc: Global, request: &Request) -> Option<Bytes> {
+/// The path of a request's URI: of an accepted ANNOUNCE the name of the mount that it makes. `None` where there is none, or no
+/// memory for it.
+fn path_in(alloc: Global, request: &Request) -> Option<Bytes> {
     match read_uri(alloc, request.uri.as_slice()) {
         Ok(Uri::At(target)) => Some(target.path),
         _ => None,

@@ -37,7 +37,7 @@ impl Helpers {
         R: Threads + Wait + Clock + Log + Eprint + Copy + Send + Sync + 'static,
         V: Words + Drop + Send + 'static,
         G: Gate + Drop + Send + Sync + 'static,
-        N: Moments,
+        N: Moments + Copy + Send + 'static,
     {
         let mut helpers = Helpers {
             waking: None,
@@ -67,7 +67,7 @@ impl Helpers {
         R: Threads + Wait + Clock + Log + Eprint + Copy + Send + Sync + 'static,
         V: Words + Drop + Send + 'static,
         G: Gate + Drop + Send + Sync + 'static,
-        N: Moments,
+        N: Moments + Copy + Send + 'static,
     {
         let gate = &server.shared.gate;
         let written = Arc::try_clone(&server.lines)?;
@@ -93,9 +93,10 @@ impl Helpers {
             let reports = Arc::try_clone(reports)?;
             let lines = Arc::try_clone(&server.lines)?;
             let distance = Duration::from_millis(distance);
+            let moments = server.moments;
             ask(gate)?;
             self.reporting = Some(thread::spawn(&rt, move || {
-                reports.tell_all(&rt, &lines, distance)
+                reports.tell_all(&rt, &lines, distance, moments)
             })?);
         }
         Ok(())

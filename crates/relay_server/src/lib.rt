@@ -5,17 +5,19 @@ mod accepts;
 mod clock_moments;
 mod connection;
 mod events;
+mod frame_notes;
 mod gate;
-mod heard_feed;
 mod hearing;
 mod helpers;
 mod lines;
 mod options;
+mod published;
 mod refusal;
 mod refusing;
 mod reports;
 mod server;
 mod shared;
+mod stopping;
 mod watched;
 
 pub use accepts::Accepts;
@@ -28,8 +30,11 @@ pub use lines::Lines;
 pub use options::Options;
 pub use refusal::Refusal;
 pub use relay_accounts::{ConnectionEnd, Counts, Outcome, Part};
-pub use relay_fanout::{HangUp, Maker, RingMaker, Seat, Socket, Writers, WritingSide};
+pub use relay_fanout::{
+    HangUp, Maker, RingMaker, Seat, Socket, Writers, WritingSide, set_send_buffer, stop_listening,
+};
 pub use reports::Reports;
-pub use server::{run_server, tell_end};
+pub use server::{run_server, tell_end, tell_last_account};
 pub use shared::{Shared, SharedBook, shared_book};
+pub use stopping::Stopping;
 pub use watched::{Silence, Watched};

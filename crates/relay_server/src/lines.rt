@@ -7,7 +7,7 @@ use std::alloc::{AllocError, Global};
 use std::fmt::Display;
 use std::io::Eprint;
 use std::sync::{Condvar, CondvarTimeouts, Mutex, Wait};
-use std::time::{Clock, Duration};
+use std::time::{Clock, Duration, Instant};
 
 /// Lines of a server that wait to be written, by one thread, so that nobody else waits for whoever reads standard error. A
 /// line that finds 1,024 waiting is dropped, and a later line tells how many were.
@@ -18,6 +18,8 @@ pub struct Lines<R> {
     alloc: Global,
     list: Mutex<List>,
     changed: Condvar,
+    /// Notified when a line was taken to be written, once the server stops.
+    has_room: Condvar,
 }
 
 impl<R: Drop> Drop for Lines<R> {
@@ -27,12 +29,15 @@ impl<R: Drop> Drop for Lines<R> {
             alloc: _,
             list: _,
             changed: _,
+            has_room: _,
         } = self;
     }
 }
 
 struct List {
     lines: Backlog<String>,
+    /// Until when threads wait for room: none does before the server stops.
+    room_until: Option<Instant>,
     /// No line comes any more.
     is_closed: bool,
     /// After the last line nothing is left to write.
@@ -43,6 +48,7 @@ impl Drop for List {
     fn drop(self) {
         let List {
             lines: _,
+            room_until: _,
             is_closed: _,
             is_written: _,
         } = self;
@@ -63,6 +69,7 @@ impl<R: Drop> Lines<R> {
     pub fn new(rt: R, alloc: Global) -> Result<Lines<R>, AllocError> {
         let list = List {
             lines: Backlog::new(alloc)?,
+            room_until: None,
             is_closed: false,
             is_written: false,
         };
@@ -71,6 +78,7 @@ impl<R: Drop> Lines<R> {
             alloc,
             list: Mutex::new(list),
             changed: Condvar::new(),
+            has_room: Condvar::new(),
         })
     }
 }
@@ -90,6 +98,9 @@ impl<R: Wait> Lines<R> {
                 list.lines.is_empty() && !list.is_closed
             });
         if let Some(line) = list.lines.take() {
+            if list.room_until.is_some() {
+                self.has_room.notify_one();
+            }
             return Next::Write(line);
         }
         match list.lines.take_missed() {
@@ -130,20 +141,73 @@ impl<R: Wait + Log + Eprint> Lines<R> {
 }
 
 impl<R: Wait + Clock> Lines<R> {
-    /// No line comes any more. Waits for at most so long until all are written.
-    pub fn close(&self, most: Duration) {
+    /// The server stops: for so long who tells something waits for room, so that it isn't dropped while lines are read.
+    pub(crate) fn wait_for_room(&self, most: Duration) {
+        let until = match Instant::now(&self.rt) {
+            Ok(now) => now.checked_add(most),
+            Err(_) => None,
+        };
+        self.list.lock(&self.rt).room_until = until;
+    }
+
+    /// So many lines couldn't be made, since who would have told them hasn't ended.
+    pub(crate) fn miss_all(&self, count: u64) {
+        self.list.lock(&self.rt).lines.miss_all(count);
+    }
+
+    /// No line comes any more: `write_all` ends once all are written.
+    pub fn end(&self) {
         self.list.lock(&self.rt).is_closed = true;
         self.changed.notify_all();
-        let _ = self
+    }
+
+    /// No line comes any more. Waits for at most so long until all are written; those that aren't by then are dropped and counted.
+    pub fn close(&self, most: Duration) {
+        self.end();
+        let (mut list, _) = self
             .changed
             .wait_timeout_while(&self.rt, self.list.lock(&self.rt), most, |list| {
                 !list.is_written
             });
+        if list.is_written {
+            return;
+        }
+        list.drop_all();
+        let last = Duration::from_millis(LAST_LINE);
+        let _ = self
+            .changed
+            .wait_timeout_while(&self.rt, list, last, |list| !list.is_written);
+    }
+
+    /// How long who tells something may wait for room yet. `None` where it doesn't wait.
+    fn time_for_room(&self, list: &List) -> Option<Duration> {
+        let until = list.room_until?;
+        let now = Instant::now(&self.rt).ok()?;
+        let rest = until.checked_duration_since(now)?;
+        (list.lines.is_full() && !rest.is_zero()).then_some(rest)
     }
 }
 
+/// How long the line that tells how many were dropped may take at last, in milliseconds.
+const LAST_LINE: u64 = 200;
+
+impl List {
+    /// Drops what waits, and counts it.
+    fn drop_all(&mut self) {
+        for _ in 0..MOST_LINES {
+            match self.lines.take() {
+                Some(line) => self.lines.miss_all(line.missed.saturating_add(1)),
+                None => return,
+            }
+        }
+    }
+}
+
+/// As many lines as may wait.
+const MOST_LINES: usize = 1024;
+
 /// Logs what a program's runtime does, informations and what weighs more.
-impl<R: Wait> Log for Lines<R> {
+impl<R: Wait + Clock> Log for Lines<R> {
     ghost use Rattle.std.specs.Prelude.{[], Some};
     ghost use Rattle.log.specs.declared.level.LevelFilter.TheVariants.{Info};
     ghost use Rattle.log.specs.Level.{allows};
@@ -162,6 +226,12 @@ impl<R: Wait> Log for Lines<R> {
         }
         let line = String::format(self.alloc, log::Line::new(record));
         let mut list = self.list.lock(&self.rt);
+        if let Some(most) = self.time_for_room(&list) {
+            list = self
+                .has_room
+                .wait_timeout_while(&self.rt, list, most, |list| list.lines.is_full())
+                .0;
+        }
         match line {
             Ok(line) => list.lines.put(line),
             Err(_) => list.lines.miss(),

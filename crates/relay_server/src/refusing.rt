@@ -1,13 +1,15 @@
-//! Peers that can't be served, and what is told of them.
+//! Peers and requests that are refused, and what is told of them once in a while.
+ghost use Rattle.std.specs.Prelude.{◌<◌, IfSome};
+
 use crate::refusal::Refusal;
 use interleaved::{Reading, Source, Writing, write_all};
 use log::{Log, warn};
-use relay_accounts::Tally;
+use relay_accounts::{ConnectionEnd, LineRate, LineRates, RefusedLine, RefusedRequests, Tally};
 use relay_fanout::{HangUp, Socket};
 use rtsp_message::{Status, put_plain};
 use std::alloc::{AllocError, Global};
 use std::collections::VecDeque;
-use std::net::TcpStream;
+use std::net::{SocketAddr, TcpStream};
 use std::sync::{Condvar, CondvarTimeouts, Mutex, Wait};
 use std::time::{Clock, Duration, Instant};
 
@@ -20,7 +22,7 @@ const STAYS: u64 = 100;
 /// How often a refused peer is read before it is closed: what it has sent and nobody reads would reset the connection.
 const READS: u32 = 4;
 
-/// The peers that were refused and stay a moment, and how many were refused since that was told.
+/// The peers that were refused and stay a moment, and how many peers and requests were refused since that was told.
 ///
 /// The thread that accepts puts them in, and one thread closes them. The lock is held for a change of the list alone.
 pub(crate) struct Refusing {
@@ -45,6 +47,14 @@ struct List {
     leaving: VecDeque<(Socket, u64)>,
     /// By `Refusal::place`.
     tallies: [Tally; Refusal::COUNT],
+    /// Requests that were refused, by mount and status.
+    requests: RefusedRequests,
+    /// How many ends of connections were told of each address.
+    rates: LineRates,
+    /// Those that weren't told, by `place_of`.
+    untold: [Tally; 8],
+    /// Accounts that weren't told.
+    untold_accounts: Tally,
     is_closed: bool,
 }
 
@@ -53,6 +63,10 @@ impl Drop for List {
         let List {
             leaving: _,
             tallies: _,
+            requests: _,
+            rates: _,
+            untold: _,
+            untold_accounts: _,
             is_closed: _,
         } = self;
     }
@@ -63,7 +77,41 @@ impl Drop for List {
 enum Next {
     Close(Socket),
     Tell(Refusal, u64),
+    TellRequests(RefusedLine),
+    /// So many ends of this kind weren't told.
+    TellUntold(&'static str, u64),
+    /// So many accounts weren't told.
+    TellAccounts(u64),
     End,
+}
+
+/// The kinds of ends that a warning tells of, each at its place.
+const ENDS: [&str; 8] = [
+    "stream fault",
+    "read failed",
+    "write failed",
+    "out of memory",
+    "no thread",
+    "session expired",
+    "silent without a session",
+    "left by a reset",
+];
+
+/// The place of an end among them. `None` for a good one.
+fn place_of(end: ConnectionEnd) -> Option<usize>
+    ensures { IfSome result (λ place. place < 8) }
+{
+    match end {
+        ConnectionEnd::Done => None,
+        ConnectionEnd::StreamFault(_) => Some(0),
+        ConnectionEnd::ReadFailed => Some(1),
+        ConnectionEnd::WriteFailed => Some(2),
+        ConnectionEnd::OutOfMemory => Some(3),
+        ConnectionEnd::NoThread => Some(4),
+        ConnectionEnd::Expired => Some(5),
+        ConnectionEnd::Idle => Some(6),
+        ConnectionEnd::Reset => Some(7),
+    }
 }
 
 impl Refusing {
@@ -72,6 +120,10 @@ impl Refusing {
         let list = List {
             leaving: VecDeque::with_capacity(alloc, MOST)?,
             tallies: [Tally::new(); Refusal::COUNT],
+            requests: RefusedRequests::new(alloc)?,
+            rates: LineRates::new(alloc)?,
+            untold: [Tally::new(); 8],
+            untold_accounts: Tally::new(),
             is_closed: false,
         };
         Ok(Refusing {
@@ -95,6 +147,50 @@ impl Refusing {
     pub(crate) fn count(&self, rt: &impl Wait, why: Refusal) {
         self.list.lock(rt).tallies[why.place()].add();
         self.changed.notify_one();
+    }
+
+    /// Counts a request of this peer that was refused with this status, on a mount of this name or on a name that none has.
+    pub(crate) fn count_request(
+        &self,
+        rt: &impl Wait,
+        name: Option<&[u8]>,
+        status: Status,
+        peer: SocketAddr,
+    ) {
+        self.list.lock(rt).requests.add(name, status, peer);
+        self.changed.notify_one();
+    }
+
+    /// Whether a line may tell how a connection of this peer ended. One of more than ten in a second is counted instead.
+    pub(crate) fn may_tell<R: Wait + Clock>(
+        &self,
+        rt: &R,
+        peer: SocketAddr,
+        end: ConnectionEnd,
+    ) -> bool {
+        let Some(place) = place_of(end) else {
+            return true;
+        };
+        let now = self.now(rt);
+        let mut list = self.list.lock(rt);
+        if list.rates.tell(peer.ip(), now) {
+            return true;
+        }
+        list.untold[place].add();
+        drop(list);
+        self.changed.notify_one();
+        false
+    }
+
+    /// Whether a line may tell a session's account of a connection that goes on, whose accounts have this rate. One of more than
+    /// ten in a second is counted instead.
+    pub(crate) fn may_tell_account<R: Wait + Clock>(&self, rt: &R, rate: &mut LineRate) -> bool {
+        if rate.tell(self.now(rt)) {
+            return true;
+        }
+        self.list.lock(rt).untold_accounts.add();
+        self.changed.notify_one();
+        false
     }
 
     /// Tells a peer 503, and lets it stay a moment. Never waits.
@@ -131,6 +227,13 @@ impl Refusing {
             match self.next(rt) {
                 Next::Close(socket) => close(socket),
                 Next::Tell(why, count) => warn!(lines; "{count} {why}"),
+                Next::TellRequests(line) => warn!(lines; "{line}"),
+                Next::TellUntold(kind, count) => {
+                    warn!(lines; "{count} ends weren't told, of addresses with more than ten a second: {kind}")
+                }
+                Next::TellAccounts(count) => {
+                    warn!(lines; "{count} accounts weren't told, of connections with more than ten a second")
+                }
                 Next::End => return,
             }
         }
@@ -168,6 +271,17 @@ impl List {
                 return Some(Next::Tell(why, count));
             }
         }
+        if let Some(line) = self.requests.tell(told_at) {
+            return Some(Next::TellRequests(line));
+        }
+        for (place, kind) in ENDS.iter().enumerate() {
+            if let Some(count) = self.untold[place].tell(told_at) {
+                return Some(Next::TellUntold(*kind, count));
+            }
+        }
+        if let Some(count) = self.untold_accounts.tell(told_at) {
+            return Some(Next::TellAccounts(count));
+        }
         if self.is_closed && self.leaving.is_empty() {
             return Some(Next::End);
         }
@@ -176,14 +290,23 @@ impl List {
 
     /// When something is to be done next.
     fn due(&self) -> Option<u64> {
-        let mut due = self.leaving.front().map(|first| first.1);
+        let first = self.leaving.front().map(|first| first.1);
+        let mut due = sooner(first, self.requests.due());
         for tally in &self.tallies {
-            due = match (due, tally.due()) {
-                (Some(one), Some(other)) => Some(one.min(other)),
-                (one, other) => one.or(other),
-            };
+            due = sooner(due, tally.due());
         }
-        due
+        for tally in &self.untold {
+            due = sooner(due, tally.due());
+        }
+        sooner(due, self.untold_accounts.due())
+    }
+}
+
+/// The sooner of two moments.
+fn sooner(one: Option<u64>, other: Option<u64>) -> Option<u64> {
+    match (one, other) {
+        (Some(one), Some(other)) => Some(one.min(other)),
+        (one, other) => one.or(other),
     }
 }
 

@@ -3,7 +3,9 @@ use crate::lines::Lines;
 use base_syntax::Bytes;
 use log::info;
 use relay_accounts::MountTally;
-use relay_fanout::MountSignal;
+use relay_fanout::{MountSignal, PlayerFigures};
+use session_state::Moments;
+use status::{MountLine, MountStatus, PlayerLine, PlayerStatus, PlayerTold, Snapshot};
 use std::alloc::{AllocError, Global};
 use std::net::SocketAddr;
 use std::sync::{Arc, Condvar, CondvarTimeouts, Mutex, Wait};
@@ -14,11 +16,12 @@ use std::time::{Clock, Duration};
 const MOST_LINES: usize = 100;
 
 /// The mounts that are recorded and the players that have a seat, and what was told of them. Once in a while one thread tells
-/// of each mount to which packets came, and of each player that lost some.
+/// of each mount, and of each player that lost packets.
 ///
 /// Its lock is held for a change of its lists, or for one report, whose lines are put meanwhile among those that wait to be
-/// written; no other lock is taken.
+/// written, and each mount's tally is looked at; no other lock is taken.
 pub struct Reports {
+    alloc: Global,
     /// How many packets a ring keeps.
     keep: u64,
     list: Mutex<List>,
@@ -28,6 +31,7 @@ pub struct Reports {
 impl Drop for Reports {
     fn drop(self) {
         let Reports {
+            alloc: _,
             keep: _,
             list: _,
             closed: _,
@@ -56,6 +60,7 @@ struct Mount {
     conn: u64,
     number: u64,
     name: Bytes,
+    publisher: SocketAddr,
     signal: Arc<MountSignal, Global>,
     told: MountTally,
     has_ended: bool,
@@ -67,11 +72,21 @@ impl Drop for Mount {
             conn: _,
             number: _,
             name: _,
+            publisher: _,
             signal: _,
             told: _,
             has_ended: _,
         } = self;
     }
+}
+
+/// A mount that is to be told of.
+#[derive(Drop)]
+pub(crate) struct ReportedMount<'a> {
+    pub(crate) number: u64,
+    pub(crate) name: &'a [u8],
+    pub(crate) publisher: SocketAddr,
+    pub(crate) signal: &'a Arc<MountSignal, Global>,
 }
 
 /// A player's seat that is to be told of.
@@ -92,10 +107,9 @@ struct Player {
     name: Bytes,
     seat: usize,
     signal: Arc<MountSignal, Global>,
-    /// How many packets it was told of to have lost.
-    told: u64,
-    /// How many it had lost when it left its seat.
-    left: Option<u64>,
+    told: PlayerTold,
+    /// What it had been sent and had lost when it left its seat.
+    left: Option<PlayerTold>,
 }
 
 impl Drop for Player {
@@ -114,23 +128,35 @@ impl Drop for Player {
 }
 
 impl Mount {
-    /// A connection's mount of this number and name, of which nothing was told.
-    fn new(
-        alloc: Global,
-        conn: u64,
-        number: u64,
-        name: &[u8],
-        signal: &Arc<MountSignal, Global>,
-    ) -> Result<Mount, AllocError> {
-        let name = Bytes::from_slice(alloc, name)?;
-        let signal = Arc::try_clone(signal)?;
+    /// A connection's mount, of which nothing was told.
+    fn new(alloc: Global, conn: u64, mount: ReportedMount<'_>) -> Result<Mount, AllocError> {
+        let name = Bytes::from_slice(alloc, mount.name)?;
+        let signal = Arc::try_clone(mount.signal)?;
         Ok(Mount {
             conn,
-            number,
+            number: mount.number,
             name,
+            publisher: mount.publisher,
             signal,
             told: MountTally::new(),
             has_ended: false,
+        })
+    }
+
+    /// What it has come to by this moment, with so many players.
+    fn status(
+        &self,
+        rt: &impl Wait,
+        alloc: Global,
+        players: usize,
+        now: u64,
+    ) -> Result<MountStatus, AllocError> {
+        Ok(MountStatus {
+            name: Bytes::from_slice(alloc, self.name.as_slice())?,
+            publisher: self.publisher,
+            players,
+            tally: self.signal.tally(rt),
+            silence: now.saturating_sub(self.signal.last_packet(rt)),
         })
     }
 }
@@ -147,18 +173,30 @@ impl Player {
             name,
             seat: seat.seat,
             signal,
-            told: 0,
+            told: PlayerTold::nothing(),
             left: None,
         })
     }
 
-    /// How many packets it has lost so far, of a ring that keeps so many.
-    fn lost(&self, keep: u64) -> u64 {
-        match self.left {
-            Some(lost) => lost,
+    /// What it has come to, in a ring that keeps so many packets.
+    fn status(&self, rt: &impl Wait, alloc: Global, keep: u64) -> Result<PlayerStatus, AllocError> {
+        let PlayerFigures { sent, lost, behind } = match self.left {
+            Some(PlayerTold { sent, lost }) => PlayerFigures {
+                sent,
+                lost,
+                behind: 0,
+            },
+            None => self.signal.player(rt, self.seat, keep),
+        };
+        Ok(PlayerStatus {
+            peer: self.peer,
+            mount: Bytes::from_slice(alloc, self.name.as_slice())?,
+            seat: self.seat,
             // Each of the numbers behind it is read by itself, and it may be less than was told.
-            None => self.signal.lost(self.seat, keep).max(self.told),
-        }
+            sent: sent.max(self.told.sent),
+            lost: lost.max(self.told.lost),
+            behind,
+        })
     }
 }
 
@@ -190,29 +228,28 @@ impl Reports {
             is_closed: false,
         };
         Reports {
+            alloc,
             keep,
             list: Mutex::new(list),
             closed: Condvar::new(),
         }
     }
 
-    /// A connection's mount of this number and name is recorded.
+    /// A connection's mount is recorded.
     pub(crate) fn mount_begins(
         &self,
         rt: &impl Wait,
         alloc: Global,
         conn: u64,
-        number: u64,
-        name: &[u8],
-        signal: &Arc<MountSignal, Global>,
+        mount: ReportedMount<'_>,
     ) -> Result<(), AllocError> {
-        let mount = Mount::new(alloc, conn, number, name, signal)?;
+        let mount = Mount::new(alloc, conn, mount)?;
         self.list.lock(rt).add_mount(mount)
     }
 
     /// A connection's mount has ended, if it has one.
     pub(crate) fn mount_ends(&self, rt: &impl Wait, conn: u64) {
-        self.list.lock(rt).end_mount(conn);
+        self.list.lock(rt).end_mount(rt, conn);
     }
 
     /// A connection plays from this seat.
@@ -227,18 +264,28 @@ impl Reports {
         self.list.lock(rt).add_player(player)
     }
 
-    /// A connection has left its seat, where it had lost so many packets.
-    pub(crate) fn player_leaves(&self, rt: &impl Wait, conn: u64, lost: u64) {
-        self.list.lock(rt).leave(conn, lost);
+    /// A connection has left its seat, where it had been sent and had lost so much.
+    pub(crate) fn player_leaves(&self, rt: &impl Wait, conn: u64, left: PlayerTold) {
+        self.list.lock(rt).leave(conn, left);
     }
 
     /// Tells of what came, each time that so long has passed and once they are closed: the work of a thread of its own.
-    pub(crate) fn tell_all<R: Wait + Clock>(&self, rt: &R, lines: &Lines<R>, distance: Duration) {
+    pub(crate) fn tell_all<R: Wait + Clock>(
+        &self,
+        rt: &R,
+        lines: &Lines<R>,
+        distance: Duration,
+        mut moments: impl Moments + Drop,
+    ) {
         for _ in rt.forever() {
             let (mut list, _) = self
                 .closed
                 .wait_timeout_while(rt, self.list.lock(rt), distance, |list| { !list.is_closed });
-            list.tell(lines, self.keep);
+            let now = moments.now();
+            match list.snapshot(rt, self.alloc, self.keep, now) {
+                Ok(snapshot) => list.tell(lines, &snapshot),
+                Err(_) => lines.miss(),
+            }
             if list.is_closed {
                 return;
             }
@@ -264,19 +311,19 @@ impl List {
     }
 
     /// The mount stays until it is told of, where packets came since.
-    fn end_mount(&mut self, conn: u64) {
+    fn end_mount(&mut self, rt: &impl Wait, conn: u64) {
         let ended = self.mounts.iter().filter(|mount| mount.has_ended).count();
         self.mounts.retain_mut(|mount| {
             if mount.conn != conn || mount.has_ended {
                 return true;
             }
             mount.has_ended = true;
-            ended < MOST_LINES && !mount.signal.tally().since(&mount.told).is_nothing()
+            ended < MOST_LINES && !mount.signal.tally(rt).since(&mount.told).is_nothing()
         });
     }
 
     /// The player stays until it is told of, where it has lost packets since.
-    fn leave(&mut self, conn: u64, lost: u64) {
+    fn leave(&mut self, conn: u64, left: PlayerTold) {
         let gone = self
             .players
             .iter()
@@ -286,58 +333,95 @@ impl List {
             if player.conn != conn || player.left.is_some() {
                 return true;
             }
-            player.left = Some(lost);
-            gone < MOST_LINES && lost > player.told
+            player.left = Some(left);
+            gone < MOST_LINES && left.lost > player.told.lost
         });
     }
 
-    /// Tells of each mount to which packets came, and of each player that lost some, since they were last told of.
-    fn tell<R: Wait>(&mut self, lines: &Lines<R>, keep: u64) {
+    /// What each mount and each player has come to by this moment, in the order of the lists.
+    fn snapshot(
+        &self,
+        rt: &impl Wait,
+        alloc: Global,
+        keep: u64,
+        now: u64,
+    ) -> Result<Snapshot, AllocError> {
+        let mut snapshot = Snapshot::new(alloc);
+        for mount in &self.mounts {
+            let players = self
+                .players
+                .iter()
+                .filter(|player| player.mount == mount.number && player.left.is_none())
+                .count();
+            snapshot
+                .mounts
+                .push(mount.status(rt, alloc, players, now)?)?;
+        }
+        for player in &self.players {
+            snapshot.players.push(player.status(rt, alloc, keep)?)?;
+        }
+        Ok(snapshot)
+    }
+
+    /// Tells of each mount, and of each player that lost packets since it was last told of.
+    fn tell<R: Wait + Clock>(&mut self, lines: &Lines<R>, snapshot: &Snapshot) {
         let mut told = Told { lines: 0, more: 0 };
-        self.tell_mounts(lines, &mut told);
-        self.tell_players(lines, keep, &mut told);
+        self.tell_mounts(lines, snapshot, &mut told);
+        self.tell_players(lines, snapshot, &mut told);
         if told.more > 0 {
             let more = told.more;
             info!(lines; "{more} more");
         }
     }
 
-    fn tell_mounts<R: Wait>(&mut self, lines: &Lines<R>, told: &mut Told) {
-        for mount in &mut self.mounts {
-            let tally = mount.signal.tally();
-            let since = tally.since(&mount.told);
-            if since.is_nothing() || !told.has_room() {
-                continue;
+    /// One that has ended goes once all that came to it is told.
+    fn tell_mounts<R: Wait + Clock>(
+        &mut self,
+        lines: &Lines<R>,
+        snapshot: &Snapshot,
+        told: &mut Told,
+    ) {
+        for (mount, status) in self.mounts.iter_mut().zip(&snapshot.mounts) {
+            let since = status.tally.since(&mount.told);
+            let is_told = !mount.has_ended || !since.is_nothing();
+            if is_told && told.has_room() {
+                mount.told = status.tally;
+                let line = MountLine { status, since };
+                info!(lines; "{line}");
             }
-            mount.told = tally;
-            let players = self
-                .players
-                .iter()
-                .filter(|player| player.mount == mount.number && player.left.is_none())
-                .count();
-            info!(lines; "mount {}: players {players}, {since}", mount.name.as_slice().escape_ascii());
         }
-        self.mounts.retain(|mount| {
-            !mount.has_ended || !mount.signal.tally().since(&mount.told).is_nothing()
+        let mut rest = snapshot.mounts.iter();
+        self.mounts.retain(|mount| match rest.next() {
+            Some(status) => !mount.has_ended || !status.tally.since(&mount.told).is_nothing(),
+            None => true,
         });
     }
 
     /// Those that aren't told of come first the next time.
-    fn tell_players<R: Wait>(&mut self, lines: &Lines<R>, keep: u64, told: &mut Told) {
+    fn tell_players<R: Wait + Clock>(
+        &mut self,
+        lines: &Lines<R>,
+        snapshot: &Snapshot,
+        told: &mut Told,
+    ) {
         let mut first = 0;
-        for (place, player) in self.players.iter_mut().enumerate() {
-            let lost = player.lost(keep);
-            let since = lost.saturating_sub(player.told);
-            if since == 0 || !told.has_room() {
+        let pairs = self.players.iter_mut().zip(&snapshot.players);
+        for (place, (player, status)) in pairs.enumerate() {
+            let since = status.told().since(player.told);
+            if since.lost == 0 || !told.has_room() {
                 continue;
             }
             first = place;
-            player.told = lost;
-            let Player { peer, seat, .. } = player;
-            info!(lines; "{peer}: seat {seat} of {}: lost {since}, in all {lost}", player.name.as_slice().escape_ascii());
+            player.told = status.told();
+            let line = PlayerLine { status, since };
+            info!(lines; "{line}");
         }
         let first = first.min(self.players.len());
         self.players.as_mut_slice().rotate_left(first);
-        self.players.retain(|player| !player.left.is_some_and(|lost| lost == player.told));
+        self.players.retain(|player| {
+            !player
+                .left
+                .is_some_and(|left| left.lost <= player.told.lost)
+        });
     }
 }

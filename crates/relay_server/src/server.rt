@@ -1,27 +1,28 @@
 //! The listening thread, and the threads of connections.
 use crate::accepts::Accepts;
 use crate::connection::{Outgoing, run_connection};
-use crate::events::Events;
+use crate::events::{Events, Teller, has_to_be_told, tell_account};
 use crate::gate::Gate;
 use crate::hearing::Hearing;
 use crate::helpers::Helpers;
 use crate::lines::Lines;
 use crate::options::Options;
+use crate::published::PublishedMounts;
 use crate::refusal::Refusal;
 use crate::refusing::{Refusing, tell_unavailable};
 use crate::reports::Reports;
 use crate::shared::{Shared, SharedBook, let_in};
+use crate::stopping::{LiveSockets, Stopping};
 use crate::watched::{Silence, Watched};
 use interleaved::{Reading, Writing};
-use log::{Log, info, warn};
+use log::{Log, warn};
 use packet_ring::{Pass, Subscriber};
-use relay_accounts::{ConnectionEnd, Outcome};
-use relay_fanout::{Maker, RingMaker, Seat, Socket, Writers, WritingSide, low_half};
+use relay_accounts::{ConnectionEnd, Counts, Outcome};
+use relay_fanout::{Maker, RingMaker, Seat, Socket, Wire, Writers, WritingSide};
 use session_state::{Moments, Words};
 use std::alloc::{AllocError, Global};
 use std::io::Eprint;
 use std::net::{SocketAddr, TcpStream};
-use std::sync::atomic::Ordering;
 use std::sync::{Arc, Wait};
 use std::thread;
 use std::thread::{SpawnError, Threads};
@@ -37,12 +38,16 @@ pub(crate) type SocketWriters = Writers<Subscriber, Writing<Socket>, Socket>;
 /// busy.
 const AFTER_NO_ACCEPT: u64 = 100;
 
+/// For how many milliseconds a server that stops waits for its connections' ends, and who tells something for room.
+const STOPS: u64 = 2_000;
+
 /// How many connections may have a thread: a little more than a book's, since those that are closed after a last text have left
 /// it.
 const MOST_LIVE: u64 = 1_088;
 
 /// Serves connections of a listener: each is read by a thread of its own. Returns once as many as `options.accept` says
-/// were accepted and have ended, else never; or with an error where there is no memory or no thread for what all
+/// were accepted and have ended; or once it is told to stop and `accept` fails, when all sockets are shut down, and what became of
+/// each connection is told as far as lines are read within two seconds; else never; or with an error where there is no memory or no thread for what all
 /// connections share. The book and the maker are of one number of seats; where they aren't, each ANNOUNCE is answered 503.
 /// Sessions expire by these moments, and each connection has them for itself.
 pub fn run_server<R, L, V, G, N>(
@@ -55,6 +60,7 @@ pub fn run_server<R, L, V, G, N>(
     words: V,
     gate: G,
     moments: N,
+    stopping: Arc<Stopping, Global>,
 ) -> Result<(), AllocError>
 where
     R: Threads + Wait + Clock + Log + Eprint + Copy + Send + Sync + 'static,
@@ -77,6 +83,9 @@ where
         lines,
         refusing,
         reports,
+        published: Arc::new(alloc, PublishedMounts::new(alloc)?)?,
+        live: Arc::new(alloc, LiveSockets::new(alloc))?,
+        stopping,
         moments,
         silence: Silence {
             looks: options.read_wait,
@@ -86,7 +95,10 @@ where
     };
     let helpers = Helpers::start(rt, alloc, &server, options)?;
     accept_all(rt, alloc, listener, options, &server);
-    wait_for_all(&rt, &server.shared);
+    server.stopping.wait(&rt);
+    if server.stopping.is_stopped() {
+        server.stop(&rt);
+    }
     helpers.end(&rt, &server);
     Ok(())
 }
@@ -100,8 +112,11 @@ pub(crate) struct Server<R, V, G, N> {
     pub(crate) refusing: Arc<Refusing, Global>,
     /// What is told of mounts and players while they go on. `None` for nothing.
     pub(crate) reports: Option<Arc<Reports, Global>>,
+    published: Arc<PublishedMounts, Global>,
+    live: Arc<LiveSockets, Global>,
+    stopping: Arc<Stopping, Global>,
     /// What tells each connection the time.
-    moments: N,
+    pub(crate) moments: N,
     silence: Silence,
     /// Whether lines tell of each mount and each player.
     is_verbose: bool,
@@ -115,10 +130,24 @@ impl<R: Drop, V: Drop, G: Drop, N: Drop> Drop for Server<R, V, G, N> {
             lines: _,
             refusing: _,
             reports: _,
+            published: _,
+            live: _,
+            stopping: _,
             moments: _,
             silence: _,
             is_verbose: _,
         } = self;
+    }
+}
+
+impl<R: Wait + Clock, V: Drop, G: Drop, N> Server<R, V, G, N> {
+    /// Ends all connections, and waits until each has told what became of it, for two seconds at most.
+    fn stop(&self, rt: &R) {
+        let most = Duration::from_millis(STOPS);
+        self.lines.wait_for_room(most);
+        self.live.shut_down(rt);
+        let left = self.stopping.wait_for_all(rt, most);
+        self.lines.miss_all(left);
     }
 }
 
@@ -169,7 +198,11 @@ where
         if options.accept == Some(accepted) {
             return;
         }
-        match listener.accept() {
+        let came = listener.accept();
+        if server.stopping.is_stopped() {
+            return;
+        }
+        match came {
             Ok((stream, peer)) => {
                 accepted = accepted.saturating_add(1);
                 set_up(&stream, options);
@@ -207,16 +240,16 @@ where
     G: Gate + Drop + Send + Sync + 'static,
     N: Moments + Copy + Send + Sync + 'static,
 {
-    let stream = match Arc::new(alloc, stream) {
-        Ok(stream) => stream,
+    let wire = match Arc::new(alloc, Wire::new(stream)) {
+        Ok(wire) => wire,
         Err(refused) => {
-            tell_unavailable(&refused.value);
+            tell_unavailable(refused.value.stream());
             server.refusing.count(&rt, Refusal::OutOfMemory);
             return;
         }
     };
-    if let Err(why) = take_in(rt, alloc, server, &stream, peer) {
-        server.refusing.refuse(&rt, why, Socket::new(stream));
+    if let Err(why) = take_in(rt, alloc, server, &wire, peer) {
+        server.refusing.refuse(&rt, why, Socket::new(wire));
     }
 }
 
@@ -225,7 +258,7 @@ fn take_in<R, V, G, N>(
     rt: R,
     alloc: Global,
     server: &Server<R, V, G, N>,
-    stream: &Arc<TcpStream, Global>,
+    wire: &Arc<Wire, Global>,
     peer: SocketAddr,
 ) -> Result<(), Refusal>
 where
@@ -234,11 +267,11 @@ where
     G: Gate + Drop + Send + Sync + 'static,
     N: Moments + Copy + Send + Sync + 'static,
 {
-    if server.shared.live.load(Ordering::SeqCst) >= MOST_LIVE {
+    if server.stopping.live() >= MOST_LIVE {
         return Err(Refusal::Full);
     }
     let conn = let_in(&rt, &server.shared.book)?;
-    let started = start(rt, alloc, server, conn, stream, peer);
+    let started = start(rt, alloc, server, conn, wire, peer);
     if started.is_err() {
         let _ = server.shared.book.lock(&rt).hangup(conn);
     }
@@ -259,7 +292,7 @@ fn start<R, V, G, N>(
     alloc: Global,
     server: &Server<R, V, G, N>,
     conn: u64,
-    stream: &Arc<TcpStream, Global>,
+    wire: &Arc<Wire, Global>,
     peer: SocketAddr,
 ) -> Result<(), Refusal>
 where
@@ -269,30 +302,27 @@ where
     N: Moments + Copy + Send + Sync + 'static,
 {
     let hearing = Hearing::new(alloc, server.moments)?;
-    let socket = Socket::of(stream)?;
+    let socket = Socket::of(wire)?;
     let book = &server.shared.book;
     let watched = Watched::new(rt, socket, book, conn, &hearing, server.silence)?;
     let reader = Reading::new(watched);
-    let writer = Writing::new(Socket::of(stream)?);
-    let wire = Socket::of(stream)?;
+    let writer = Writing::new(Socket::of(wire)?);
+    let hang_up = Socket::of(wire)?;
     let writers = share(&server.writers)?;
     let longest = server.shared.maker.packet_bytes();
     let theirs = Arc::try_clone(&server.shared)?;
-    let same = Arc::try_clone(&server.shared)?;
-    let lines = Arc::try_clone(&server.lines)?;
-    let is_verbose = server.is_verbose;
-    let reports = share(&server.reports)?;
-    server.shared.live.fetch_add(1, Ordering::SeqCst);
+    let ending = server.ending(conn, peer)?;
+    let events = Events::new(server.teller(conn, peer)?);
+    server.live.add(&rt, conn, wire)?;
+    server.stopping.come();
     let run = move || {
         let outgoing = Outgoing {
             writing: WritingSide::new(alloc, writer, longest),
-            wire,
+            wire: hang_up,
             writers,
         };
-        let events = Events::new(&lines, peer, conn, is_verbose, reports);
         let outcome = run_connection(rt, alloc, theirs, conn, reader, outgoing, events, hearing);
-        tell_end(&lines, peer, &outcome);
-        leave(&same);
+        ending.end(&rt, outcome);
     };
     let started = if server.shared.gate.may_start() {
         thread::spawn(&rt, run)
@@ -302,42 +332,107 @@ where
     match started {
         Ok(_) => Ok(()),
         Err(_) => {
-            leave(&server.shared);
+            server.live.remove(&rt, conn);
+            server.stopping.leave();
             Err(Refusal::NoThread)
         }
     }
 }
 
-/// A warning where a connection ended by a fault, a failed read or write, or because there was no memory or no thread, and a
-/// line with its part in a mount where packets were lost or refused, or waited for players.
-pub fn tell_end<R: Log>(rt: &R, peer: SocketAddr, outcome: &Outcome) {
-    let Outcome { end, counts, part } = outcome;
-    if *end != ConnectionEnd::Done {
-        warn!(rt; "{peer}: {end}");
+impl<R: Drop, V: Drop, G: Drop, N> Server<R, V, G, N> {
+    /// What a connection tells of what comes and goes.
+    fn teller(&self, conn: u64, peer: SocketAddr) -> Result<Teller<R>, AllocError> {
+        Ok(Teller {
+            lines: Arc::try_clone(&self.lines)?,
+            peer,
+            conn,
+            is_verbose: self.is_verbose,
+            reports: share(&self.reports)?,
+            published: Arc::try_clone(&self.published)?,
+            refusing: Arc::try_clone(&self.refusing)?,
+        })
     }
-    if !counts.has_losses() && counts.slowed == 0 {
+
+    /// What is done when a connection has ended.
+    fn ending(&self, conn: u64, peer: SocketAddr) -> Result<Ending<R>, AllocError> {
+        Ok(Ending {
+            lines: Arc::try_clone(&self.lines)?,
+            refusing: Arc::try_clone(&self.refusing)?,
+            live: Arc::try_clone(&self.live)?,
+            stopping: Arc::try_clone(&self.stopping)?,
+            conn,
+            peer,
+            is_verbose: self.is_verbose,
+        })
+    }
+}
+
+/// What is done when a connection has ended.
+struct Ending<R> {
+    lines: Arc<Lines<R>, Global>,
+    refusing: Arc<Refusing, Global>,
+    live: Arc<LiveSockets, Global>,
+    stopping: Arc<Stopping, Global>,
+    conn: u64,
+    peer: SocketAddr,
+    is_verbose: bool,
+}
+
+impl<R: Drop> Drop for Ending<R> {
+    fn drop(self) {
+        let Ending {
+            lines: _,
+            refusing: _,
+            live: _,
+            stopping: _,
+            conn: _,
+            peer: _,
+            is_verbose: _,
+        } = self;
+    }
+}
+
+impl<R: Wait + Clock + Drop> Ending<R> {
+    /// Tells how the connection ended and what its packets came to. A server that stops has ended it itself.
+    fn end(self, rt: &R, outcome: Outcome) {
+        let mut outcome = outcome;
+        if self.stopping.is_stopped() {
+            outcome.end = ConnectionEnd::Done;
+        }
+        if self.refusing.may_tell(rt, self.peer, outcome.end) {
+            tell_end(&*self.lines, self.peer, self.conn, &outcome);
+        }
+        tell_last_account(&*self.lines, self.peer, &outcome, self.is_verbose);
+        self.live.remove(rt, self.conn);
+        self.stopping.leave();
+    }
+}
+
+/// A warning if a connection ended by a fault, a failed read or write, silence, or because there was no memory or no thread.
+pub fn tell_end<R: Log>(rt: &R, peer: SocketAddr, conn: u64, outcome: &Outcome) {
+    let Outcome { end, part, .. } = outcome;
+    if *end == ConnectionEnd::Done {
         return;
     }
     match part {
-        Some(part) => info!(rt; "{peer}: {part}: {counts}"),
-        None => info!(rt; "{peer}: {counts}"),
+        Some(part) => warn!(rt; "{peer}: {part}: {end} (connection {conn})"),
+        None => warn!(rt; "{peer}: {end} (connection {conn})"),
     }
 }
 
-/// One thread less. Whoever waits for the last of them is woken.
-fn leave<V, G>(shared: &RingShared<V, G>) {
-    if shared.live.fetch_sub(1, Ordering::SeqCst) == 1 {
-        shared.live.wake_all();
+/// The account of a connection's last session, if it isn't told yet: if packets were lost or refused or waited for players, if the
+/// connection failed and left some unsent, or if each account is to be told.
+pub fn tell_last_account<R: Log>(rt: &R, peer: SocketAddr, outcome: &Outcome, is_verbose: bool) {
+    let Outcome { end, counts, .. } = outcome;
+    let has_failed = *end != ConnectionEnd::Done && counts.unsent > 0;
+    let is_asked = is_verbose && (outcome.has_account || *counts != Counts::new());
+    if !has_failed && !is_asked && !has_to_be_told(counts) {
+        return;
     }
-}
-
-/// Waits until no connection has a thread.
-fn wait_for_all<V, G>(rt: &impl Wait, shared: &RingShared<V, G>) {
-    for _ in rt.forever() {
-        let live = shared.live.load(Ordering::SeqCst);
-        if live == 0 {
-            return;
-        }
-        shared.live.park(rt, low_half(live));
-    }
+    let part = if outcome.has_account {
+        outcome.part.as_ref()
+    } else {
+        None
+    };
+    tell_account(rt, peer, part, counts);
 }

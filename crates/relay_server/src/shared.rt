@@ -6,7 +6,6 @@ use session_lock::Book;
 use session_state::ConnectFault;
 use std::alloc::{AllocError, Global};
 use std::collections::hash_map::RandomState;
-use std::sync::atomic::AtomicU64;
 use std::sync::{Arc, Mutex, Wait};
 use std::time::{Clock, Duration};
 
@@ -54,8 +53,6 @@ pub struct Shared<M: Maker, V, G> {
     pub(crate) wake_signal: Arc<WakeSignal, Global>,
     /// For how long a player's connection may stay once the last packet of its mount was written. `None` for good.
     pub(crate) after_end: Option<Duration>,
-    /// How many connections have a thread.
-    pub(crate) live: AtomicU64,
 }
 
 impl<M: Maker + Drop, V: Drop, G: Drop> Drop for Shared<M, V, G> {
@@ -69,7 +66,6 @@ impl<M: Maker + Drop, V: Drop, G: Drop> Drop for Shared<M, V, G> {
             recording: _,
             wake_signal: _,
             after_end: _,
-            live: _,
         } = self;
     }
 }
@@ -98,7 +94,6 @@ impl<M: Maker + Drop, V: Drop, G: Drop> Shared<M, V, G> {
             recording: RecordingMounts::new(alloc)?,
             wake_signal,
             after_end,
-            live: AtomicU64::new(0),
         })
     }
 

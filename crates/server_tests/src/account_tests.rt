@@ -153,7 +153,7 @@ pub(crate) fn published<R: Threads + Wait + Abort>(
     came.published
 }
 
-/// How many packets a player has taken or lost up to its end. What it has taken was written after so many bytes of replies.
+/// How many packets a player was sent or has lost up to its end. What it was sent was written after so many bytes of replies.
 pub(crate) fn accounted<R: Threads + Wait + Abort>(
     rt: &R,
     player: Serving,
@@ -162,12 +162,12 @@ pub(crate) fn accounted<R: Threads + Wait + Abort>(
     let (end, counts, written) = player.end(rt);
     assert!(rt; end == ConnectionEnd::Done && counts.lost > 0);
     let frames = written.lock(rt).len().saturating_sub(replies) / LAST.len();
-    assert!(rt; frames as u64 == counts.taken);
-    counts.taken.checked_add(counts.lost)
+    assert!(rt; frames as u64 == counts.sent && counts.unsent == 0);
+    counts.sent.checked_add(counts.lost)
 }
 
 /// Connection 1 publishes while connection 2 reads nothing; then 2 reads to the end of the mount, and closes. Each
-/// packet was taken and written, or is counted as lost; each request had a word of its own; and the mount that has ended
+/// packet was sent, or is counted as lost; each request had a word of its own; and the mount that has ended
 /// isn't among those that are recorded.
 #[test]
 fn a_slow_players_account_adds_up(rt: HostRuntime) {

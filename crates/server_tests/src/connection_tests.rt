@@ -100,10 +100,13 @@ fn each_frame_of_a_connection_is_counted(rt: HostRuntime) {
         pinned: 0,
         oversize: 1,
         bad_rtp: 1,
-        strangers: 3,
+        unknown_channel: 1,
         unkept: 0,
-        taken: 0,
+        strangers: 2,
+        sent: 0,
+        skipped: 0,
         lost: 0,
+        unsent: 0,
         slowed: 0,
     };
     assert!(rt; served.counts == want && served.counts.has_losses());

@@ -3,11 +3,11 @@ use crate::account_tests::{SET_UP as PLAYS, SETUP_OUT};
 use crate::beside_tests::recording;
 use crate::connection_tests::{ANNOUNCE, ANNOUNCED, IN_SESSION, PAUSE, RECORD, SET_UP, SETUP};
 use crate::devices::{Flag, Staged, flag, has_come, joined, wait_for};
-use crate::moments::{Dial, Leaping};
+use crate::moments::{Dial, Leaping, Still};
 use crate::rings::Rings;
 use crate::serving::{
     Serving, SharedRings, Watch, book_of, line_to, serve_in_thread, serve_source, shared_over,
-    told_by,
+    told_by, told_until,
 };
 use crate::words::OneWord;
 use relay_server::ConnectionEnd;
@@ -28,12 +28,21 @@ fn told<R>(
     conn: u64,
     said: &[&[u8]],
     moment: u64,
+    end: ConnectionEnd,
 ) -> Vec<u8>
 where
     R: Threads + Wait + Clock + Abort + Copy + Drop + Send + 'static,
 {
     let clock = Leaping { before: 4, moment };
-    told_by(rt, alloc, shared, conn, joined(&rt, alloc, said), clock)
+    told_until(
+        rt,
+        alloc,
+        shared,
+        conn,
+        joined(&rt, alloc, said),
+        clock,
+        end,
+    )
 }
 
 /// A camera that is told this once it has recorded, and asks to pause and announces its mount again.
@@ -44,7 +53,8 @@ where
     let book = book_of(&rt, alloc, 1, 1);
     let shared = shared_over(&rt, alloc, book, Rings::of(&rt, alloc, 1), OneWord);
     let said = [ANNOUNCE, SETUP, RECORD, PAUSE, ANNOUNCE];
-    let told = told(rt, alloc, &shared, 1, said.as_slice(), moment);
+    let done = ConnectionEnd::Done;
+    let told = told(rt, alloc, &shared, 1, said.as_slice(), moment, done);
     let first = joined(&rt, alloc, &[ANNOUNCED, SET_UP, IN_SESSION]);
     let last = joined(&rt, alloc, last);
     assert!(rt;
@@ -153,12 +163,20 @@ pub(crate) fn replies(told: &[u8], head: &[u8]) -> usize {
     count
 }
 
-/// A player asks to pause, sets up and plays once more, and is told so many good replies and so many of no session.
-fn player_is_told<R>(rt: R, alloc: Global, moment: u64, good: usize, without: usize)
+/// A player asks to pause, sets up and plays once more, and is told so many good replies and so many of no session, up to this
+/// end.
+fn player_is_told<R>(
+    rt: R,
+    alloc: Global,
+    moment: u64,
+    good: usize,
+    without: usize,
+    end: ConnectionEnd,
+)
 where
     R: Threads + Wait + Clock + RandomSource + Abort + Copy + Drop + Send + 'static,
 {
-    let book = book_of(&rt, alloc, 1, 2);
+    let book = book_of(&rt, alloc, 1, 3);
     let shared = shared_over(&rt, alloc, book, Rings::of(&rt, alloc, 1), OneWord);
     let camera = recording(rt, alloc, &shared);
     let said = [
@@ -169,16 +187,19 @@ where
         SETUP_OUT,
         PLAY_AGAIN,
     ];
-    let told = told(rt, alloc, &shared, 2, said.as_slice(), moment);
+    let told = told(rt, alloc, &shared, 2, said.as_slice(), moment, end);
     assert!(rt; replies(told.as_slice(), b"RTSP/1.0 200 ") == good);
     assert!(rt; replies(told.as_slice(), b"RTSP/1.0 454 ") == without);
+    let said = joined(&rt, alloc, &[SETUP_OUT, PLAY_AGAIN]);
+    let next = told_by(rt, alloc, &shared, 3, said, Still);
+    assert!(rt; replies(next.as_slice(), b"RTSP/1.0 200 ") == 2);
     camera.end(&rt);
 }
 
-/// Its only seat is free again when it plays once more.
+/// One whose session has expired is told so, and nothing after that. The only seat is free again when another one plays.
 #[test]
 fn a_players_seat_is_free_once_its_session_has_expired(rt: HostRuntime) {
     let alloc = rt.alloc();
-    player_is_told(rt, alloc, 59_999, 4, 2);
-    player_is_told(rt, alloc, 60_000, 5, 1);
+    player_is_told(rt, alloc, 59_999, 4, 2, ConnectionEnd::Done);
+    player_is_told(rt, alloc, 60_000, 3, 1, ConnectionEnd::Expired);
 }

@@ -17,7 +17,7 @@ use std::time::{Clock, Duration};
 const ENDED: &str = "[INFO  relay_server::events] 10.0.0.1:554: mount a has ended after ";
 
 const ONE_PACKET: &str =
-    " s: published 1, pinned 0, too long 0, bad RTP 0, unknown channel 0, no memory 0; sent 0, lost 0";
+    " s: published 1, pinned 0, too long 0, bad RTP 0, unknown channel 0, no memory 0; sent 0, skipped 0, lost 0, unsent 0; strangers 0";
 
 /// A runtime whose standard error is a list of lines, which all copies of it share. It logs nothing of its own.
 #[derive(Clone, Copy, Drop)]
@@ -50,19 +50,25 @@ pub(crate) fn lines_to<R: Drop>(
 }
 
 /// All that a connection tells, in these lines.
-pub(crate) fn verbose<R>(lines: &Arc<Lines<R>, Global>) -> Events<R> {
-    Events::new(lines, SocketAddr::from(([10, 0, 0, 1], 554)), 1, true, None)
+pub(crate) fn verbose<R: Clock + Abort, L: Drop>(
+    rt: &R,
+    alloc: Global,
+    lines: &Arc<Lines<L>, Global>,
+) -> Events<L> {
+    let peer = SocketAddr::from(([10, 0, 0, 1], 554));
+    Events::alone(rt, alloc, lines, peer, 1).expect(rt, "memory")
 }
 
 impl<R: Wait + Clock + Abort> Kept<R> {
-    /// Whether the last of these lines tells that the mount of a peer has ended, with one packet.
+    /// Whether one of these lines tells that the mount of a peer has ended, with one packet.
     pub(crate) fn tells_an_end(&self, lines: &Lines<Kept<R>>) -> bool {
-        lines.close(Duration::from_millis(0));
+        lines.end();
         lines.write_all();
         let written = self.lines.lock(&self.rt);
-        let last = written.as_slice().last().map_or("", |line| line.as_str());
-        let ended = last.strip_prefix(ENDED);
-        ended.is_some_and(|ended| ended.ends_with(ONE_PACKET))
+        written.iter().any(|line| {
+            let ended = line.as_str().strip_prefix(ENDED);
+            ended.is_some_and(|ended| ended.ends_with(ONE_PACKET))
+        })
     }
 }
 

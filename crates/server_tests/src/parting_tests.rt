@@ -68,7 +68,7 @@ fn sixteen_waiting_packets_leave_in_one_write(rt: HostRuntime) {
     assert!(rt; has_come(&rt, &player.watch.written, 0, LAST));
     assert!(rt; stall.writes.load(Ordering::SeqCst) <= 6);
     let (end, counts, _written) = player.end(&rt);
-    assert!(rt; end == ConnectionEnd::Done && counts.taken == PACKETS);
+    assert!(rt; end == ConnectionEnd::Done && counts.sent == PACKETS);
 }
 
 /// Its mount lives on, so that nothing but the waking thread tells it of the last packets.
@@ -116,5 +116,5 @@ fn an_ended_mounts_ring_goes_though_its_player_stays(rt: HostRuntime) {
     assert!(rt; gone.load(Ordering::SeqCst));
     let (end, counts, _written) = player.end(&rt);
     assert!(rt; end == ConnectionEnd::Done);
-    assert!(rt; counts.taken.checked_add(counts.lost) == Some(published));
+    assert!(rt; counts.sent.checked_add(counts.lost) == Some(published));
 }

@@ -167,11 +167,28 @@ where
     R: Threads + Wait + Clock + Abort + Copy + Drop + Send + 'static,
     N: Moments + Drop,
 {
+    told_until(rt, alloc, shared, conn, said, clock, ConnectionEnd::Done)
+}
+
+/// The same of one that ends so.
+pub(crate) fn told_until<R, N>(
+    rt: R,
+    alloc: Global,
+    shared: &SharedRings<OneWord>,
+    conn: u64,
+    said: Vec<u8>,
+    clock: N,
+    end: ConnectionEnd,
+) -> Vec<u8>
+where
+    R: Threads + Wait + Clock + Abort + Copy + Drop + Send + 'static,
+    N: Moments + Drop,
+{
     let hearing = Hearing::new(alloc, clock).expect(&rt, "memory");
     let source = ListSource::new(said, 7, None);
     let events = Events::none();
     let Served { outcome, told } = serve_here(rt, alloc, shared, conn, source, events, hearing);
-    assert!(rt; outcome.end == ConnectionEnd::Done);
+    assert!(rt; outcome.end == end);
     told
 }
 

@@ -156,7 +156,7 @@ const OVER: [(Step, ConnectionEnd); 2] = [
     ((60_000, Ok(PAUSE)), ConnectionEnd::Done),
 ];
 
-/// The mount isn't among those that are recorded when its connection has ended, and the last line tells its end.
+/// The mount isn't among those that are recorded when its connection has ended, and a line tells its end.
 #[test]
 fn an_expired_mount_is_not_recorded(rt: HostRuntime) {
     let alloc = rt.alloc();
@@ -174,7 +174,7 @@ fn an_expired_mount_is_not_recorded(rt: HostRuntime) {
             &shared,
             &RECORDS,
             &then,
-            verbose(&lines),
+            verbose(&rt, alloc, &lines),
         );
         assert!(rt; served.end == end, "{end}");
         assert!(rt; shared.recorded(&rt) == 0, "{end}");
@@ -241,32 +241,21 @@ const STRANGER: &[u8] = b"$\x07\x00\x01\x80";
 
 const BAD_RTP: &[u8] = b"$\x00\x00\x02\x80\x60";
 
-/// Frames that come from a recording camera, and whether they keep its session.
-const FRAMES: [(&[u8], bool); 5] = [
-    (FRAME, true),
-    (REPORT, true),
-    (TOO_LONG, true),
-    (STRANGER, false),
-    (BAD_RTP, false),
-];
+/// Frames that come from a recording camera: each keeps its session, whatever becomes of it.
+const FRAMES: [&[u8]; 5] = [FRAME, REPORT, TOO_LONG, STRANGER, BAD_RTP];
 
 /// Where nothing else comes.
 #[test]
-fn frames_that_are_offered_to_the_mount_keep_its_session(rt: HostRuntime) {
+fn frames_of_each_fate_keep_a_recording_session(rt: HostRuntime) {
     let alloc = rt.alloc();
-    for (place, (frame, keeps)) in FRAMES.iter().enumerate() {
-        let want = if *keeps {
-            (ConnectionEnd::Done, LAST)
-        } else {
-            (ConnectionEnd::Expired, 60_000)
-        };
+    for (place, frame) in FRAMES.iter().enumerate() {
         let ended = ends_after(rt, alloc, &RECORDS, frame, frame);
-        assert!(rt; ended == want, "row {place}");
+        assert!(rt; ended == (ConnectionEnd::Done, LAST), "row {place}");
     }
 }
 
-/// What comes in one read with a request when the time is over, and its answer. A frame that is offered to no mount is heard when
-/// that request comes, and blank lines are no message.
+/// What comes in one read with a request when the time is over, and its answer. A frame that is offered to no mount is heard
+/// before that request, and blank lines are no message.
 const UNOFFERED: [(&[u8], &[u8]); 3] = [
     (
         b"$\x07\x00\x01\x80PAUSE rtsp://h/a RTSP/1.0\nCSeq: 4\nSession: 000000010000abcd\n\n",
@@ -283,7 +272,7 @@ const UNOFFERED: [(&[u8], &[u8]); 3] = [
 ];
 
 #[test]
-fn frames_that_nobody_records_are_heard_with_the_next_request(rt: HostRuntime) {
+fn frames_that_nobody_records_are_heard_before_the_next_request(rt: HostRuntime) {
     let alloc = rt.alloc();
     for (place, (bytes, answer)) in UNOFFERED.iter().enumerate() {
         let served = serve(rt, alloc, &RECORDS, &[(60_000, Ok(bytes))]);

@@ -236,7 +236,7 @@ const PLAYER: [Step; 3] = [(0, Ok(SETUP_OUT)), (0, Ok(PLAY)), (SLOW_FROM, Ok(ASK
 pub(crate) const ANSWERED: &[u8] =
     b"RTSP/1.0 200 OK\r\nCSeq: 4\r\nSession: 000000020000abcd\r\n\r\n";
 
-/// As the camera's.
+/// As the camera's, but one that played is told that it has no session, and then its connection ends.
 const PLAYERS: [Row; 4] = [
     Row {
         slow: IN_TIME,
@@ -247,7 +247,7 @@ const PLAYERS: [Row; 4] = [
     Row {
         slow: TOO_SLOW,
         then: &[(112_000, Ok(PLAYER_PAUSE))],
-        end: ConnectionEnd::Done,
+        end: ConnectionEnd::Expired,
         told: &[ANSWERED, NO_SESSION],
     },
     Row {

@@ -2,7 +2,9 @@
 use base_syntax::Bytes;
 use log::sink::Memory;
 use log::warn;
-use relay_server::{ConnectionEnd, Counts, Lines, Outcome, Part, Refusal, tell_end};
+use relay_server::{
+    ConnectionEnd, Counts, Lines, Outcome, Part, Refusal, tell_end, tell_last_account,
+};
 use rtsp_message::Fault;
 use std::alloc::Global;
 use std::fmt::Display;
@@ -11,7 +13,7 @@ use std::process::Abort;
 use std::time::Duration;
 
 /// Each end, and its text. All but the first are warned of.
-const ENDS: [(ConnectionEnd, &str); 12] = [
+const ENDS: [(ConnectionEnd, &str); 13] = [
     (ConnectionEnd::Done, "done"),
     (
         ConnectionEnd::StreamFault(Fault::BadLine),
@@ -37,8 +39,12 @@ const ENDS: [(ConnectionEnd, &str); 12] = [
     (ConnectionEnd::WriteFailed, "write failed"),
     (ConnectionEnd::OutOfMemory, "out of memory"),
     (ConnectionEnd::NoThread, "no thread for its frames"),
-    (ConnectionEnd::Expired, "session expired"),
+    (
+        ConnectionEnd::Expired,
+        "session expired after 60 s of silence",
+    ),
     (ConnectionEnd::Idle, "silent without a session"),
+    (ConnectionEnd::Reset, "left by a reset"),
 ];
 
 /// Whether a value is printed so.
@@ -72,33 +78,39 @@ const COUNTS: Counts = Counts {
     pinned: 2,
     oversize: 3,
     bad_rtp: 4,
-    strangers: 5,
+    unknown_channel: 5,
     unkept: 6,
-    taken: 7,
-    lost: 8,
-    slowed: 9,
+    strangers: 7,
+    sent: 8,
+    skipped: 9,
+    lost: 10,
+    unsent: 11,
+    slowed: 12,
 };
 
-/// Nothing was lost or refused.
+/// Nothing was lost or refused, and nothing waited.
 const LOSSLESS: Counts = Counts {
     published: u64::MAX,
     pinned: 0,
     oversize: 0,
     bad_rtp: 0,
-    strangers: 9,
+    unknown_channel: 0,
     unkept: 0,
-    taken: 9,
+    strangers: 9,
+    sent: 9,
+    skipped: 9,
     lost: 0,
+    unsent: 0,
     slowed: 0,
 };
 
 /// The text of counts of which most are nothing.
 const UNTOLD: &str =
-    "published 18446744073709551615, pinned 0, too long 0, bad RTP 0, unknown channel 9, no memory 0; sent 9, lost 0";
+    "published 18446744073709551615, pinned 0, too long 0, bad RTP 0, unknown channel 0, no memory 0; sent 9, skipped 9, lost 0, unsent 0; strangers 9";
 
 /// The line that tells of the counts.
 const COUNTED: &str =
-    "[INFO  relay_server::server] 10.0.0.1:554: published 1, pinned 2, too long 3, bad RTP 4, unknown channel 5, no memory 6; sent 7, lost 8, slowed 9 ms";
+    "[INFO  relay_server::events] 10.0.0.1:554: published 1, pinned 2, too long 3, bad RTP 4, unknown channel 5, no memory 6; sent 8, skipped 9, lost 10, unsent 11; strangers 7, slowed 12 ms";
 
 /// A publisher that lost nothing and was slowed.
 const SLOWED: Counts = Counts {
@@ -106,10 +118,13 @@ const SLOWED: Counts = Counts {
     pinned: 0,
     oversize: 0,
     bad_rtp: 0,
-    strangers: 0,
+    unknown_channel: 0,
     unkept: 0,
-    taken: 0,
+    strangers: 0,
+    sent: 0,
+    skipped: 0,
     lost: 0,
+    unsent: 0,
     slowed: 12,
 };
 
@@ -120,14 +135,15 @@ const TOLD: [(Counts, Option<&str>); 3] = [
     (
         SLOWED,
         Some(
-            "[INFO  relay_server::server] 10.0.0.1:554: published 9, pinned 0, too long 0, bad RTP 0, unknown channel 0, no memory 0; sent 0, lost 0, slowed 12 ms",
+            "[INFO  relay_server::events] 10.0.0.1:554: published 9, pinned 0, too long 0, bad RTP 0, unknown channel 0, no memory 0; sent 0, skipped 0, lost 0, unsent 0; strangers 0, slowed 12 ms",
         ),
     ),
 ];
 
 /// Whether a line warns of an end with this text.
 fn is_warning(line: &str, text: &str) -> bool {
-    line.strip_prefix("[WARN  relay_server::server] 10.0.0.1:554: ") == Some(text)
+    let rest = line.strip_prefix("[WARN  relay_server::server] 10.0.0.1:554: ");
+    rest.and_then(|rest| rest.strip_suffix(" (connection 7)")) == Some(text)
 }
 
 /// Whether these are the lines that tell of an end with this text: a warning where it isn't the good one, and that of the
@@ -153,9 +169,11 @@ fn an_end_is_a_line_and_so_are_losses(rt: HostRuntime) {
             let outcome = Outcome {
                 end,
                 counts,
+                has_account: true,
                 part: None,
             };
-            tell_end(&sink, peer, &outcome);
+            tell_end(&sink, peer, 7, &outcome);
+            tell_last_account(&sink, peer, &outcome, false);
             let lines = sink.into_lines();
             assert!(rt; are_told(lines.as_slice(), end, text, line), "{text}");
         }
@@ -169,12 +187,14 @@ fn is_named(rt: &impl Abort, alloc: Global, publishes: bool, named: &str) -> boo
     let outcome = Outcome {
         end: ConnectionEnd::Done,
         counts: SLOWED,
+        has_account: true,
         part: Some(Part { name, publishes }),
     };
-    tell_end(&sink, SocketAddr::from(([10, 0, 0, 1], 554)), &outcome);
+    let peer = SocketAddr::from(([10, 0, 0, 1], 554));
+    tell_last_account(&sink, peer, &outcome, false);
     let lines = sink.into_lines();
     let rest = lines.as_slice().first().and_then(|line| line.strip_prefix(
-        "[INFO  relay_server::server] 10.0.0.1:554: ",
+        "[INFO  relay_server::events] 10.0.0.1:554: ",
     ));
     rest.is_some_and(|rest| rest.starts_with(named))
 }

@@ -1,8 +1,8 @@
 //! How a connection's requests are decided.
 use crate::connection::Connection;
 use crate::connection::session_snapshot::SessionSnapshot;
+use crate::frame_notes::{FrameNotes, Publishing};
 use crate::gate::Gate;
-use crate::heard_feed::HeardFeed;
 use base_syntax::{Bytes, Items};
 use interleaved::Sink;
 use relay_accounts::Part;
@@ -44,7 +44,7 @@ impl From<Busy> for NoAnswer {
 /// An answer, and with an ANNOUNCE the feed of the mount that it has opened.
 pub(super) type Asked<R, M> = (
     Answer<Seat<<M as Maker>::Pass>>,
-    Option<HeardFeed<Posting<R, <M as Maker>::In>>>,
+    Option<Publishing<R, Posting<R, <M as Maker>::In>>>,
 );
 
 impl<R, M, V, G, W, H, N> Connection<R, M, V, G, W, H, N>
@@ -102,9 +102,19 @@ where
             signal,
             seats,
         } = self.offer()?;
+        // Before the book is asked: what it has opened has a feed.
+        let Ok(noted) = Arc::try_clone(&signal) else {
+            let _ = self.settle(feed, signal, Some(seats), wake_signal);
+            return Err(NoAnswer);
+        };
         let (answer, back) = self.ask_with_seats(request, given, seats);
         let posting = self.settle(feed, signal, back, wake_signal);
-        Ok((answer?, posting.map(|feed| HeardFeed { feed, watch })))
+        let notes = FrameNotes {
+            rt: self.rt,
+            watch,
+            signal: noted,
+        };
+        Ok((answer?, posting.map(|feed| Publishing { feed, notes })))
     }
 
     /// Asks with these seats. What isn't used of them comes back.
@@ -172,14 +182,18 @@ where
         let mut book = self.shared.book.lock(&self.rt);
         let asked = book.ask(self.conn, request, given, offer);
         let session = book.session_of(self.conn);
-        if let (None, Some(session)) = (&self.session, session) {
-            self.part = part_of(self.alloc, session);
-        }
+        let begins = match (&self.session, session) {
+            (None, Some(session)) => Some(part_of(self.alloc, session)),
+            _ => None,
+        };
         self.session = session.map(SessionSnapshot::of);
         let retired = book.retired();
         drop(book);
         // Without the lock: it may be the last to hold the descriptions of many mounts that have ended.
         drop(retired);
+        if let Some(part) = begins {
+            self.begin_account(part);
+        }
         match asked {
             Ok(answer) => Ok(answer),
             Err(

@@ -1,11 +1,11 @@
 //! What is done for an answer, and how it is written.
-use crate::connection::Connection;
+use crate::connection::{Connection, LeftSeat};
+use crate::frame_notes::Publishing;
 use crate::gate::Gate;
-use crate::heard_feed::HeardFeed;
 use cursor::{Left, Tap};
 use interleaved::Sink;
-use relay_accounts::{ConnectionEnd, FrameEnd};
-use relay_fanout::{Frames, HangUp, Maker, Posting, Seat, TapPlace};
+use relay_accounts::{ConnectionEnd, FrameEnd, Handover, Part, SeatAccount};
+use relay_fanout::{Frames, HangUp, Maker, Posting, Seat, SentFrames, TapPlace};
 use rtsp_message::{Reply, Status, put_reply};
 use session_lock::Answer;
 use session_state::{Act, Moments, Words};
@@ -30,9 +30,9 @@ where
     pub(super) fn carry_out(
         &mut self,
         answer: Answer<Seat<M::Pass>>,
-        feed: Option<HeardFeed<Posting<R, M::In>>>,
+        publishing: Option<Publishing<R, Posting<R, M::In>>>,
     ) -> Result<(), ConnectionEnd> {
-        self.take_up(answer.act, answer.pass, feed);
+        self.take_up(answer.act, answer.pass, publishing);
         self.reply_to(answer.act, &answer.reply)
     }
 
@@ -41,10 +41,10 @@ where
         &mut self,
         act: Act,
         pass: Option<Seat<M::Pass>>,
-        feed: Option<HeardFeed<Posting<R, M::In>>>,
+        publishing: Option<Publishing<R, Posting<R, M::In>>>,
     ) {
         match act {
-            Act::Open => self.publishing = feed,
+            Act::Open => self.publishing = publishing,
             Act::Play { mount, seat } => self.attach(mount, seat, pass),
             Act::None | Act::Stop { .. } | Act::Record | Act::End => {}
         }
@@ -58,7 +58,15 @@ where
             Act::End => self.end_mount(),
             Act::None | Act::Open | Act::Play { .. } => {}
         }
-        self.write_reply(reply)?;
+        let has_ended = self.session.is_none();
+        if has_ended && self.left.is_none() {
+            self.close_account();
+        }
+        let written = self.write_reply(reply);
+        if has_ended {
+            self.close_account();
+        }
+        written?;
         match act {
             Act::Play { .. } => self.start_frames(),
             _ => Ok(()),
@@ -77,11 +85,13 @@ where
 
     /// The mount is among those that are recorded from its first RECORD on.
     fn record(&mut self) {
+        let now = self.hearing.watch().heard.now();
         let (Some(publishing), Some(session)) = (&mut self.publishing, &self.session) else {
             return;
         };
         let feed = &mut publishing.feed;
         if self.mount.is_none() {
+            feed.signal().begin(&self.rt, now);
             self.events.recorded(
                 &self.rt,
                 self.alloc,
@@ -166,22 +176,26 @@ where
             self.player.phase.stop(&self.rt);
             frames.signal.wake();
         }
-        let end = frames.join(&self.rt, &self.player, self.writers.as_deref());
+        let SentFrames { end, handover } = frames.join(
+            &self.rt,
+            &self.player,
+            self.writers.as_deref(),
+        );
         self.is_over = end == FrameEnd::Ended && self.shared.after_end.is_some();
         match self.player.take(&self.rt) {
-            TapPlace::Attached(tap) => self.give_back(tap, frames),
+            TapPlace::Attached(tap) => self.give_back(tap, frames, handover),
             // The mount has ended: its seats are nobody's any more.
-            TapPlace::Left(left) => self.count_left(frames.seat(), &left),
+            TapPlace::Left(left) => self.leave_seat(frames.seat(), left, handover),
             TapPlace::Nowhere => {}
         }
         end
     }
 
     /// Detaches a tap, and gives its seat back to the book.
-    fn give_back(&mut self, tap: M::Out, frames: Frames) {
+    fn give_back(&mut self, tap: M::Out, frames: Frames, handover: Handover) {
         let (pass, left) = self.shared.maker.detach(tap);
         let (mount, seat, signal) = frames.into_seat();
-        self.count_left(seat, &left);
+        self.leave_seat(seat, left, handover);
         let mut book = self.shared.book.lock(&self.rt);
         let returned = book.give_back(mount, seat, Seat { pass, signal });
         // The pass comes back where the mount has ended, and its ring may go with it: not under the lock.
@@ -189,17 +203,66 @@ where
         drop(returned);
     }
 
-    /// Counts the account of a seat that was left, and tells of it.
-    fn count_left(&mut self, seat: usize, left: &Left) {
-        let keep = self.shared.maker.keep();
-        self.counts.add_out(left, keep);
-        self.events.leaves(&self.rt, &self.part, seat, left, keep);
+    /// A seat was left. Its account closes once none of its frames waits for the socket: the next reply is written behind them.
+    fn leave_seat(&mut self, seat: usize, left: Left, handover: Handover) {
+        let taken = self.player.writing.taken(&self.rt);
+        let handed = handover.handed(taken);
+        let waits = handed != handover.handed(u64::MAX);
+        // Before another player has the seat. What was lost doesn't change any more.
+        let account = SeatAccount::of(&left, handed, self.shared.maker.keep());
+        self.events.gives_up_seat(&self.rt, &account);
+        self.left = Some(LeftSeat {
+            seat,
+            left,
+            handover,
+        });
+        if !waits {
+            self.settle_seat();
+        }
+    }
+
+    /// Closes the account of the seat that was left last, by what the socket has taken by now, and tells of it.
+    pub(super) fn settle_seat(&mut self) {
+        let Some(
+            LeftSeat {
+                seat,
+                left,
+                handover,
+            },
+        ) = self.left.take()
+        else {
+            return;
+        };
+        let taken = self.player.writing.taken(&self.rt);
+        let account = SeatAccount::of(&left, handover.handed(taken), self.shared.maker.keep());
+        self.counts.add_out(&account);
+        self.events.leaves(&self.part, seat, &account);
+    }
+
+    /// A session begins, in which the connection has this part: its account is its own.
+    pub(super) fn begin_account(&mut self, part: Option<Part>) {
+        self.close_account();
+        self.part = part;
+        self.has_account = true;
+        self.is_stranded = false;
+    }
+
+    /// Tells the account of a session that has ended, if it isn't told yet.
+    pub(super) fn close_account(&mut self) {
+        if !self.has_account {
+            return;
+        }
+        self.settle_seat();
+        self.has_account = false;
+        let counts = self.counts.end();
+        self.events.account(&self.rt, self.part.as_ref(), &counts);
     }
 
     /// The mount has ended: no packet comes any more.
     pub(super) fn end_mount(&mut self) {
         if let Some(publishing) = self.publishing.take() {
-            self.counts.add_wait(publishing.feed.end());
+            let Publishing { feed, notes: _ } = publishing;
+            self.counts.add_wait(feed.end());
             self.events.ended(&self.rt, &self.counts);
         }
         if let Some(mount) = self.mount.take() {
@@ -207,29 +270,31 @@ where
         }
     }
 
-    fn write_reply(&self, reply: &Reply) -> Result<(), ConnectionEnd> {
+    fn write_reply(&mut self, reply: &Reply) -> Result<(), ConnectionEnd> {
         let mut text = Vec::new(self.alloc);
-        match put_reply(&mut text, reply) {
-            Ok(()) => match self
-                .player
-                .write(&self.rt, &self.shared.wake_signal, text.as_slice())
-            {
-                Ok(()) => Ok(()),
-                Err(_) => Err(ConnectionEnd::WriteFailed),
-            },
-            Err(_) => self.write_plain(Status::ServiceUnavailable, reply.cseq),
+        if put_reply(&mut text, reply).is_err() {
+            return self.write_plain(Status::ServiceUnavailable, reply.cseq);
+        }
+        let written = self
+            .player
+            .write(&self.rt, &self.shared.wake_signal, text.as_slice());
+        self.settle_seat();
+        match written {
+            Ok(()) => Ok(()),
+            Err(_) => Err(ConnectionEnd::WriteFailed),
         }
     }
 
     pub(super) fn write_plain(
-        &self,
+        &mut self,
         status: Status,
         cseq: Option<u32>,
     ) -> Result<(), ConnectionEnd> {
-        match self
+        let written = self
             .player
-            .write_plain(&self.rt, &self.shared.wake_signal, status, cseq)
-        {
+            .write_plain(&self.rt, &self.shared.wake_signal, status, cseq);
+        self.settle_seat();
+        match written {
             Ok(()) => Ok(()),
             Err(_) => Err(ConnectionEnd::WriteFailed),
         }

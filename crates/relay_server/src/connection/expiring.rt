@@ -31,14 +31,21 @@ where
         if !has_session {
             self.session = None;
         }
-        match act {
-            Some(Act::Stop { .. }) => self.stop_playing(),
+        let stopped = match act {
+            Some(Act::Stop { .. }) => {
+                self.is_stranded = true;
+                self.stop_playing()
+            }
             Some(Act::End) => {
                 self.end_mount();
                 Ok(())
             }
             Some(Act::None | Act::Open | Act::Play { .. } | Act::Record) | None => Ok(()),
+        };
+        if !has_session && self.left.is_none() {
+            self.close_account();
         }
+        stopped
     }
 
     /// How the connection ends whose reads have failed: by its silence, where that made them fail.

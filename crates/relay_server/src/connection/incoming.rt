@@ -1,12 +1,13 @@
 //! What comes in between a connection's requests.
-ghost use Rattle.std.specs.Prelude.{◌≡◌, true, IfSome, IsSomeAnd};
+ghost use Rattle.std.specs.Prelude.{◌≡◌, true, IfSome, IsSomeAnd, option_map};
 ghost use Rattle.pacing.specs.Insisting.{PublishesAtLast};
 ghost use Rattle.relay_accounts.specs.Incoming.{DropsFrames, PublishesFrames};
 
 use crate::connection::Connection;
+use crate::frame_notes::Publishing;
 use crate::gate::Gate;
 use interleaved::{Sink, Source};
-use publisher::{InReport, InStop};
+use publisher::InStop;
 use relay_accounts::{publish_frames, skip_frames};
 use relay_fanout::{HangUp, Maker};
 use rtsp_message::Intake;
@@ -28,24 +29,17 @@ where
 {
     /// The next request. Frames before it are published while the session records, and else dropped.
     pub(super) fn next_message<S: Source + Drop>(&mut self, intake: &mut Intake<S>) -> InStop
-        ensures published { IfSome self.old.session (λ session. session.is_recording ≡ true → IfSome self.old.publishing (λ feed. PublishesFrames S.incoming S.failed (PublishesAtLast M.In.publish_gives) session.channels (M.In.packet_bytes feed.feed) M.In.may_refuse intake.old intake.new feed self.new.publishing self.old.counts self.new.counts result)) }
+        ensures published { IfSome self.old.session (λ session. session.is_recording ≡ true → IfSome self.old.publishing (λ p. PublishesFrames S.incoming S.failed (PublishesAtLast M.In.publish_gives) session.channels (M.In.packet_bytes p.feed.feed) M.In.may_refuse intake.old intake.new p.feed (option_map (λ q. q.feed) self.new.publishing) self.old.counts self.new.counts result)) }
         ensures dropped { (IsSomeAnd self.old.session (λ session. session.is_recording ≡ true) → ⊥) → (self.new.publishing ≡ self.old.publishing) × DropsFrames S.incoming S.failed intake.old intake.new self.old.counts self.new.counts result }
     {
         match (&mut self.publishing, &self.session) {
-            (Some(feed), Some(session)) if session.is_recording => {
-                let report = publish_frames(intake, feed, &session.channels);
+            (Some(publishing), Some(session)) if session.is_recording => {
+                let Publishing { feed, notes } = publishing;
+                let report = publish_frames(intake, feed, &session.channels, notes);
                 self.counts.add_in(&report);
-                self.hear_unoffered(&report);
                 report.stop
             }
             _ => skip_frames(intake, &mut self.counts, &self.hearing.watch().heard),
-        }
-    }
-
-    /// Frames that were offered to no feed are heard when this is told of them.
-    fn hear_unoffered(&self, report: &InReport) {
-        if report.strangers > 0 || report.bad_rtp > 0 {
-            self.hearing.watch().heard.note();
         }
     }
 }

@@ -127,8 +127,8 @@ const PAUSE: u64 = 60;
 
 const SINGLY: usize = 40;
 
-/// Where its mount ended a while ago, a player that takes a byte now and then is sent what it had taken, and has lost what its ring had
-/// for it beside that.
+/// Where its mount ended a while ago, a player that takes a byte now and then is sent what it had taken, and leaves what its ring had for
+/// it beside that.
 fn is_given_up_after_its_mounts_end<R>(rt: R, alloc: Global)
 where
     R: Threads + Wait + Clock + Abort + Copy + Drop + Send + Sync + 'static,
@@ -166,13 +166,13 @@ where
     assert!(rt; bytes.lock(&rt).as_slice() == first);
     let want = Left {
         taken: u64::from(BEFORE),
-        lost: u64::from(LATE),
-        left: 0,
+        lost: 0,
+        left: u64::from(LATE),
     };
     assert!(rt; left == Some(want));
 }
 
 #[test]
-fn a_player_that_takes_too_long_after_its_mounts_end_has_lost_the_rest(rt: HostRuntime) {
+fn a_player_that_takes_too_long_after_its_mounts_end_leaves_the_rest(rt: HostRuntime) {
     is_given_up_after_its_mounts_end(rt, rt.alloc());
 }

@@ -1,6 +1,6 @@
 //! Command lines, accepted and refused, and what they ask for.
 use clap::Error;
-use relay_command::{Asked, Settings, Task, exit_code, read_words, task_named};
+use relay_command::{Asked, SendBuffer, Settings, Task, exit_code, read_words, task_named};
 use relay_talk::{NoWords, WordSource, word_source};
 use ring_steps::Actor;
 use std::alloc::Global;
@@ -21,6 +21,8 @@ const DEFAULTS: Settings = Settings {
     is_direct: false,
     is_verbose: false,
     report: None,
+    send_buffer: SendBuffer::Default,
+    until_eof: false,
 };
 
 /// What is said of a line has to hold.
@@ -43,10 +45,24 @@ fn settings(alloc: Global, line: &str) -> Result<Option<Settings>, Fail> {
 }
 
 /// Lines of `serve`, and what they ask for.
-const ACCEPTED: [(&str, Settings); 14] = [
+const ACCEPTED: [(&str, Settings); 16] = [
+    (
+        "relay serve a --send-buffer 0",
+        Settings {
+            send_buffer: SendBuffer::System,
+            ..DEFAULTS
+        },
+    ),
+    (
+        "relay serve a --until-eof",
+        Settings {
+            until_eof: true,
+            ..DEFAULTS
+        },
+    ),
     ("relay serve 127.0.0.1:8554", DEFAULTS),
     (
-        "relay serve a --keep 1 --seats 1 --packet-bytes 12 --accept 1 --gather 0 --back 0 --idle 0 --writers 0 --direct --report 1",
+        "relay serve a --keep 1 --seats 1 --packet-bytes 12 --accept 1 --gather 0 --back 0 --idle 0 --writers 0 --direct --report 1 --send-buffer 16384",
         Settings {
             keep: 1,
             seats: 1,
@@ -60,10 +76,12 @@ const ACCEPTED: [(&str, Settings); 14] = [
             is_direct: true,
             is_verbose: false,
             report: Some(1),
+            send_buffer: SendBuffer::Bytes(16_384),
+            until_eof: false,
         },
     ),
     (
-        "relay serve --keep 4095 --seats 1024 --packet-bytes 65535 --accept 18446744073709551615 --gather 100 --back 4095 --hang-up-ended --idle 65535 --writers 64 --verbose --report 86400 a",
+        "relay serve --keep 4095 --seats 1024 --packet-bytes 65535 --accept 18446744073709551615 --gather 100 --back 4095 --hang-up-ended --idle 65535 --writers 64 --verbose --report 86400 --send-buffer 4194304 --until-eof a",
         Settings {
             keep: 4095,
             seats: 1024,
@@ -77,6 +95,8 @@ const ACCEPTED: [(&str, Settings); 14] = [
             is_direct: false,
             is_verbose: true,
             report: Some(86_400),
+            send_buffer: SendBuffer::Bytes(4_194_304),
+            until_eof: true,
         },
     ),
     (
@@ -167,7 +187,11 @@ fn a_server_does_what_its_line_says(rt: HostRuntime) -> Result<(), Fail> {
 }
 
 /// Lines of `serve` that are refused: no address, two of them, a number that is out of its range or none.
-const REFUSED: [&str; 26] = [
+const REFUSED: [&str; 30] = [
+    "relay serve a --send-buffer 1",
+    "relay serve a --send-buffer 16383",
+    "relay serve a --send-buffer 4194305",
+    "relay serve a --until-eof yes",
     "relay serve",
     "relay serve a b",
     "relay serve a --keep 0",
@@ -326,19 +350,21 @@ Arguments:
   <ADDR>  Where to listen, as 127.0.0.1:8554; port 0 takes a free one
 
 Options:
-      --keep <N>          How many packets a mount keeps for players that are behind, 1 to 4095 [default: 512]
-      --seats <N>         How many players a mount has, 1 to 1024 [default: 64]
-      --packet-bytes <N>  The longest packet, in bytes, 12 to 65535 [default: 16384]
-      --accept <N>        End when N connections were accepted and have ended
-      --gather <MS>       For how long packets gather before players are woken, 0 to 100 milliseconds [default: 5]
-      --back <N>          How many of the kept packets a new player is given at once, 0 to 4095; above 0 without RTP-Info; near --keep a fast publisher makes it lose some, and has packets refused while it copies [default: 0]
-      --hang-up-ended     Hang a player up once the last packet of its mount was written
-      --idle <SECONDS>    Hang up who says nothing for so long without a session, 0 to 65535, where 0 is never [default: 300]
-      --writers <N>       How many threads send frames, 0 to 64, where 0 gives each player its own [default: one a processor]
-      --direct            Send each packet from its place in the ring, with --writers 0: who reads nothing may then stop its mount, whose packets are refused, for up to 20 seconds
-      --verbose           Tell of each mount and each player on standard error
-      --report <SECONDS>  Tell each mount's packets and each player's losses so often on standard error, 1 to 86400
-  -h, --help              Print help
+      --keep <N>             How many packets a mount keeps for players that are behind, 1 to 4095 [default: 512]
+      --seats <N>            How many players a mount has, 1 to 1024 [default: 64]
+      --packet-bytes <N>     The longest packet, in bytes, 12 to 65535 [default: 16384]
+      --accept <N>           End when N connections were accepted and have ended
+      --gather <MS>          For how long packets gather before players are woken, 0 to 100 milliseconds [default: 5]
+      --back <N>             How many of the kept packets a new player is given at once, 0 to 4095; above 0 without RTP-Info; near --keep a fast publisher makes it lose some, and has packets refused while it copies [default: 0]
+      --hang-up-ended        Hang a player up once the last packet of its mount was written
+      --idle <SECONDS>       Hang up who says nothing for so long without a session, 0 to 65535, where 0 is never [default: 300]
+      --writers <N>          How many threads send frames, 0 to 64, where 0 gives each player its own [default: one a processor]
+      --direct               Send each packet from its place in the ring, with --writers 0: who reads nothing may then stop its mount, whose packets are refused, for up to 20 seconds
+      --verbose              Tell of each mount and each player on standard error
+      --report <SECONDS>     Tell each mount's packets and each player's losses so often on standard error, 1 to 86400
+      --send-buffer <BYTES>  The send buffer that the system is asked for, in bytes, 16384 to 4194304, or 0 for its own; Linux holds up to twice as many: more keeps bursts, less keeps the picture live [default: 524288 if the system grants it, else 0]
+      --until-eof            End when standard input ends, and first log what each connection lost and a last report
+  -h, --help                 Print help
 
 Examples:
 

@@ -1,0 +1,91 @@
+//! The mounts that live, for the lines that tell of them.
+use base_syntax::Bytes;
+use std::alloc::{AllocError, Global};
+use std::net::SocketAddr;
+use std::sync::{Mutex, Wait};
+
+/// As many mounts may live at a time.
+const MOST_MOUNTS: usize = 64;
+
+/// A mount that lives, and who publishes it.
+#[derive(Drop)]
+pub(crate) struct PublishedMount {
+    conn: u64,
+    pub(crate) name: Bytes,
+    pub(crate) peer: SocketAddr,
+}
+
+impl PublishedMount {
+    fn copy(&self, alloc: Global) -> Result<PublishedMount, AllocError> {
+        Ok(PublishedMount {
+            conn: self.conn,
+            name: Bytes::from_slice(alloc, self.name.as_slice())?,
+            peer: self.peer,
+        })
+    }
+
+    /// Whether a path is the mount's name, or begins with it before a slash.
+    fn is_named_by(&self, path: &[u8]) -> bool {
+        let name = self.name.as_slice();
+        match path.strip_prefix(name) {
+            Some(rest) => rest.is_empty() || rest.first() == Some(&b'/'),
+            None => false,
+        }
+    }
+}
+
+/// The mounts that live, with the addresses of their publishers: what is told with a refusal. What the book decides by is its
+/// own. The lock is held for a walk over the mounts, and no other is taken meanwhile.
+pub(crate) struct PublishedMounts {
+    alloc: Global,
+    mounts: Mutex<Vec<PublishedMount>>,
+}
+
+impl Drop for PublishedMounts {
+    fn drop(self) {
+        let PublishedMounts {
+            alloc: _,
+            mounts: _,
+        } = self;
+    }
+}
+
+impl PublishedMounts {
+    /// No mount lives.
+    pub(crate) fn new(alloc: Global) -> Result<PublishedMounts, AllocError> {
+        Ok(PublishedMounts {
+            alloc,
+            mounts: Mutex::new(Vec::with_capacity(alloc, MOST_MOUNTS)?),
+        })
+    }
+
+    /// A connection of this peer has announced a mount. Without memory for it nothing is told of it.
+    pub(crate) fn add(&self, rt: &impl Wait, conn: u64, name: &[u8], peer: SocketAddr) {
+        if let Ok(name) = Bytes::from_slice(self.alloc, name) {
+            let _ = self
+                .mounts
+                .lock(rt)
+                .push(PublishedMount { conn, name, peer });
+        }
+    }
+
+    /// The mount of a connection has ended.
+    pub(crate) fn remove(&self, rt: &impl Wait, conn: u64) {
+        self.mounts.lock(rt).retain(|mount| mount.conn != conn);
+    }
+
+    /// The mount that a path names: the whole path is its name, or else the longest beginning before a slash that is one.
+    pub(crate) fn find(&self, rt: &impl Wait, path: &[u8]) -> Option<PublishedMount> {
+        let mounts = self.mounts.lock(rt);
+        let mut found = None;
+        let mut longest = 0;
+        for (place, mount) in mounts.iter().enumerate() {
+            let length = mount.name.len();
+            if length > longest && mount.is_named_by(path) {
+                longest = length;
+                found = Some(place);
+            }
+        }
+        mounts.get(found?)?.copy(self.alloc).ok()
+    }
+}

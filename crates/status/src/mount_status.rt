@@ -1,0 +1,54 @@
+//! What a mount has come to.
+ghost use Rattle.std.specs.Prelude.{◌≡◌};
+ghost use Rattle.status.specs.Silences.{silent_for};
+
+use base_syntax::Bytes;
+use relay_accounts::MountTally;
+use std::fmt;
+use std::net::SocketAddr;
+
+/// A mount that is recorded, and what it has come to.
+#[derive(Drop)]
+pub struct MountStatus {
+    pub name: Bytes,
+    /// The address of its publisher.
+    pub publisher: SocketAddr,
+    /// How many players have a seat.
+    pub players: usize,
+    /// What became of the frames that came since it was announced.
+    pub tally: MountTally,
+    /// How many milliseconds ago its last packet came, or its first RECORD if none came.
+    pub silence: u64,
+}
+
+/// The line that tells what came to a mount since it was told of last.
+#[derive(Drop)]
+pub struct MountLine<'a> {
+    pub status: &'a MountStatus,
+    pub since: MountTally,
+}
+
+/// For how many whole seconds a mount is said to be silent. `None` up to two seconds.
+pub fn silent_seconds(milliseconds: u64) -> Option<u64>
+    ensures { result ≡ silent_for milliseconds }
+{
+    let seconds = milliseconds / 1_000;
+    if seconds > 2 { Some(seconds) } else { None }
+}
+
+impl fmt::Display for MountLine<'_> {
+    fn fmt<W: fmt::Write>(&self, f: &mut fmt::Formatter<W>) -> fmt::Result {
+        write!(
+            f,
+            "mount {}: publisher {}, players {}, {}",
+            self.status.name.as_slice().escape_ascii(),
+            self.status.publisher,
+            self.status.players,
+            self.since
+        )?;
+        match silent_seconds(self.status.silence) {
+            Some(seconds) => write!(f, ", silent {seconds} s"),
+            None => Ok(()),
+        }
+    }
+}

@@ -1,0 +1,82 @@
+//! What a player has come to.
+ghost use Rattle.std.specs.Prelude.{◌≡◌, ◌-◌};
+
+use base_syntax::Bytes;
+use std::fmt;
+use std::net::SocketAddr;
+
+/// A player that has a seat, and what it has come to there, in packets.
+#[derive(Drop)]
+pub struct PlayerStatus {
+    pub peer: SocketAddr,
+    /// The name of its mount.
+    pub mount: Bytes,
+    pub seat: usize,
+    /// How many its socket took.
+    pub sent: u64,
+    /// How many it has lost at least.
+    pub lost: u64,
+    /// How many were published and not taken for it yet.
+    pub behind: u64,
+}
+
+/// What was told of a player, in packets.
+#[derive(Clone, Copy, Debug, PartialEq, Eq, Drop)]
+pub struct PlayerTold {
+    pub sent: u64,
+    pub lost: u64,
+}
+
+/// The line that tells what a player was sent and lost since it was told of last.
+#[derive(Drop)]
+pub struct PlayerLine<'a> {
+    pub status: &'a PlayerStatus,
+    pub since: PlayerTold,
+}
+
+impl PlayerTold {
+    /// Nothing was told.
+    pub fn nothing() -> PlayerTold
+        ensures { result ≡ record { sent = 0; lost = 0 } }
+    {
+        PlayerTold { sent: 0, lost: 0 }
+    }
+
+    /// What was sent and lost since an earlier telling.
+    pub fn since(self, earlier: PlayerTold) -> PlayerTold
+        ensures { result ≡ record { sent = self.sent - earlier.sent; lost = self.lost - earlier.lost } }
+    {
+        PlayerTold {
+            sent: self.sent.saturating_sub(earlier.sent),
+            lost: self.lost.saturating_sub(earlier.lost),
+        }
+    }
+}
+
+impl PlayerStatus {
+    /// What is told of it now.
+    pub fn told(&self) -> PlayerTold
+        ensures { result ≡ record { sent = self.now.sent; lost = self.now.lost } }
+    {
+        PlayerTold {
+            sent: self.sent,
+            lost: self.lost,
+        }
+    }
+}
+
+impl fmt::Display for PlayerLine<'_> {
+    fn fmt<W: fmt::Write>(&self, f: &mut fmt::Formatter<W>) -> fmt::Result {
+        write!(
+            f,
+            "{}: seat {} of {}: sent {}, lost {}, in all {}, behind {}",
+            self.status.peer,
+            self.status.seat,
+            self.status.mount.as_slice().escape_ascii(),
+            self.since.sent,
+            self.since.lost,
+            self.status.lost,
+            self.status.behind
+        )
+    }
+}
