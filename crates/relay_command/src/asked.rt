@@ -1,5 +1,5 @@
 //! A command line, from its words to what it asks for.
-ghost use Rattle.std.specs.Prelude.{◌≡◌, ◌↔◌, IfOk, IfErr, IsTrue};
+ghost use Rattle.std.specs.Prelude.{◌≡◌, IfOk, IfErr, IsTrue};
 ghost use Rattle.clap.specs.Values.{kind_of};
 ghost use Rattle.clap.specs.declared.error.kind.ErrorKind.TheVariants.{ArgumentConflict, ValueValidation};
 ghost use Rattle.std.specs.Option.{option_copied};
@@ -102,7 +102,8 @@ const LEAST_SEND_BUFFER: u32 = 16_384;
 
 /// Whether a send buffer that is asked for is too short.
 fn is_short(buffer: SendBuffer) -> bool
-    ensures { IsTrue result ↔ (HasRoomToSend buffer → ⊥) }
+    ensures short { IsTrue result → HasRoomToSend buffer → ⊥ }
+    ensures long { (IsTrue result → ⊥) → HasRoomToSend buffer }
 {
     match buffer {
         SendBuffer::Bytes(bytes) => bytes < LEAST_SEND_BUFFER,
