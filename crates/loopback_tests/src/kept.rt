@@ -90,3 +90,17 @@ impl<R: Clock> Clock for Kept<R> {
         self.rt.sleep(duration)
     }
 }
+
+/// Whether just one of these lines tells how a connection ended, and is this one.
+pub(crate) fn is_only_end(lines: &[String], told: &str) -> bool {
+    let mut count = 0usize;
+    for line in lines {
+        if line.as_str().starts_with("[WARN  relay_server::server] ") {
+            if line.as_str() != told {
+                return false;
+            }
+            count = count.saturating_add(1);
+        }
+    }
+    count == 1
+}

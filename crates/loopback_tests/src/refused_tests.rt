@@ -1,5 +1,5 @@
 //! Accepts and threads that are refused.
-use crate::kept::Kept;
+use crate::kept::{Kept, is_only_end};
 use crate::loopback::{Client, Set, listening, start, start_on};
 use crate::scripted::{SETUP_OUT, passes_on, play, plays_at_last, publisher};
 use crate::serving_tests::two_clients_ask;
@@ -170,9 +170,11 @@ fn a_player_without_a_thread_for_its_frames_is_let_go(rt: HostRuntime) {
     let first = seat_is_free_again(&rt, alloc, server.addr);
     server.end(&rt);
     let lines = served.lines().expect(&rt, "memory");
-    let told = format!(in alloc; "[WARN  relay_server::server] {first}: no thread for its frames");
+    let told = format!(in alloc;
+        "[WARN  relay_server::server] {first}: player of cam: no thread for its frames (connection 2)"
+    );
     let told = told.expect(&rt, "memory");
-    assert!(rt; lines.len() == 1 && lines.iter().all(|line| line.as_str() == told.as_str()));
+    assert!(rt; is_only_end(lines.as_slice(), told.as_str()));
 }
 
 /// Starts each thread that all connections share but the one of this number, counted from 0.
