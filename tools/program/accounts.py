@@ -210,7 +210,7 @@ def disconnected(program, options, ends_before):
             yield f"one that reads {it.most} is told {ends_told(server, it.address)}"
 
 
-# So many packets are published to a player of one of two tracks, which reads all, and so many then, of which it reads none.
+# How many packets are published to a player of one of two tracks: first those that it all reads, then those of which it reads none.
 READ, UNREAD = 40, 2_000
 
 

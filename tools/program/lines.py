@@ -84,7 +84,7 @@ def publish_to_one_that_stalls(server):
 
 
 def adds_up(server, camera, player):
-    """Reports count all that was offered to the mount, and what the player lost, also in all by then: as much as its account."""
+    """Reports count all that was offered to the mount, and what the player lost, since then and in all: the sums are those of its account."""
     told = mounts_reported(server.lines)
     packets, size, pinned = (sum(it[word] for it in told) for word in ("packets", "bytes", "pinned"))
     if packets + pinned != PACKETS or size != packets * LARGE or {it["publisher"] for it in told} != {camera}:
@@ -122,7 +122,7 @@ def last_report_adds_up(program, *options):
         yield f"there isn't just one report: {server.lines}"
 
 
-# So many packets are more than a socket takes, and the ring keeps them all.
+# More packets than a socket takes; the ring keeps them all.
 KEPT = 200
 
 
@@ -230,7 +230,7 @@ def silence_is_hung_up(program, *options):
         yield f"it tells {server.lines}"
 
 
-# So many frames of each kind, and the word that counts them: packets, those that are too long, no RTP, and those of no track.
+# How many frames of each kind come, and the word that counts them: packets, those that are too long, no RTP, and those of no track.
 KINDS = ("packets", 5, packet(7)), ("long", 7, packet(7, 101)), ("bad", 3, bytes(12)), ("unknown", 2, packet(7))
 
 
@@ -275,7 +275,7 @@ def silent_camera_is_reported(program):
 
 
 def slowed_camera_is_reported(program, *options):
-    """For how long a camera waits for its players is told in reports while it goes on, in all as much as in its account."""
+    """For how long a camera waits for its players is in the reports while it goes on; the sum is that of its account."""
     with ending(program, 2, "--report", "1", "--keep", "128", "--seats", "1", *GATHER, *options) as server, Camera(server) as camera:
         name = camera.name()
         with Player(server) as player, concurrent.futures.ThreadPoolExecutor(1) as pool:
@@ -293,7 +293,7 @@ def slowed_camera_is_reported(program, *options):
         yield f"reports tell of {in_reports} ms, and its account of {last}"
 
 
-# A player reads half of so many packets of 1,200 bytes: in the end it is 2.4 MB behind.
+# How many packets of 1,200 bytes are published, half of which a player reads: in the end it is 2.4 MB behind.
 STEADY, STEP = 4_000, 100
 
 

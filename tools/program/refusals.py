@@ -16,7 +16,7 @@ UDP = "Transport: RTP/AVP;unicast;client_port=5000-5001"
 # How many mounts there may be.
 MOUNTS = 64
 
-# How many names nobody publishes are asked for.
+# How many unpublished names are asked for.
 MISSPELT = 1_000
 
 
@@ -33,7 +33,7 @@ def refused(server):
 
 def ask_in_vain(server, camera, other):
     """Another peer asks for what it is refused, of a mount that has no free seat. What the lines about it are, in order: method, name and
-    status. Of a name that nobody publishes none is known to be a track's."""
+    status. No part of an unpublished name is known to be a track's."""
     asked = []
     for method, path, name, status, times, fields, body in (
         ("ANNOUNCE", "cam", "cam", 403, 3, (), SDP),
@@ -66,7 +66,7 @@ def refusals_are_told_by_mount_and_status(program, *options):
 
 
 def misspelt_names_are_told_as_others(program):
-    """A thousand names that nobody publishes have one line."""
+    """A thousand unpublished names have one line."""
     with ending(program, 1) as server, Peer(server) as peer:
         name = peer.name()
         for place in range(MISSPELT):
@@ -131,17 +131,17 @@ def each_refusal_has_its_line(program):
         yield f"no line tells of a RECORD of a player: {server.lines}"
 
 
-# So many faults come from one address, of which ten a second have a line. What is told of the others.
+# How many faults come from one address, of which ten a second have a line, and the line that counts the others.
 FAULTS, A_SECOND = 300, 10
 
 NOT_TOLD = re.compile(
     r"\[WARN  relay_server::refusing\] (\d+) ends weren't told, of addresses with more than ten a second: stream fault"
 )
 
-# So many addresses have one fault each. In a second the first 256 of them may have ten lines each, and all others ten together.
+# How many addresses have one fault each. In a second the first 256 of them may have ten lines each, and all others ten together.
 ADDRESSES, KNOWN = 600, 256
 
-# For at least so many seconds after the first line about refused requests there is no other one of them.
+# The least time between two lines about the same refused requests, in seconds.
 MINUTE = 60
 
 

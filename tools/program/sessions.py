@@ -68,7 +68,7 @@ def strangers_are_no_loss(program, *options):
             yield f"{told} tells {server.lines}"
 
 
-# So long a camera sends frames of no track and nothing else: longer than a session may be silent.
+# How many seconds a camera sends frames of no track and nothing else: more than a session may be silent.
 SECONDS = 65
 
 
@@ -88,7 +88,7 @@ def frames_of_no_track_are_told(program):
         yield f"of {sent} frames is told {server.lines}"
 
 
-# A session expires after 60 seconds. For so long the server's process is held.
+# A session expires after 60 seconds. How many seconds the server's process is held.
 HELD = 62
 
 

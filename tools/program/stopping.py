@@ -18,7 +18,7 @@ from peers import wanted
 
 RUN = pathlib.Path(__file__).resolve().parent.parent.parent / "dist/run.sh"
 
-# Within how many seconds a server ends: if its lines are read, if nobody reads them, and if it has to be killed.
+# Within how many seconds a server ends: if its lines are read, if they aren't, and if it has to be killed.
 SOON, UNREAD, KILLED = 3, 5, 8
 
 # All connections have an account, and a report comes in the end alone.
@@ -42,12 +42,12 @@ class Stoppable(Server):
         self.process.stdin.close()
 
     def status(self, seconds):
-        """Its status, or None if it doesn't end within so many seconds."""
+        """Its status, or None if it doesn't end within this time in seconds."""
         with contextlib.suppress(subprocess.TimeoutExpired):
             return self.process.wait(seconds)
 
     def is_told(self, seconds=SOON):
-        """Whether nobody holds its standard error within so many seconds: all that it wrote is read then."""
+        """Whether its standard error is closed within this time in seconds: all that it wrote is read then."""
         self.reader.join(seconds)
         return not self.reader.is_alive()
 
@@ -182,7 +182,7 @@ def losses_are_told_unasked(program, *options):
 
 
 def accounts_of(count, program, options):
-    """It stops with the connections of so many players: the account of each is told."""
+    """It stops with this number of connected players: the account of each is logged."""
     with stoppable(program, "--until-eof", "--verbose", *options) as server, contextlib.ExitStack() as peers:
         camera = peers.enter_context(Camera(server))
         players = [peers.enter_context(Player(server, plays=False)) for _ in range(count)]
@@ -220,7 +220,7 @@ def refuse_many(server, peer):
             wanted(peer.reply(), 404)
 
 
-# So many connections come and go, a third of which play.
+# How many connections come and go, a third of which play.
 GONE = 300
 
 
@@ -246,7 +246,7 @@ def closed_connections_leave_no_descriptor(program, *options):
 
 
 def lines_nobody_reads_hold_up_no_stop(program):
-    """It ends in time also if nobody reads its lines."""
+    """It ends in time even if its lines aren't read."""
     with stoppable(program, "--until-eof", *TELLING, reads=False) as server, Camera(server), Peer(server) as peer:
         refuse_many(server, peer)
         begun = time.monotonic()

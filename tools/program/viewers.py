@@ -5,7 +5,7 @@ from dataclasses import dataclass, field
 
 from peers import OUT, Player, frame, numbers_in
 
-# So many packets are a round.
+# How many packets a round has.
 ROUND = 150
 
 # How many packets of a round a player reads.
@@ -72,7 +72,7 @@ class Viewer(Player):
             raise AssertionError(f"{method} of one that {self.way}: {len(self.replies)} of {self.asked} replies, {self.replies[-3:]}")
 
     def reads(self, seconds, is_enough):
-        """Reads until that is enough, nothing comes for so many seconds, or the end comes."""
+        """Reads until that is enough, nothing comes for this time in seconds, or the end comes."""
         self.socket.settimeout(seconds)
         with contextlib.suppress(TimeoutError, ConnectionResetError):
             while not is_enough() and (piece := self.socket.recv(1 << 14)):
