@@ -18,6 +18,8 @@ pub enum Fault {
     BadEscape,
     /// A number that is missing, or isn't one, or is too large.
     BadNumber,
+    /// An address that is missing, or isn't one.
+    BadAddress,
     /// More stands after a call than it takes.
     MoreArguments,
     /// What goes in of a kind that has no such input.
@@ -45,6 +47,7 @@ impl fmt::Display for Fault {
             Fault::UnknownWord => "unknown word",
             Fault::BadEscape => "bad escape",
             Fault::BadNumber => "bad number",
+            Fault::BadAddress => "bad address",
             Fault::MoreArguments => "more arguments than the call takes",
             Fault::NoInput => "no lines go in here",
             Fault::NoStep => "nothing goes in before",

@@ -9,18 +9,20 @@ pub enum Kind {
     Sdp,
     Header,
     Mounts,
+    Networks,
     Log,
     Steps,
 }
 
 /// All kinds, in the order in which they are told.
-pub const KINDS: [Kind; 8] = [
+pub const KINDS: [Kind; 9] = [
     Kind::Book,
     Kind::Stream,
     Kind::Reply,
     Kind::Sdp,
     Kind::Header,
     Kind::Mounts,
+    Kind::Networks,
     Kind::Log,
     Kind::Steps,
 ];
@@ -35,6 +37,7 @@ impl Kind {
             Kind::Sdp => "sdp",
             Kind::Header => "header",
             Kind::Mounts => "mounts",
+            Kind::Networks => "networks",
             Kind::Log => "log",
             Kind::Steps => "steps",
         }

@@ -14,6 +14,7 @@ mod kind;
 mod lines;
 mod log_cases;
 mod mount_cases;
+mod network_cases;
 mod reply_cases;
 mod running;
 mod step;

@@ -8,6 +8,7 @@ use crate::header_cases::HeaderCase;
 use crate::kind::Kind;
 use crate::log_cases::LogCase;
 use crate::mount_cases::MountCase;
+use crate::network_cases::call_networks;
 use crate::reply_cases::call_reply;
 use crate::step::Input;
 use crate::steps_cases::tell_steps;
@@ -26,6 +27,7 @@ pub enum Subject {
     Sdp,
     Header(HeaderCase),
     Mounts(MountCase),
+    Networks,
     Log(LogCase),
     Steps,
 }
@@ -45,6 +47,7 @@ impl Subject {
             Kind::Sdp => Subject::Sdp,
             Kind::Header => Subject::Header(HeaderCase::new()),
             Kind::Mounts => Subject::Mounts(MountCase::new(alloc, hasher)?),
+            Kind::Networks => Subject::Networks,
             Kind::Log => Subject::Log(LogCase::new()),
             Kind::Steps => Subject::Steps,
         })
@@ -75,7 +78,9 @@ impl Subject {
             Subject::Sdp => Ok(tell_description(bytes, told)?),
             Subject::Mounts(case) => Ok(case.describe(bytes)?),
             Subject::Steps => Ok(tell_steps(bytes, told)?),
-            Subject::Reply | Subject::Header(_) | Subject::Log(_) => Err(Fault::NoInput),
+            Subject::Reply | Subject::Header(_) | Subject::Networks | Subject::Log(_) => {
+                Err(Fault::NoInput)
+            }
         }
     }
 
@@ -92,6 +97,7 @@ impl Subject {
             Subject::Reply => call_reply(word, arguments, told),
             Subject::Header(case) => case.call(word, arguments, told),
             Subject::Mounts(case) => case.call(word, arguments, told),
+            Subject::Networks => call_networks(word, arguments, told),
             Subject::Log(case) => case.call(word, arguments, told),
             Subject::Stream(_) | Subject::Sdp | Subject::Steps => Err(Fault::UnknownWord),
         }
