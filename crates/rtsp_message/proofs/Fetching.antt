@@ -1,9 +1,11 @@
 -- An intake that has bytes to read on with.
-use Rattle.std.proofs.Common.{◌≡◌, ◌+◌, ◌≤◌, ◌<◌, ℕ, false, List, ◌++◌, Option, length, take}
+use Rattle.std.proofs.Common.{◌≡◌, ◌+◌, ◌-◌, ◌≤◌, ◌<◌, ℕ, false, List, ◌++◌, Option, length, take, drop}
 use Rattle.std.specs.List.{concat}
 use Rattle.std.specs.Io.KnownBytes.{Consumes}
 use Rattle.std.specs.Vec.Iter.{into_iter_items}
 use Rattle.rtsp_message.specs.declared.intake.Intake.TheInside.{Inside}
+use Rattle.rtsp_message.specs.declared.unit.Unit.{Unit as StreamUnit}
+use Rattle.rtsp_message.specs.Stream.{Ending, ReadsOn}
 use Rattle.rtsp_message.specs.Intakes.{IntakeState, Gave, ReadsOnce}
 use Rattle.rtsp_message.specs.IntakeFields.{state_of}
 
@@ -16,10 +18,20 @@ pub record Fetched {S : Type 0} (incoming : S → Option (List ℕ)) (bound : S 
   pub came : Gave gives old.source pieces i.source
   pub whole : concat pieces ≡ read
   pub once : ReadsOnce gives old (state_of i)
-  pub held : take i.held i.piece ≡ old.held ++ read
+  pub held : drop i.from (take i.held i.piece) ≡ old.held ++ read
   pub reading : i.reader.reading ≡ old.reading
   pub queue : into_iter_items i.units ≡ old.queue
   pub within : i.held ≤ 65536
-  pub some : 0 < length (take i.held i.piece)
+  pub fits : i.held ≤ length i.piece
+  pub some : i.from < i.held
   pub was_going : old.ended ≡ false
   pub going : i.ended ≡ false
+
+-- A part of the piece was fed, from where the reader had come to. What is left of the piece is held.
+pub record FedPart (from end held : ℕ) (piece : List ℕ) (old : Ending) (units : List StreamUnit) (new : Ending) : Type 0 where
+  pub some : from < end
+  pub most : end ≤ from + 2048
+  pub within : end ≤ held
+  pub reads : ReadsOn old (drop from (take end piece)) units new
+  pub size : length (drop from (take end piece)) ≡ end - from
+  pub cut : drop from (take held piece) ≡ drop from (take end piece) ++ drop end (take held piece)

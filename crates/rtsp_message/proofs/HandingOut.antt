@@ -25,7 +25,7 @@ settled (Waits rest) (Fails fault) a us p = (refl, refl)
 settled (Fails fault) (Waits other) a us p = absurd (cc)
 settled (Fails fault) (Fails other) a us p = (refl, refl)
 
-units_take_bytes : (pieces : List Piece) → ArePieces pieces → length (units_of pieces) ≤ length (bytes_of pieces)
+pub units_take_bytes : (pieces : List Piece) → ArePieces pieces → length (units_of pieces) ≤ length (bytes_of pieces)
 units_take_bytes [] p = omega arith
 units_take_bytes (Pad byte ∷ pieces) p = omega (arith, units_take_bytes pieces p.1)
 units_take_bytes (Whole bytes content ∷ pieces) p = omega (arith, units_take_bytes pieces p.1, unit_is_some bytes content p.0, length-append bytes (bytes_of pieces))

@@ -16,6 +16,7 @@ pub mod Undecided
 pub mod Fronts
 pub mod Compose
 pub mod HandingOut
+pub mod PartUnits
 pub mod Prompting
 pub mod Fetching
 pub mod Cuts

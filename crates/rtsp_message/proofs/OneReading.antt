@@ -11,7 +11,7 @@ ends_without_pad : (bytes : List ℕ) (e : Ending) → EndsAs bytes e → Begins
 ends_without_pad bytes (Waits rest) p = p.1
 ends_without_pad bytes (Fails fault) p = message_is_no_pad bytes p.0
 
-pad_begins_nothing : (bytes : List ℕ) (b : ℕ) (rest : List ℕ) → is_pad b ≡ true → bytes ≡ b ∷ rest → BeginsWithNoPad bytes → ⊥
+pub pad_begins_nothing : (bytes : List ℕ) (b : ℕ) (rest : List ℕ) → is_pad b ≡ true → bytes ≡ b ∷ rest → BeginsWithNoPad bytes → ⊥
 pad_begins_nothing bytes b rest p e q = false_is_true (sym (subst BeginsWithNoPad e q) ∙ p)
 
 -- bytes that end a reading have no unit at their front

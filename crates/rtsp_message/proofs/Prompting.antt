@@ -4,7 +4,7 @@ use Rattle.std.specs.List.{concat}
 use Rattle.std.proofs.lemmas.List.Folds.{concat-append}
 use Rattle.rtsp_message.specs.declared.unit.Unit.{Unit as StreamUnit}
 use Rattle.rtsp_message.specs.Stream.{ReadsOn, fault_of}
-use Rattle.rtsp_message.specs.Intakes.{IntakeState, HandsOut, Gave, IsPrompt, ReadsInNeed, ReadsOnce, TakesAll}
+use Rattle.rtsp_message.specs.Intakes.{IntakeState, HandsOut, Gave, IsPrompt, ReadsInNeed, ReadsOnce, Takes}
 use Rattle.rtsp_message.proofs.HandingOut.{reads_twice, holds_same}
 
 module _ {S : Type 0} (gives : S → List ℕ → S → Type 0) where
@@ -12,32 +12,32 @@ module _ {S : Type 0} (gives : S → List ℕ → S → Type 0) where
   Gave-append a b c [] qs p q = subst (λ (s : S). Gave gives s qs c) p q
   Gave-append a b c (piece ∷ ps) qs p q = (p.0, p.1, p.2, Gave-append p.0 b c ps qs p.3 q)
 
-  -- What a loop over steps keeps: no unit is handed out yet, all that came is read, and the source was read only in need.
+  -- What a loop over steps keeps: no unit is handed out yet, what was read is queued, and the source was read only in need.
   pub record SoFar (incoming : S → Option (List ℕ)) (start now : IntakeState S) : Type 0 where
     pub out : HandsOut incoming start now []
-    pub all : TakesAll gives start now
+    pub takes : Takes gives start now
     pub prompt : IsPrompt gives start now
 
-  -- all that came is read, and then all that comes
-  pub TakesAll-trans : (a b c : IntakeState S) → TakesAll gives a b → TakesAll gives b c → TakesAll gives a c
-  TakesAll-trans a b c p q = record {
+  -- some of what came is read, and then some of the rest and of what comes
+  pub Takes-trans : (a b c : IntakeState S) → Takes gives a b → Takes gives b c → Takes gives a c
+  Takes-trans a b c p q = record {
     pieces = p.pieces ++ q.pieces;
+    taken = p.taken ++ q.taken;
     none_queued = p.none_queued;
     not_ended = p.not_ended;
     came = Gave-append a.source b.source c.source p.pieces q.pieces p.came q.came;
+    kept =
+        ap (λ (l : List ℕ). a.held ++ l) (concat-append p.pieces q.pieces) ∙ sym (append_assoc a.held (concat p.pieces) (concat q.pieces))
+        ∙ ap (λ (l : List ℕ). l ++ concat q.pieces) p.kept ∙ append_assoc p.taken b.held (concat q.pieces)
+        ∙ ap (λ (l : List ℕ). p.taken ++ l) q.kept ∙ sym (append_assoc p.taken q.taken c.held);
     reads =
-        let first : ReadsOn a.reading (a.held ++ concat p.pieces) [] b.reading = subst (λ (l : List StreamUnit). ReadsOn a.reading (a.held ++ concat p.pieces) l b.reading) q.none_queued p.reads in
-        let then : ReadsOn b.reading (concat q.pieces) c.queue c.reading = subst (λ (l : List ℕ). ReadsOn b.reading (l ++ concat q.pieces) c.queue c.reading) p.none_held q.reads in
-        let both : ReadsOn a.reading ((a.held ++ concat p.pieces) ++ concat q.pieces) c.queue c.reading = reads_twice a.reading b.reading c.reading (a.held ++ concat p.pieces) (concat q.pieces) [] c.queue first then in
-        let bytes : (a.held ++ concat p.pieces) ++ concat q.pieces ≡ a.held ++ concat (p.pieces ++ q.pieces) =
-        append_assoc a.held (concat p.pieces) (concat q.pieces) ∙ ap (λ (l : List ℕ). a.held ++ l) (sym (concat-append p.pieces q.pieces)) in
-        subst (λ (l : List ℕ). ReadsOn a.reading l c.queue c.reading) bytes both;
-    none_held = q.none_held;
+        let first : ReadsOn a.reading p.taken [] b.reading = subst (λ (l : List StreamUnit). ReadsOn a.reading p.taken l b.reading) q.none_queued p.reads in
+        reads_twice a.reading b.reading c.reading p.taken q.taken [] c.queue first q.reads;
   }
 
   -- the last read comes next
-  needed_again : (a b c : IntakeState S) → b.queue ≡ [] → TakesAll gives a b → fault_of b.reading ≡ None → (last : List ℕ) → gives b.source last c.source → ReadsInNeed gives a c
-  needed_again a b c empty p sound last given = record {
+  needed_again : (a b c : IntakeState S) → b.queue ≡ [] → b.held ≡ [] → Takes gives a b → fault_of b.reading ≡ None → (last : List ℕ) → gives b.source last c.source → ReadsInNeed gives a c
+  needed_again a b c empty none_held p sound last given = record {
     pieces = p.pieces;
     before = b.source;
     reading = b.reading;
@@ -45,7 +45,9 @@ module _ {S : Type 0} (gives : S → List ℕ → S → Type 0) where
     none_queued = p.none_queued;
     not_ended = p.not_ended;
     came = p.came;
-    no_unit = subst (λ (l : List StreamUnit). ReadsOn a.reading (a.held ++ concat p.pieces) l b.reading) empty p.reads;
+    no_unit =
+        let all : p.taken ≡ a.held ++ concat p.pieces = sym (append-nil p.taken) ∙ ap (λ (l : List ℕ). p.taken ++ l) (sym none_held) ∙ sym p.kept in
+        subst (λ (l : List ℕ). ReadsOn a.reading l [] b.reading) all (subst (λ (l : List StreamUnit). ReadsOn a.reading p.taken l b.reading) empty p.reads);
     no_fault = sound;
     last_read = given;
   }
@@ -83,19 +85,19 @@ module _ {S : Type 0} (gives : S → List ℕ → S → Type 0) where
   })
 
   -- and so is one more
-  pub next_prompt : (a b c : IntakeState S) → TakesAll gives a b → IsPrompt gives a b → ReadsOnce gives b c → IsPrompt gives a c
+  pub next_prompt : (a b c : IntakeState S) → Takes gives a b → IsPrompt gives a b → ReadsOnce gives b c → IsPrompt gives a c
   next_prompt a b c p prompt (inl same) = same_source a b c same prompt
-  next_prompt a b c p prompt (inr (empty, none_held, sound, going, last, given)) = inr (needed_again a b c empty p sound last given)
+  next_prompt a b c p prompt (inr (empty, none_held, sound, going, last, given)) = inr (needed_again a b c empty none_held p sound last given)
 
   module _ (incoming : S → Option (List ℕ)) where
     -- whatever the steps before
     pub step_prompt : (a b c : IntakeState S) → (b ≡ a) ⊎ SoFar incoming a b → ReadsOn b.reading [] [] b.reading → ReadsOnce gives b c → IsPrompt gives a c
     step_prompt a b c (inl same) stands once = subst (λ (s : IntakeState S). IsPrompt gives s c) same (first_prompt b c stands once)
-    step_prompt a b c (inr p) stands once = next_prompt a b c p.all p.prompt once
+    step_prompt a b c (inr p) stands once = next_prompt a b c p.takes p.prompt once
 
-    pub step_takes_all : (a b c : IntakeState S) → (b ≡ a) ⊎ SoFar incoming a b → TakesAll gives b c → TakesAll gives a c
-    step_takes_all a b c (inl same) q = subst (λ (s : IntakeState S). TakesAll gives s c) same q
-    step_takes_all a b c (inr p) q = TakesAll-trans a b c p.all q
+    pub step_takes : (a b c : IntakeState S) → (b ≡ a) ⊎ SoFar incoming a b → Takes gives b c → Takes gives a c
+    step_takes a b c (inl same) q = subst (λ (s : IntakeState S). Takes gives s c) same q
+    step_takes a b c (inr p) q = Takes-trans a b c p.takes q
 
     pub out_so_far : (a b : IntakeState S) → (b ≡ a) ⊎ SoFar incoming a b → ReadsOn b.reading [] [] b.reading → HandsOut incoming a b []
     out_so_far a b (inl same) stands = subst (λ (s : IntakeState S). HandsOut incoming s b []) same (holds_same incoming b stands)

@@ -104,14 +104,15 @@ module _ {S : Type 0} (gives : S → List ℕ → S → Type 0) where
       (new.source ≡ old.source)
       ⊎ (old.queue ≡ []) × (old.held ≡ []) × (fault_of old.reading ≡ None) × (old.ended ≡ false) × (piece : List ℕ) × gives old.source piece new.source
 
-  -- All that was held and what these pieces brought was read. The units that it made are queued.
-  pub record TakesAll (old new : IntakeState S) : Type 0 where
+  -- Of what was held and what these pieces brought some was read, and the rest is held. The units that it made are queued.
+  pub record Takes (old new : IntakeState S) : Type 0 where
     pub pieces : List (List ℕ)
+    pub taken : List ℕ
     pub none_queued : old.queue ≡ []
     pub not_ended : old.ended ≡ false
     pub came : Gave old.source pieces new.source
-    pub reads : ReadsOn old.reading (old.held ++ concat pieces) new.queue new.reading
-    pub none_held : new.held ≡ []
+    pub kept : old.held ++ concat pieces ≡ taken ++ new.held
+    pub reads : ReadsOn old.reading taken new.queue new.reading
 
 -- an answer that hands out no unit
 abbrev pub IsNoUnit : Next → Type 0

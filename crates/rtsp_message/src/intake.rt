@@ -9,11 +9,14 @@ use std::alloc::Global;
 use std::marker::Model;
 use std::vec::IntoIter;
 
-/// The most bytes that are read from a source at once: so many that one call of the system mostly brings all that a
-/// publisher has sent since the last one.
+/// The most bytes that are read from a source at once: one system call mostly brings all that a publisher has sent since the
+/// last one.
 const PIECE: usize = 65_536;
 
-/// What an intake answers.
+/// The most bytes that are fed to the reader at once. Their units are in memory at the same time, at most one a byte.
+const PART: usize = 2_048;
+
+/// What an intake returns.
 #[derive(Drop)]
 pub enum Next {
     Unit(Unit),
@@ -33,9 +36,10 @@ pub struct Intake<S: Source> {
     source: S,
     reader: Reader,
     units: IntoIter<Unit>,
-    /// Bytes of the source that the reader has not taken: the first `held` of these.
+    /// What the last read brought: the first `held` of these bytes. The reader has taken the first `from` of them.
     piece: [u8; PIECE],
     held: usize,
+    from: usize,
     /// The source has given all its bytes.
     ended: bool,
 }
@@ -61,13 +65,14 @@ impl<S: Source + Drop> Drop for Intake<S> {
             units: _,
             piece: _,
             held: _,
+            from: _,
             ended: _,
         } = self;
     }
 }
 
 impl<S: Source + Drop> Intake<S> {
-    ghost use Rattle.rtsp_message.specs.Intakes.{fresh, handed, weight, HandsOut, Tells, IsOver, Lasts, IsNoUnit, IsPrompt, ReadsOnce, TakesAll};
+    ghost use Rattle.rtsp_message.specs.Intakes.{fresh, handed, weight, HandsOut, Tells, IsOver, Lasts, IsNoUnit, IsPrompt, ReadsOnce, Takes};
 
     pub fn new(alloc: Global, source: S) -> Intake<S>
         ensures { result ≡ fresh source }
@@ -79,6 +84,7 @@ impl<S: Source + Drop> Intake<S> {
             units: Vec::new(alloc).into_iter(),
             piece: [0; PIECE],
             held: 0,
+            from: 0,
             ended: false,
         }
     }
@@ -94,26 +100,30 @@ impl<S: Source + Drop> Intake<S> {
             units: _,
             piece: _,
             held: _,
+            from: _,
             ended: _,
         } = self;
         source
     }
 
-    /// At most so many units are still to come: each takes a byte at least of what the source has left, of what is held
-    /// and of what waits, or is read already. Beside what the source has left that is bounded: 65,536 bytes are held at most,
-    /// fewer than 73,728 wait, and no more units are read already than these together have bytes.
+    /// Returns the most units that can still come. Each takes at least a byte of what the source has left, of what is held or
+    /// of what waits, or it is queued.
+    ///
+    /// Apart from what the source has left that is limited. The bytes held and the units queued are at most 65,536 together,
+    /// and fewer than 73,728 bytes wait. At most 2,048 units are queued, since each took a byte of the last part.
     pub fn left(&self) -> u64
         ensures value { result ≡ weight S.bound self.now }
-        ensures few { result ≤ S.bound self.now.source + 278_528 }
+        ensures few { result < S.bound self.now.source + 139_264 }
+        ensures queued { length self.now.queue ≤ 2_048 }
     {
         let held = &self.piece[..self.held];
-        let unread = self.source.left() + held.len() as u64;
+        let unread = self.source.left() + (held.len() - self.from) as u64;
         unread + self.reader.waiting() as u64 + self.units.len() as u64
     }
 
-    /// The next unit, or why there is none. After `End`, `Fault` or `ReadFailed` it answers the same for good.
+    /// The next unit, or why there is none. After `End`, `Fault` or `ReadFailed` it returns the same for good.
     ///
-    /// The source is read only where no unit, no fault and no end is at hand, so that a source that waits for more
+    /// The source is read only if no unit, no fault and no end is at hand, so that a source that waits for more
     /// keeps back nothing that has come whole.
     pub fn next(&mut self) -> Next
         ensures hands_out { HandsOut S.incoming self.old self.new (handed result) }
@@ -133,7 +143,7 @@ impl<S: Source + Drop> Intake<S> {
         }
     }
 
-    /// Reads units from the next bytes, or answers why there are none to read. What was handed out takes no room meanwhile.
+    /// Reads units from the next part, or returns why there are none to read. What was handed out takes no room meanwhile.
     fn read_on(&mut self) -> Option<Next>
         requires { self.old.queue ≡ [] }
         ensures hands_out { HandsOut S.incoming self.old self.new [] }
@@ -143,7 +153,7 @@ impl<S: Source + Drop> Intake<S> {
         ensures for_good { (answer : _) → IsOver S.failed self.old answer → IfSome result (λ a. a ≡ answer) × IfNone result ⊥ }
         ensures ends { weight S.bound self.new ≤ weight S.bound self.old }
         ensures once { ReadsOnce S.gives self.old self.new }
-        ensures takes_all { IfNone result (TakesAll S.gives self.old self.new) }
+        ensures takes { IfNone result (Takes S.gives self.old self.new) }
         ensures goes_on { IfNone result (S.bound self.new.source + length self.new.held < S.bound self.old.source + length self.old.held) }
     {
         self.give_room_back();
@@ -158,7 +168,8 @@ impl<S: Source + Drop> Intake<S> {
         self.units = Vec::new(self.alloc).into_iter();
     }
 
-    /// Reads units from the next bytes, or answers why there are none to read.
+    /// Reads units from the next part of the piece, or returns why there are none to read. The source is read only if the
+    /// reader has taken the whole piece.
     fn read_piece(&mut self) -> Option<Next>
         requires { self.old.queue ≡ [] }
         ensures hands_out { HandsOut S.incoming self.old self.new [] }
@@ -168,7 +179,7 @@ impl<S: Source + Drop> Intake<S> {
         ensures for_good { (answer : _) → IsOver S.failed self.old answer → IfSome result (λ a. a ≡ answer) × IfNone result ⊥ }
         ensures ends { weight S.bound self.new ≤ weight S.bound self.old }
         ensures once { ReadsOnce S.gives self.old self.new }
-        ensures takes_all { IfNone result (TakesAll S.gives self.old self.new) }
+        ensures takes { IfNone result (Takes S.gives self.old self.new) }
         ensures goes_on { IfNone result (S.bound self.new.source + length self.new.held < S.bound self.old.source + length self.old.held) }
     {
         if let Some(fault) = self.reader.fault() {
@@ -177,20 +188,25 @@ impl<S: Source + Drop> Intake<S> {
         if self.ended {
             return Some(Next::End);
         }
-        if self.held == 0 {
+        if self.from == self.held {
             match self.source.read(&mut self.piece) {
                 Ok(0) => {
                     self.ended = true;
                     return Some(Next::End);
                 }
-                Ok(count) => self.held = count,
+                Ok(count) => {
+                    self.held = count;
+                    self.from = 0;
+                }
                 Err(_) => return Some(Next::ReadFailed),
             }
         }
-        match self.reader.feed(&self.piece[..self.held]) {
+        let end = self.held.min(self.from + PART);
+        let front = &self.piece[..end];
+        match self.reader.feed(&front[self.from..]) {
             Ok(fed) => {
                 self.units = fed.units.into_iter();
-                self.held = 0;
+                self.from = end;
                 None
             }
             Err(_) => Some(Next::OutOfMemory),

@@ -4,7 +4,7 @@ use Rattle.rtsp_message.specs.declared.unit.Unit.{Unit as StreamUnit}
 use Rattle.rtsp_message.specs.Intakes.{IntakeState, HandsOut, IsOver, weight}
 use Rattle.rtsp_message.specs.IntakeFields.{state_of}
 use Rattle.rtsp_message.proofs.HandingOut.{holds_more, HandsOut-trans}
-use Rattle.rtsp_message.proofs.Prompting.{SoFar, out_so_far, prompt_so_far, same_source, step_prompt, step_takes_all}
+use Rattle.rtsp_message.proofs.Prompting.{SoFar, out_so_far, prompt_so_far, same_source, step_prompt, step_takes}
 use Rattle.rtsp_message.proofs.intake.Intake.next.Given.{Over}
 use Rattle.rtsp_message.proofs.intake.Intake.next.Goals.{After-next}
 use Rattle.rtsp_message.proofs.intake.Intake.next.Goals as goal
@@ -61,7 +61,7 @@ loop-unit-preserved g c =
     let before = before_reading g (goal.at.loop-unit-preserved g c).After-next same in (
       inr (record {
         out = HandsOut-trans incoming start mid new [] [] (out_so_far gives incoming start mid before c.self.invariant.settled) c.read_on.ensures.hands_out;
-        all = step_takes_all gives incoming start mid new before c.in_default-read_on.ensures.takes_all;
+        takes = step_takes gives incoming start mid new before c.in_default-read_on.ensures.takes;
         prompt = step_prompt gives incoming start mid new before c.self.invariant.settled c.read_on.ensures.once;
       }),
       λ answer over. absurd ((c.in_default-read_on.ensures.for_good answer (subst (λ x. IsOver g.S.Source.failed x answer) (sym c.self.view_is ∙ same) (c.loop-unit.invariant.1 answer over))).1),

@@ -1,33 +1,56 @@
-use Rattle.std.proofs.Common.{◌≡◌, ℕ, List, ◌∷◌, ◌++◌, [], None, take, refl, sym, ap, subst, ◌∙◌, inl, inr, append-nil, arith, true, ◌+◌, ◌<◌, length, length-append, length-take}
-use Rattle.std.specs.List.{concat}
-use Rattle.std.proofs.lemmas.List.{length-take-le}
+use Rattle.std.proofs.Common.{◌≡◌, ℕ, List, ◌∷◌, ◌++◌, [], None, take, drop, refl, sym, ap, subst, ◌∙◌, inl, inr, append-nil, arith, true, ◌+◌, ◌-◌, ◌<◌, ◌≤◌, length, take-add, drop-drop, length-drop, length-append, length-take}
+use Rattle.std.proofs.lemmas.List.{length-take-le, drop-take, drop_all, take_rest}
 use Rattle.std.proofs.KnownBytes.{Consumes-nil, Consumes-kept}
 use Rattle.std.specs.Io.KnownBytes.{Consumes}
 use Rattle.std.specs.Vec.Iter.{into_iter_items}
 use Rattle.rtsp_message.specs.declared.unit.Unit.{Unit as StreamUnit}
 use Rattle.rtsp_message.specs.ReaderStates.{ReaderState}
 use Rattle.rtsp_message.specs.Stream.{Ending, ReadsOn, fault_of, waiting_len}
-use Rattle.rtsp_message.specs.Limits.{waiting_limit}
 use Rattle.rtsp_message.specs.IntakeFields.{state_of}
 use Rattle.rtsp_message.proofs.HandingOut.{units_found, settled, holds_more, holds_same}
+use Rattle.rtsp_message.proofs.PartUnits.{one_a_byte}
 use Rattle.rtsp_message.specs.Intakes.{IntakeState, HandsOut}
-use Rattle.rtsp_message.proofs.Fetching.{Fetched}
+use Rattle.rtsp_message.proofs.Fetching.{Fetched, FedPart}
 use Rattle.rtsp_message.proofs.intake.Intake.read_piece.Given.{Over}
-use Rattle.rtsp_message.proofs.intake.Intake.read_piece.Goals.{After-feed, then-self-eq0+in-Ok, else-self-eq0}
+use Rattle.rtsp_message.proofs.intake.Intake.read_piece.Goals.{After-feed, In-Ok-feed, then-self-2+in-Ok, else-self-2}
 use Rattle.rtsp_message.proofs.intake.Intake.read_piece.Goals as goal
 
-none_held : (n : ℕ) (old new : List ℕ) → n ≡ 0 → take n new ≡ take n old ++ []
-none_held n old new e = ap (λ (k : ℕ). take k new) e ∙ ap (λ (k : ℕ). take k old ++ []) (sym e)
+-- what is left of the piece if all of it was taken
+none_held : (from held : ℕ) (piece : List ℕ) → from ≡ held → drop from (take held piece) ≡ []
+none_held from held piece same = drop_all from (take held piece) (omega (arith, length-take held piece))
 
-fetched : (g : Over) (c : After-feed g) → Fetched g.S.Source.incoming g.S.Source.bound g.S.Source.gives c.args.self.now c.if-self-eq0.self-inside
+-- nor is anything left whatever is in its place
+none_either : (from held : ℕ) (old new : List ℕ) → from ≡ held → drop from (take held new) ≡ drop from (take held old) ++ []
+none_either from held old new same = none_held from held new same ∙ ap (λ (l : List ℕ). l ++ []) (sym (none_held from held old same))
+
+cut_by : (from k j : ℕ) (piece : List ℕ) → drop from (take (from + (k + j)) piece) ≡ drop from (take (from + k) piece) ++ drop (from + k) (take (from + k + j) piece)
+cut_by from k j piece =
+    drop-take from (k + j) piece ∙ take-add k j (drop from piece) ∙ ap (λ (l : List ℕ). l ++ take j (drop k (drop from piece))) (sym (drop-take from k piece))
+    ∙ ap (λ (l : List ℕ). drop from (take (from + k) piece) ++ l) (ap (take j) (drop-drop k from piece) ∙ sym (drop-take (from + k) j piece))
+
+-- what is left, as a part and what is left after it
+cut_part : (from end held : ℕ) (piece : List ℕ) → from ≤ end → end ≤ held → drop from (take held piece) ≡ drop from (take end piece) ++ drop end (take held piece)
+cut_part from end held piece low high =
+    let k = end - from in
+    let j = held - end in
+    let ends : from + k ≡ end = omega arith in
+    let all : from + (k + j) ≡ held = omega arith in
+    let same : from + k + j ≡ held = omega arith in
+    ap (λ (n : ℕ). drop from (take n piece)) (sym all) ∙ cut_by from k j piece
+    ∙ ap (λ (n : ℕ). drop from (take n piece) ++ drop n (take (from + k + j) piece)) ends ∙ ap (λ (n : ℕ). drop from (take end piece) ++ drop end (take n piece)) same
+
+part_len : (from end : ℕ) (piece : List ℕ) → end ≤ length piece → length (drop from (take end piece)) ≡ end - from
+part_len from end piece within = omega (arith, length-drop from (take end piece), length-take end piece)
+
+fetched : (g : Over) (c : After-feed g) → Fetched g.S.Source.incoming g.S.Source.bound g.S.Source.gives c.args.self.now c.if-self-2.self-inside
 fetched g c =
     let inside = c.self.inside in
-    let from_inside : Fetched g.S.Source.incoming g.S.Source.bound g.S.Source.gives (state_of inside) c.if-self-eq0.self-inside = elim c.if-self-eq0.branch [
-      | then-self-eq0+in-Ok w ↦
+    let from_inside : Fetched g.S.Source.incoming g.S.Source.bound g.S.Source.gives (state_of inside) c.if-self-2.self-inside = elim c.if-self-2.branch [
+      | then-self-2+in-Ok w ↦
           let got = take w.in-Ok.count w.read.new.buf in
           let size : length got ≡ w.in-Ok.count = length-take-le w.in-Ok.count w.read.new.buf w.in-Ok.ensures.count in
           let queue : into_iter_items inside.units ≡ [] = ap (λ (s : IntakeState g.row.S.Denot). s.queue) c.self.view_is ∙ c.requires in
-          let none : take inside.held inside.piece ≡ [] = ap (λ (k : ℕ). take k inside.piece) w.if-self-eq0.true in
+          let none = none_held inside.from inside.held inside.piece w.if-self-2.true in
           subst (Fetched g.S.Source.incoming g.S.Source.bound g.S.Source.gives (state_of inside)) (sym w.self-inside-is) (record {
             read = got;
             given = w.in-Ok.ensures.bytes;
@@ -36,15 +59,16 @@ fetched g c =
             came = (w.read.new.self, omega (arith, size), w.in-Ok.ensures.gave, refl);
             whole = append-nil got;
             once = inr (queue, none, sym c.in_default.ensures, c.if-self.false, got, w.in-Ok.ensures.gave);
-            held = ap (λ (n : ℕ). take n inside.piece ++ got) (sym w.if-self-eq0.true);
+            held = ap (λ (l : List ℕ). l ++ got) (sym none);
             reading = refl;
             queue = refl;
             within = omega (arith, w.in-Ok.ensures.count, w.read.auto.buf, c.self.told);
-            some = omega (arith, size);
+            fits = w.in-Ok.ensures.count;
+            some = omega arith;
             was_going = c.if-self.false;
             going = c.if-self.false;
           })
-      | else-self-eq0 w ↦
+      | else-self-2 w ↦
           subst (Fetched g.S.Source.incoming g.S.Source.bound g.S.Source.gives (state_of inside)) (sym w.self-inside-is) (record {
             read = [];
             given = Consumes-nil (g.S.Source.incoming inside.source);
@@ -53,59 +77,89 @@ fetched g c =
             came = refl;
             whole = refl;
             once = inl refl;
-            held = sym (append-nil (take inside.held inside.piece));
+            held = sym (append-nil (drop inside.from (take inside.held inside.piece)));
             reading = refl;
             queue = refl;
             within = c.self.invariant.within;
-            some = omega (arith, length-take inside.held inside.piece, c.self.invariant.within, c.self.told);
+            fits = omega (arith, c.self.invariant.within, c.self.told);
+            some = omega (arith, c.self.invariant.fed);
             was_going = c.if-self.false;
             going = c.if-self.false;
           })
     ] in
-    subst (λ old. Fetched g.S.Source.incoming g.S.Source.bound g.S.Source.gives old c.if-self-eq0.self-inside) c.self.view_is from_inside
+    subst (λ old. Fetched g.S.Source.incoming g.S.Source.bound g.S.Source.gives old c.if-self-2.self-inside) c.self.view_is from_inside
+
+fed_part : (g : Over) (c : In-Ok-feed g) → FedPart c.if-self-2.self-inside.from c.min-end.result c.if-self-2.self-inside.held c.if-self-2.self-inside.piece c.if-self-2.self-inside.reader.reading c.in-Ok-feed.fed.units.items c.feed.new.self.reading
+fed_part g c =
+    let i = c.if-self-2.self-inside in
+    let end = c.min-end.result in
+    let f = fetched g (goal.at.In-Ok-feed g c).After-feed in
+    let within : end ≤ i.held = omega (arith, c.min-end.ensures) in
+    let some : i.from < end = omega (arith, c.min-end.ensures, f.some) in
+    record {
+      some = some;
+      most = omega (arith, c.min-end.ensures);
+      within = within;
+      reads = subst (λ (l : List ℕ). ReadsOn i.reader.reading l c.in-Ok-feed.fed.units.items c.feed.new.self.reading) (take_rest (take end i.piece) i.from) c.in-Ok-feed.ensures.units;
+      size = part_len i.from end i.piece (omega (arith, within, f.fits));
+      cut = cut_part i.from end i.held i.piece (omega (arith, some)) within;
+    }
+
+-- a reading of the part makes at most a unit a byte of it
+few_units : (g : Over) (c : In-Ok-feed g) → length c.in-Ok-feed.fed.units.items ≤ c.min-end.result - c.if-self-2.self-inside.from
+few_units g c =
+    let i = c.if-self-2.self-inside in
+    let f = fetched g (goal.at.In-Ok-feed g c).After-feed in
+    let p = fed_part g c in
+    let stands = subst (λ (d : Ending). ReadsOn d [] [] d) (sym f.reading) (subst (λ (o : IntakeState g.row.S.Denot). ReadsOn o.reading [] [] o.reading) c.self.view_is c.self.invariant.settled) in
+    omega (arith, one_a_byte i.reader.reading c.feed.new.self.reading (drop i.from (take c.min-end.result i.piece)) c.in-Ok-feed.fed.units.items stands p.reads, p.size)
 
 pub invariant_of-self-in-Ok-feed : goal.invariant_of-self-in-Ok-feed
 invariant_of-self-in-Ok-feed g c =
-    let f = fetched g (goal.at.invariant_of-self-in-Ok-feed g c).After-feed in
-    let inside = c.if-self-eq0.self-inside in
-    let found = units_found inside.reader.reading c.feed.new.self.reading (take inside.held inside.piece) c.in-Ok-feed.fed.units.items c.in-Ok-feed.ensures.units in
-    let waited = ap waiting_len f.reading in
-    let waits : waiting_len c.args.self.now.reading < waiting_limit = subst (λ (o : IntakeState g.row.S.Denot). waiting_len o.reading < waiting_limit) c.self.view_is c.self.invariant.waits in
+    let at = goal.at.invariant_of-self-in-Ok-feed g c in
+    let f = fetched g at.After-feed in
+    let p = fed_part g at.In-Ok-feed in
+    let few = few_units g at.In-Ok-feed in
     record {
-      within = omega arith;
-      settled = settled _ _ _ _ c.in-Ok-feed.ensures.units;
+      within = f.within;
+      fed = p.within;
+      settled = settled _ _ _ _ p.reads;
       at_end = λ ended. absurd (cc (ended, f.going));
       waits = c.in-Ok-feed.ensures.bound;
-      few = omega (arith, found, waits, waited, f.within, length-take inside.held inside.piece, ap length c.into_iter.ensures.rest);
+      queued = omega (arith, few, p.some, p.most, ap length c.into_iter.ensures.rest);
+      few = omega (arith, few, p.some, ap length c.into_iter.ensures.rest);
     }
 
 pub returns-in-Ok-feed-clause-hands_out : goal.returns-in-Ok-feed-clause-hands_out
 returns-in-Ok-feed-clause-hands_out g c =
-    let f = fetched g (goal.at.returns-in-Ok-feed-clause-hands_out g c).After-feed in
+    let at = goal.at.returns-in-Ok-feed-clause-hands_out g c in
+    let f = fetched g at.After-feed in
+    let p = fed_part g at.In-Ok-feed in
+    let i = c.if-self-2.self-inside in
     let units = c.in-Ok-feed.fed.units.items in
     record {
       read = f.read;
-      taken = c.args.self.now.held ++ f.read;
+      taken = drop i.from (take c.min-end.result i.piece);
       found = units;
       given = f.given;
-      kept = sym (append-nil (c.args.self.now.held ++ f.read));
-      reads = subst (λ (d : Ending). ReadsOn d (c.args.self.now.held ++ f.read) units c.feed.new.self.reading) f.reading
-          (subst (λ (l : List ℕ). ReadsOn c.if-self-eq0.self-inside.reader.reading l units c.feed.new.self.reading) f.held c.in-Ok-feed.ensures.units);
+      kept = sym f.held ∙ p.cut;
+      reads = subst (λ (d : Ending). ReadsOn d (drop i.from (take c.min-end.result i.piece)) units c.feed.new.self.reading) f.reading p.reads;
       order = ap (λ (q : List StreamUnit). q ++ units) c.requires ∙ sym c.into_iter.ensures.rest;
     }
 
 pub returns-in-Err-feed-clause-hands_out : goal.returns-in-Err-feed-clause-hands_out
 returns-in-Err-feed-clause-hands_out g c =
     let f = fetched g (goal.at.returns-in-Err-feed-clause-hands_out g c).After-feed in
-    let new = state_of (record c.if-self-eq0.self-inside { reader = c.feed.new.self }) in
+    let new = state_of (record c.if-self-2.self-inside { reader = c.feed.new.self }) in
     let stands = subst (λ (o : IntakeState g.row.S.Denot). ReadsOn o.reading [] [] o.reading) c.self.view_is c.self.invariant.settled in
     holds_more g.S.Source.incoming c.args.self.now new f.read [] f.given f.held (ap (λ (r : ReaderState). r.reading) c.in-Err-feed.ensures.err ∙ f.reading) stands (sym f.queue)
 
 pub returns-in-Err-feed-clause-tells : goal.returns-in-Err-feed-clause-tells
 returns-in-Err-feed-clause-tells g c =
     let f = fetched g (goal.at.returns-in-Err-feed-clause-tells g c).After-feed in
+    let i = c.if-self-2.self-inside in
     let fault = subst (λ (o : IntakeState g.row.S.Denot). fault_of o.reading ≡ None) c.self.view_is (sym c.in_default.ensures) in
-    (f.queue ∙ c.requires, ap (λ (r : ReaderState). fault_of r.reading) c.in-Err-feed.ensures.err ∙ ap fault_of f.reading ∙ fault, f.some)
+    (f.queue ∙ c.requires, ap (λ (r : ReaderState). fault_of r.reading) c.in-Err-feed.ensures.err ∙ ap fault_of f.reading ∙ fault, omega (arith, f.some, part_len i.from i.held i.piece f.fits))
 
 pub returns-in-Some-clause-hands_out : goal.returns-in-Some-clause-hands_out
 returns-in-Some-clause-hands_out g c =
@@ -121,7 +175,7 @@ returns-in-Ok-eq0-clause-hands_out g c =
     let new = state_of (record inside { source = c.read.new.self; piece = c.read.new.buf; ended = true }) in
     let given : Consumes (g.S.Source.incoming inside.source) (g.S.Source.incoming c.read.new.self) [] =
     subst (λ (n : ℕ). Consumes (g.S.Source.incoming inside.source) (g.S.Source.incoming c.read.new.self) (take n c.read.new.buf)) c.in-Ok-eq0.field-0-test c.in-Ok-eq0.ensures.bytes in
-    let held : take inside.held c.read.new.buf ≡ take inside.held inside.piece ++ [] = none_held inside.held inside.piece c.read.new.buf c.if-self-eq0.true in
+    let held = none_either inside.from inside.held inside.piece c.read.new.buf c.if-self-2.true in
     subst (λ s. HandsOut g.S.Source.incoming s new []) c.self.view_is (holds_more g.S.Source.incoming (state_of inside) new [] [] given held refl c.self.invariant.settled refl)
 
 pub returns-in-Err-clause-hands_out : goal.returns-in-Err-clause-hands_out
@@ -130,15 +184,19 @@ returns-in-Err-clause-hands_out g c =
     let new = state_of (record inside { source = c.read.new.self; piece = c.read.new.buf }) in
     let before = g.S.Source.incoming inside.source in
     let given = Consumes-kept before before (g.S.Source.incoming c.read.new.self) [] (Consumes-nil before) c.in-Err.ensures.refused_moves_none in
-    let held : take inside.held c.read.new.buf ≡ take inside.held inside.piece ++ [] = none_held inside.held inside.piece c.read.new.buf c.if-self-eq0.true in
+    let held = none_either inside.from inside.held inside.piece c.read.new.buf c.if-self-2.true in
     subst (λ s. HandsOut g.S.Source.incoming s new []) c.self.view_is (holds_more g.S.Source.incoming (state_of inside) new [] [] given held refl c.self.invariant.settled refl)
 
 pub returns-in-Ok-feed-clause-ends : goal.returns-in-Ok-feed-clause-ends
 returns-in-Ok-feed-clause-ends g c =
-    let f = fetched g (goal.at.returns-in-Ok-feed-clause-ends g c).After-feed in
-    let inside = c.if-self-eq0.self-inside in
-    let found = units_found inside.reader.reading c.feed.new.self.reading (take inside.held inside.piece) c.in-Ok-feed.fed.units.items c.in-Ok-feed.ensures.units in
-    omega (arith, found, f.left, ap length f.held, length-append c.args.self.now.held f.read, ap waiting_len f.reading, ap length c.into_iter.ensures.rest)
+    let at = goal.at.returns-in-Ok-feed-clause-ends g c in
+    let f = fetched g at.After-feed in
+    let p = fed_part g at.In-Ok-feed in
+    let i = c.if-self-2.self-inside in
+    let part = drop i.from (take c.min-end.result i.piece) in
+    let found = units_found i.reader.reading c.feed.new.self.reading part c.in-Ok-feed.fed.units.items p.reads in
+    let bytes = ap length (sym f.held ∙ p.cut) in
+    omega (arith, found, f.left, bytes, length-append part (drop c.min-end.result (take i.held i.piece)), length-append c.args.self.now.held f.read, ap waiting_len f.reading, ap length c.into_iter.ensures.rest)
 
 pub returns-in-Ok-feed-clause-once : goal.returns-in-Ok-feed-clause-once
 returns-in-Ok-feed-clause-once g c = (fetched g (goal.at.returns-in-Ok-feed-clause-once g c).After-feed).once
@@ -146,18 +204,20 @@ returns-in-Ok-feed-clause-once g c = (fetched g (goal.at.returns-in-Ok-feed-clau
 pub returns-in-Err-feed-clause-once : goal.returns-in-Err-feed-clause-once
 returns-in-Err-feed-clause-once g c = (fetched g (goal.at.returns-in-Err-feed-clause-once g c).After-feed).once
 
-pub returns-in-Ok-feed-clause-takes_all : goal.returns-in-Ok-feed-clause-takes_all
-returns-in-Ok-feed-clause-takes_all g c =
-    let f = fetched g (goal.at.returns-in-Ok-feed-clause-takes_all g c).After-feed in
-    let units = c.in-Ok-feed.fed.units.items in
+pub returns-in-Ok-feed-clause-takes : goal.returns-in-Ok-feed-clause-takes
+returns-in-Ok-feed-clause-takes g c =
+    let at = goal.at.returns-in-Ok-feed-clause-takes g c in
+    let f = fetched g at.After-feed in
+    let p = fed_part g at.In-Ok-feed in
+    let i = c.if-self-2.self-inside in
+    let part = drop i.from (take c.min-end.result i.piece) in
     record {
       pieces = f.pieces;
+      taken = part;
       none_queued = c.requires;
       not_ended = f.was_going;
       came = f.came;
-      reads = subst (λ (q : List StreamUnit). ReadsOn c.args.self.now.reading (c.args.self.now.held ++ concat f.pieces) q c.feed.new.self.reading) (sym c.into_iter.ensures.rest)
-          (subst (λ (l : List ℕ). ReadsOn c.args.self.now.reading (c.args.self.now.held ++ l) units c.feed.new.self.reading) (sym f.whole)
-          (subst (λ (d : Ending). ReadsOn d (c.args.self.now.held ++ f.read) units c.feed.new.self.reading) f.reading
-          (subst (λ (l : List ℕ). ReadsOn c.if-self-eq0.self-inside.reader.reading l units c.feed.new.self.reading) f.held c.in-Ok-feed.ensures.units)));
-      none_held = refl;
+      kept = ap (λ (l : List ℕ). c.args.self.now.held ++ l) f.whole ∙ sym f.held ∙ p.cut;
+      reads = subst (λ (q : List StreamUnit). ReadsOn c.args.self.now.reading part q c.feed.new.self.reading) (sym c.into_iter.ensures.rest)
+          (subst (λ (d : Ending). ReadsOn d part c.in-Ok-feed.fed.units.items c.feed.new.self.reading) f.reading p.reads);
     }
