@@ -1,29 +1,21 @@
-//! The book.
-ghost use Rattle.std.specs.Prelude.{◌≡◌, ◌≤◌, ◌+◌, ◌∷◌, [], ℕ, true, false, None, Some, IfOk, IfErr, IfSome, IfNone, IsSome, MatchBool, OnErr, drop, length, reverse, take, Option};
+//! The book. `asking` has how a request is answered.
+ghost use Rattle.std.specs.Prelude.{◌≡◌, ◌≤◌, ◌+◌, ◌∷◌, [], true, false, None, Some, IfOk, IfSome, IfNone, OnErr, drop, length, reverse, take, Option};
 ghost use Rattle.std.specs.Option.{option_copied, option_map};
 ghost use Rattle.session_state.specs.declared.act.Act as acting;
 ghost use Rattle.session_state.specs.declared.act.Act.TheVariants as acts;
 ghost use Rattle.session_state.specs.declared.entry.Entry.TheVariants as entries;
 ghost use Rattle.session_state.specs.declared.fault.ConnectFault.TheVariants as faults;
 ghost use Rattle.session_state.specs.declared.session.Session.{Session};
-ghost use Rattle.session_state.specs.History.{accepts, how_many};
-ghost use Rattle.session_state.specs.Legal.{Comes, IsBack, IsExpiry, IsHangUp, IsLegal, IsReplyOf};
-ghost use Rattle.session_state.specs.Methods.{is_announce};
+ghost use Rattle.session_state.specs.Legal.{Comes, IsBack, IsExpiry, IsHangUp, IsLegal};
 ghost use Rattle.session_state.specs.Lookups.{IsSessionOf, came, is_open};
-ghost use Rattle.session_lock.specs.Asks.{IsFaultOf};
-ghost use Rattle.session_lock.specs.Books.{IsLedTo, IsOffer, kept_after, left_since};
-ghost use Rattle.session_lock.specs.Entries.{method_accepted};
-ghost use Rattle.session_lock.specs.Requests.{back_after, passes_after};
-ghost use Rattle.session_lock.specs.Spares.{AreSpare, handed_out, unended, with_pass};
+ghost use Rattle.session_lock.specs.Books.{IsLedTo, kept_after, left_since};
+ghost use Rattle.session_lock.specs.Spares.{AreSpare, unended, with_pass};
 
-use crate::answer::{Answer, AskFault, NoMemory};
-use crate::copies::{copies_of, make_room, room_for};
-use crate::entries::{Entries, accepted_method};
+mod asking;
+
+use crate::entries::{Entries, Retired};
 use crate::spares::Spares;
-use rtsp_message::Request;
-use session_state::{
-    Act, ConnectFault, Decision, Entry, Given, Method, Session, World, read_method,
-};
+use session_state::{Act, ConnectFault, Entry, Session, World};
 use std::alloc::Global;
 use std::collections::hash_map::RandomState;
 use std::marker::Model;
@@ -120,9 +112,10 @@ impl<P: Drop> Book<P> {
         self.entries.base()
     }
 
-    /// The base that a newer one has replaced since this was asked last: whoever keeps the book under a lock gives its memory
-    /// back after the lock, since it may be the last to hold mounts that have ended. Nobody has to ask: the next base drops it.
-    pub fn retired(&mut self) -> Option<World>
+    /// What the last cut left over, unless this has returned it before: the base that was replaced, and the entries that were cut
+    /// off. Whoever keeps the book under a lock drops it after the lock, since it may be the last to hold mounts that have ended,
+    /// and many large requests. Without this call the next cut drops it.
+    pub fn retired(&mut self) -> Option<Retired>
         ensures unchanged { self.new ≡ self.old }
     {
         self.entries.retired()
@@ -164,9 +157,9 @@ impl<P: Drop> Book<P> {
         if !self.world.may_come() {
             return Err(ConnectFault::Full);
         }
-        let next = self.entries.next_base(self.alloc, &self.world)?;
         self.entries
             .reserve(self.world.count_open(), self.spares.count_out())?;
+        let next = self.entries.next_base(self.alloc, &self.world)?;
         let conn = self.world.connect()?;
         self.entries.add(next, Entry::Connect(conn));
         Ok(conn)
@@ -227,105 +220,5 @@ impl<P: Drop> Book<P> {
         self.spares.put(mount, seat, pass);
         self.entries.add(None, Entry::Back { mount, seat });
         None
-    }
-
-    /// Answers a request of an open connection. An ANNOUNCE comes with an offer of passes, one for each seat, and is given
-    /// them back unless it is accepted; a PLAY that takes a seat is handed its pass. The only error is out of memory, and
-    /// then nothing has changed: all copies, a new base where the kept entries are cut off, and all room are made before
-    /// anything changes. Makes the room for the return of the seat, and for the expiry of the session that begins.
-    pub fn call(
-        &mut self,
-        conn: u64,
-        request: &Request,
-        given: &Given,
-        offer: Option<Vec<P>>,
-    ) -> Result<Answer<P>, NoMemory<P>>
-        requires open { is_open conn self.old.history ≡ true }
-        requires offer { IsOffer self.old.seats request.now.method (option_map (λ passes. passes.items) offer) }
-        ensures reply { IfOk result (λ answer. IsReplyOf self.old.seats self.old.history conn request.now given.entry.now answer.reply answer.act) }
-        ensures history { IfOk result (λ answer. self.new.history ≡ entries.Request conn request.now given.entry.now answer.reply answer.act ∷ self.old.history) }
-        ensures kept { IfOk result (λ answer. self.new.kept ≡ kept_after self.old) }
-        ensures spares { IfOk result (λ answer. self.new.spares ≡ passes_after conn (how_many (accepts is_announce) self.old.history + 1) (method_accepted request.now answer.reply) answer.act (option_map (λ passes. passes.items) offer) self.old.spares) }
-        ensures pass { IfOk result (λ answer. answer.pass ≡ handed_out answer.act self.old.spares) }
-        ensures play { IfOk result (λ answer. (mount seat : ℕ) → answer.act ≡ acts.Play mount seat → IsSome answer.pass) }
-        ensures back { IfOk result (λ answer. answer.back ≡ back_after (method_accepted request.now answer.reply) offer) }
-        ensures seats { self.new.seats ≡ self.old.seats }
-        ensures cut { self.new.cut ≡ self.old.cut }
-        ensures err { OnErr result (self.new ≡ self.old) }
-        ensures handed_back { IfErr result (λ refused. refused.back ≡ offer) }
-    {
-        let Ok(copies) = copies_of(self.alloc, request, given) else {
-            return Err(NoMemory { back: offer });
-        };
-        let Ok(room) = room_for(self.alloc, &offer) else {
-            return Err(NoMemory { back: offer });
-        };
-        let Ok(next) = self.entries.next_base(self.alloc, &self.world) else {
-            return Err(NoMemory { back: offer });
-        };
-        let opened = self.world.count_open();
-        let Ok(()) = make_room(opened, &mut self.entries, &mut self.spares) else {
-            return Err(NoMemory { back: offer });
-        };
-        let number = self.world.next_mount();
-        let Ok(decision) = self.world.decide_and_copy(self.alloc, conn, request, given) else {
-            return Err(NoMemory { back: offer });
-        };
-        let Decision { reply, copy, act } = decision;
-        let method = accepted_method(request, &reply);
-        self.entries.add(next, copies.into_entry(conn, copy, act));
-        let (pass, back) = self.spares.settle(conn, number, method, act, offer, room);
-        Ok(Answer {
-            reply,
-            act,
-            pass,
-            back,
-        })
-    }
-
-    /// `call`, with its conditions tested: the first that isn't met is told, and the offer comes back. After an error nothing
-    /// has changed.
-    pub fn ask(
-        &mut self,
-        conn: u64,
-        request: &Request,
-        given: &Given,
-        offer: Option<Vec<P>>,
-    ) -> Result<Answer<P>, AskFault<P>>
-        ensures open { IfOk result (λ answer. is_open conn self.old.history ≡ true) }
-        ensures offered { IfOk result (λ answer. IsOffer self.old.seats request.now.method (option_map (λ passes. passes.items) offer)) }
-        ensures reply { IfOk result (λ answer. IsReplyOf self.old.seats self.old.history conn request.now given.entry.now answer.reply answer.act) }
-        ensures history { IfOk result (λ answer. self.new.history ≡ entries.Request conn request.now given.entry.now answer.reply answer.act ∷ self.old.history) }
-        ensures kept { IfOk result (λ answer. self.new.kept ≡ kept_after self.old) }
-        ensures spares { IfOk result (λ answer. self.new.spares ≡ passes_after conn (how_many (accepts is_announce) self.old.history + 1) (method_accepted request.now answer.reply) answer.act (option_map (λ passes. passes.items) offer) self.old.spares) }
-        ensures pass { IfOk result (λ answer. answer.pass ≡ handed_out answer.act self.old.spares) }
-        ensures play { IfOk result (λ answer. (mount seat : ℕ) → answer.act ≡ acts.Play mount seat → IsSome answer.pass) }
-        ensures back { IfOk result (λ answer. answer.back ≡ back_after (method_accepted request.now answer.reply) offer) }
-        ensures seats { self.new.seats ≡ self.old.seats }
-        ensures cut { self.new.cut ≡ self.old.cut }
-        ensures fault { IfErr result (IsFaultOf self.old.seats self.old.history conn request.now.method offer) }
-        ensures err { OnErr result (self.new ≡ self.old) }
-    {
-        if !self.is_open(conn) {
-            return Err(AskFault::NotOpen { back: offer });
-        }
-        if !is_offer(self.seats, request, &offer) {
-            return Err(AskFault::BadOffer { back: offer });
-        }
-        match self.call(conn, request, given, offer) {
-            Ok(answer) => Ok(answer),
-            Err(refused) => Err(AskFault::NoMemory { back: refused.back }),
-        }
-    }
-}
-
-/// Whether passes are offered as a request asks for them: one for each seat with ANNOUNCE, and none with another method.
-fn is_offer<P>(seats: usize, request: &Request, offer: &Option<Vec<P>>) -> bool
-    ensures { MatchBool result (IsOffer seats request.now.method (option_map (λ passes. passes.items) offer.now)) (IsOffer seats request.now.method (option_map (λ passes. passes.items) offer.now) → ⊥) }
-{
-    let announces = read_method(request.method.as_slice()) == Some(Method::Announce);
-    match offer {
-        None => !announces,
-        Some(passes) => announces && passes.len() == seats,
     }
 }

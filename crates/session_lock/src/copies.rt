@@ -8,15 +8,26 @@ use rtsp_message::{Reply, Request};
 use session_state::{Act, Entry, Given};
 use std::alloc::{AllocError, Global};
 
-/// What the history keeps of a request, beside its connection and how it is answered.
+/// A request and what is given with it, copied: what the history keeps of a request, beside its connection and its answer.
 #[derive(Drop)]
-pub(crate) struct Copies {
+pub struct Copies {
     pub request: Request,
     pub given: Given,
 }
 
 impl Copies {
     ghost use Rattle.session_state.specs.declared.entry.Entry.TheVariants as entries;
+
+    /// Copies a request and what is given with it. The only error is out of memory.
+    pub fn of(alloc: Global, request: &Request, given: &Given) -> Result<Copies, AllocError>
+        ensures request { IfOk result (λ copies. copies.request ≡ request.now) }
+        ensures given { IfOk result (λ copies. copies.given ≡ given.entry.now) }
+    {
+        Ok(Copies {
+            request: request.copy(alloc)?,
+            given: given.copy(alloc)?,
+        })
+    }
 
     /// The entry of the request, with the reply and the act that it got. Takes no memory.
     pub(crate) fn into_entry(self, conn: u64, reply: Reply, act: Act) -> Entry
@@ -30,21 +41,6 @@ impl Copies {
             act,
         }
     }
-}
-
-/// Copies a request and what is handed in with it.
-pub(crate) fn copies_of(
-    alloc: Global,
-    request: &Request,
-    given: &Given,
-) -> Result<Copies, AllocError>
-    ensures request { IfOk result (λ copies. copies.request ≡ request.now) }
-    ensures given { IfOk result (λ copies. copies.given ≡ given.entry.now) }
-{
-    Ok(Copies {
-        request: request.copy(alloc)?,
-        given: given.copy(alloc)?,
-    })
 }
 
 /// Makes the room that a request may need: for its entry, for the return of the seat that it takes or the expiry of the

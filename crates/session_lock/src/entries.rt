@@ -1,6 +1,6 @@
 //! The history as it is written down.
 ghost use Rattle.std.specs.Prelude.{◌≡◌, ◌≤◌, ◌<◌, ◌+◌, ◌^◌, [], None, Some, IfOk, OnOk, length, take, reverse, nat_le, if◌then◌else◌};
-ghost use Rattle.session_lock.specs.Entries.{Adds, method_accepted};
+ghost use Rattle.session_lock.specs.Entries.{Adds, HasRoomFor, base_in, method_accepted};
 
 use crate::chronicle::Chronicle;
 use rtsp_message::{Reply, Request};
@@ -9,13 +9,31 @@ use std::alloc::{AllocError, Global};
 use std::marker::Model;
 use std::mem;
 
+/// What a cut leaves over. Whoever keeps the book under a lock drops it after the lock.
+#[derive(Drop)]
+pub struct Retired {
+    /// The base before.
+    pub base: World,
+    /// The entries that were cut off.
+    pub entries: Vec<Entry>,
+}
+
+/// What a cut puts in place, made before anything changes.
+#[derive(Drop)]
+pub(crate) struct NextBase {
+    /// The world that all entries so far led to.
+    pub world: World,
+    /// No entries yet, and room for as many as before.
+    pub entries: Vec<Entry>,
+}
+
 /// The history as it is written down: its newest entries, and the world that those before them led to.
 pub(crate) struct Entries {
     // How many entries are kept, or more, when all are cut off before the next one.
     cut: usize,
     base: World,
-    // The base before it, until it is taken or another one follows.
-    retired: Option<World>,
+    // What the last cut left over, until it is taken or another cut follows.
+    retired: Option<Retired>,
     // The newest entry is the last.
     entries: Vec<Entry>,
     history: Chronicle<Entry>,
@@ -83,25 +101,30 @@ impl Entries {
         &self.base
     }
 
-    /// The base that a newer one has replaced since this was asked last. Nothing else changes.
-    pub(crate) fn retired(&mut self) -> Option<World>
+    /// What the last cut left over, unless it was taken before. Nothing else changes.
+    pub(crate) fn retired(&mut self) -> Option<Retired>
         ensures { self.new ≡ self.old }
     {
         self.retired.take()
     }
 
-    /// A copy of the world as it stands now, where all entries are cut off before the next one: it is their new base.
+    /// What the next cut puts in place, if the cut is due at the next entry: a copy of the world, and room for as
+    /// many entries as there is here.
     pub(crate) fn next_base(
         &self,
         alloc: Global,
         world: &World,
-    ) -> Result<Option<World>, AllocError>
-        ensures { IfOk result (λ next. next ≡ (if nat_le self.now.cut self.now.kept then Some world.now else None)) }
+    ) -> Result<Option<NextBase>, AllocError>
+        ensures base { IfOk result (λ next. base_in next ≡ (if nat_le self.now.cut self.now.kept then Some world.now else None)) }
+        ensures room { IfOk result (λ next. HasRoomFor self.now.room next) }
     {
         if self.entries.len() < self.cut {
             return Ok(None);
         }
-        Ok(Some(world.copy(alloc)?))
+        Ok(Some(NextBase {
+            world: world.copy(alloc)?,
+            entries: Vec::with_capacity(alloc, self.entries.capacity())?,
+        }))
     }
 
     /// Makes room for two entries more than may be promised: for the hang-up and the expiry of each that is open, and for the
@@ -116,15 +139,18 @@ impl Entries {
         self.entries.reserve(opened + opened + out + 2)
     }
 
-    /// Writes an entry down, in room that was made for it; where a new base is given, all entries before it are cut off
-    /// first. The room stays. Takes no memory.
-    pub(crate) fn add(&mut self, next: Option<World>, entry: Entry)
-        requires { 0 < self.old.room }
-        ensures { Adds next entry self.old self.new }
+    /// Writes an entry down, in room that was made for it; if a new base is given, all entries before it are cut off first, and
+    /// `retired` returns them. The room stays. Takes no memory.
+    pub(crate) fn add(&mut self, next: Option<NextBase>, entry: Entry)
+        requires room { 0 < self.old.room }
+        requires next { HasRoomFor self.old.room next }
+        ensures { Adds (base_in next) entry self.old self.new }
     {
-        if let Some(base) = next {
-            self.retired = Some(mem::replace(&mut self.base, base));
-            self.entries.clear();
+        if let Some(next) = next {
+            self.retired = Some(Retired {
+                base: mem::replace(&mut self.base, next.world),
+                entries: mem::replace(&mut self.entries, next.entries),
+            });
         }
         self.history = self.history.and(&entry);
         self.entries.push(entry).unwrap();

@@ -11,5 +11,7 @@ mod spares;
 
 pub use answer::{Answer, AskFault, NoMemory};
 pub use book::Book;
+pub use copies::Copies;
+pub use entries::Retired;
 pub use passes::Passes;
 pub use spares::MountPasses;

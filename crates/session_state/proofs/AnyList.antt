@@ -1,11 +1,10 @@
 -- What a request is answered doesn't go by how the mounts that live are listed.
-use Rattle.std.proofs.Common.{◌≡◌, ℕ, List, [], ◌∷◌, length, inl, inr, IsSome, Option, None, Some, sym, subst, ◌∙◌, arith}
+use Rattle.std.proofs.Common.{ℕ, List, [], ◌∷◌, inl, inr, IsSome, Option, None, Some, sym, subst, ◌∙◌, arith}
 use Rattle.rtsp_message.specs.declared.request.Request as messages
 use Rattle.rtsp_message.specs.declared.reply.Reply.{Reply}
 use Rattle.mounts.specs.declared.mount.Mount.{Mount}
 use Rattle.mounts.specs.declared.target.Target.{Target}
-use Rattle.mounts.specs.Find.{IsFoundIn}
-use Rattle.mounts.specs.Mounts.{named, numbered, owned_by}
+use Rattle.mounts.specs.Mounts.{named, numbered}
 use Rattle.session_state.specs.declared.act.Act.{Act}
 use Rattle.session_state.specs.declared.checks.Check.{Check}
 use Rattle.session_state.specs.declared.checks.Check.TheVariants.{HasCSeq, HasVersion, HasMethod, RequiresNothing, HasUri, HasItsSession, NamesAStream, FitsState, HasNoBody, AcceptsSdp, MayAnnounce, HasSdpType, IsDescription, HasFewTracks, HasRoomForMount, OwnsNoOther, NamesATrack, HasTransport, MayRecord, HasRoomForSession, IsForPlaying, IsForRecording, IsAggregate, HasFreeSeat}
@@ -18,7 +17,7 @@ use Rattle.session_state.specs.History.{History}
 use Rattle.session_state.specs.Legal.{IsAnswered, IsLegal}
 use Rattle.session_state.specs.Methods.{method_of}
 use Rattle.session_state.specs.Replies.{IsAccepted}
-use Rattle.session_state.specs.Streams.{AreLive, IsOwnMount, IsSetUpOn, SetsUp}
+use Rattle.session_state.specs.Streams.{AreLive}
 use Rattle.session_state.proofs.Listed.{Agree, agreeing, set_up_on_too, sets_up_too, turned}
 
 module _ (seats : ℕ) (history : History) (conn : ℕ) (request : messages.Request) (session : Option Session) where

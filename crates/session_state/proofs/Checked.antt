@@ -11,12 +11,12 @@ passes_both : (asked : Asked) (xs ys : List Check) → PassesAll asked xs → Pa
 passes_both asked [] ys p q = q
 passes_both asked (x ∷ xs) ys p q = (p.0, passes_both asked xs ys p.1 q)
 
-fails_before : (asked : Asked) (xs ys : List Check) (check : Check) → FailsFirst asked xs check → FailsFirst asked (xs ++ ys) check
+pub fails_before : (asked : Asked) (xs ys : List Check) (check : Check) → FailsFirst asked xs check → FailsFirst asked (xs ++ ys) check
 fails_before asked [] ys check h = absurd h
 fails_before asked (x ∷ xs) ys check (inl here) = inl here
 fails_before asked (x ∷ xs) ys check (inr (passes, later)) = inr (passes, fails_before asked xs ys check later)
 
-fails_later : (asked : Asked) (xs ys : List Check) (check : Check) → PassesAll asked xs → FailsFirst asked ys check → FailsFirst asked (xs ++ ys) check
+pub fails_later : (asked : Asked) (xs ys : List Check) (check : Check) → PassesAll asked xs → FailsFirst asked ys check → FailsFirst asked (xs ++ ys) check
 fails_later asked [] ys check p h = h
 fails_later asked (x ∷ xs) ys check p h = inr (p.0, fails_later asked xs ys check p.1 h)
 

@@ -46,3 +46,4 @@ pub mod ToldChannels
 pub mod FewChannels
 pub mod OneSession
 pub mod OneLegal
+pub mod WellAsked

@@ -2,7 +2,6 @@
 use Rattle.std.proofs.Common.{◌≡◌, ℕ, ◌==◌, ◌≤◌, List, length, inl, inr, Option, None, Some, sym, subst, ◌∙◌}
 use Rattle.mounts.specs.declared.mount.Mount.{Mount}
 use Rattle.mounts.specs.declared.target.Target.{Target}
-use Rattle.mounts.specs.declared.uri.Uri.TheVariants.{At}
 use Rattle.mounts.specs.Find.{IsFoundIn}
 use Rattle.mounts.specs.Mounts.{named, numbered, owned_by}
 use Rattle.mounts.proofs.Firsts.{found_all}

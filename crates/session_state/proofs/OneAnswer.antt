@@ -1,24 +1,16 @@
 -- What a legal history tells of its mounts has one answer, in whatever order they are listed.
-use Rattle.std.proofs.Common.{◌≡◌, ℕ, ◌==◌, ◌≤◌, Bool, true, false, cond, List, [], ◌∷◌, length, inl, inr, Option, None, Some, refl, ap, sym, subst, ◌∙◌}
+use Rattle.std.proofs.Common.{◌≡◌, ℕ, ◌==◌, ◌≤◌, Bool, true, false, cond, List, [], ◌∷◌, length, Some, refl, ap, sym, subst, ◌∙◌}
 use Rattle.std.specs.List.{find}
 use Rattle.std.specs.Str.{bytes_eq}
 use Rattle.std.specs.Cmp.Lexicographic.{bytes_decides}
 use Rattle.std.proofs.lemmas.Bool.{eqb-true, eq-eqb}
-use Rattle.sdp.specs.declared.sections.Sections.{Sections}
 use Rattle.mounts.specs.declared.mount.Mount.{Mount}
-use Rattle.mounts.specs.declared.target.Target.{Target}
-use Rattle.mounts.specs.declared.uri.Uri.TheVariants.{At}
-use Rattle.mounts.specs.Find.{IsFoundIn}
 use Rattle.mounts.specs.Mounts.{named, numbered, owned_by}
-use Rattle.mounts.specs.Names.{GoesOn}
-use Rattle.mounts.specs.Tracks.{IsNamedBy}
 use Rattle.mounts.proofs.Firsts.{found_all, found_passes}
-use Rattle.mounts.proofs.OneAnswer.{named_once, one_uri}
 use Rattle.session_state.specs.Methods.{is_announce}
 use Rattle.session_state.specs.History.{History, IsNth, accepts}
 use Rattle.session_state.specs.Legal.{IsLegal}
-use Rattle.session_state.specs.Streams.{AreLive, IsLive, IsLiveMount, IsOwnMount, IsSetUpOn, IsTrackOf, SetsUp}
-use Rattle.session_state.proofs.CheckedNames.{one_set_up as one_among}
+use Rattle.session_state.specs.Streams.{AreLive, IsLive, IsLiveMount}
 use Rattle.session_state.proofs.Namesakes.{HasName, one_announcement, one_of_a_name}
 use Rattle.session_state.proofs.Nth.{one_nth}
 use Rattle.session_state.proofs.Owners.{owns_one}

@@ -1,18 +1,13 @@
 -- What a legal history tells of a mount doesn't go by how the mounts that live are listed.
-use Rattle.std.proofs.Common.{◌≡◌, ℕ, suc, ◌==◌, Bool, List, [], ◌∷◌, ◌++◌, length, slice_get, Option, None, Some, refl, ap, sym, subst, ◌∙◌}
+use Rattle.std.proofs.Common.{◌≡◌, ℕ, suc, ◌==◌, Bool, List, [], ◌∷◌, length, slice_get, Option, None, Some, refl, ap, sym, ◌∙◌}
 use Rattle.std.specs.Str.{bytes_eq}
 use Rattle.sdp.specs.declared.sections.Sections.{Sections}
 use Rattle.mounts.specs.declared.mount.Mount.{Mount}
 use Rattle.mounts.specs.Mounts.{named, numbered, owned_by}
 use Rattle.mounts.proofs.Firsts.{found_all}
-use Rattle.rtsp_message.specs.declared.request.Request as messages
-use Rattle.session_state.specs.declared.entry.Entry.{Entry}
-use Rattle.session_state.specs.declared.session.Session.{Session}
-use Rattle.session_state.specs.History.{History, Moment}
-use Rattle.session_state.specs.Lookups.{IsSession, SetUpAt, sessions_begun, word_of}
+use Rattle.session_state.specs.History.{History}
 use Rattle.session_state.specs.Legal.{IsLegal}
-use Rattle.session_state.specs.Streams.{AreLive, IsLiveMount, SetsUp, is_out}
-use Rattle.session_state.proofs.Identifiers.{is_beginning}
+use Rattle.session_state.specs.Streams.{AreLive, IsLiveMount, is_out}
 use Rattle.session_state.proofs.OneAnswer.{AreOne, one_named, one_numbered, one_owned}
 
 -- lists of the same length with the same elements at each place are one

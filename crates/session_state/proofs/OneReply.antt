@@ -44,7 +44,7 @@ one_failure asked (check ∷ checks) one other (inl (is, fails)) (inr (passes, l
 one_failure asked (check ∷ checks) one other (inr (passes, later)) (inl (so, fails)) = absurd (fails passes)
 one_failure asked (check ∷ checks) one other (inr (passes, later)) (inr (also, last)) = one_failure asked checks one other later last
 
-fails_or_passes : (asked : Asked) (checks : List Check) (one : Check) → FailsFirst asked checks one → PassesAll asked checks → ⊥
+pub fails_or_passes : (asked : Asked) (checks : List Check) (one : Check) → FailsFirst asked checks one → PassesAll asked checks → ⊥
 fails_or_passes asked [] one fails passes = fails
 fails_or_passes asked (check ∷ checks) one (inl (is, fails)) passes = fails passes.0
 fails_or_passes asked (check ∷ checks) one (inr (also, later)) passes = fails_or_passes asked checks one later passes.1

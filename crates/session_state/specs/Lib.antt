@@ -10,3 +10,4 @@ pub mod Stands
 pub mod Judged
 pub mod Applied
 pub mod Asking
+pub mod WellAsked

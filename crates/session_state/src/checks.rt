@@ -25,6 +25,7 @@ mod setup;
 
 use crate::method::Method;
 pub(crate) use accepted::Accepted;
+pub use any_request::sound_method;
 pub(crate) use refusal::Refusal;
 
 /// What a request is checked for (RFC 2326, 10 to 12). Each method has its list of checks, in the order that

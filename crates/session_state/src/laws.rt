@@ -11,15 +11,18 @@ ghost use Rattle.session_state.specs.declared.act.Act.TheVariants as acts;
 ghost use Rattle.session_state.specs.declared.entry.Entry.{Entry};
 ghost use Rattle.session_state.specs.declared.entry.Entry.TheVariants.{Request, Back};
 ghost use Rattle.session_state.specs.declared.given.Given.{Given};
+ghost use Rattle.session_state.specs.declared.checks.Check.{Check};
+ghost use Rattle.session_state.specs.declared.method.Method.{Method};
 ghost use Rattle.session_state.specs.declared.method.Method.TheVariants as methods;
 ghost use Rattle.session_state.specs.declared.session.Session.{Session};
 ghost use Rattle.session_state.specs.declared.session.State.TheVariants.{Ready};
 ghost use Rattle.session_state.specs.History.{History, accepts, accepts_from, how_many};
-ghost use Rattle.session_state.specs.Checks.{Asked, LooksUp};
+ghost use Rattle.session_state.specs.Checks.{Asked, FailsFirst, LooksUp, PassesAll, checks_of};
 ghost use Rattle.session_state.specs.Legal.{IsAnswered, IsExpiry, IsLegal, IsReplyOf, IsSameAct};
 ghost use Rattle.session_state.specs.Lookups.{AreOpen, IsSession, IsSessionOf, came, has_session, is_open, open_count, sessions_begun};
 ghost use Rattle.session_state.specs.Methods.{is_announce, method_of, moves};
 ghost use Rattle.session_state.specs.Streams.{AreLive, IsLiveMount, ends_of, is_out};
+ghost use Rattle.session_state.specs.WellAsked.{IsWellAsked, first_checks};
 
 /// In a legal history a PLAY takes a seat below the number of seats, and a free one; in Ready each PLAY that is answered 200
 /// takes one of its session's mount. A seat is given back only while it is out. So no seat is out twice.
@@ -130,4 +133,13 @@ pub fn one_answer()
     ensures act { (seats : ℕ) (history : History) (conn : ℕ) (request : messages.Request) (given : Given) (one other : Reply) (act behind : Act) → IsLegal seats history
         → IsReplyOf seats history conn request given one act → IsReplyOf seats history conn request given other behind → IsSameAct act behind }
     ensures expiry { (seats : ℕ) (history : History) (conn heard now other later : ℕ) (act behind : Act) → IsLegal seats history → IsExpiry seats history conn heard now act → IsExpiry seats history conn other later behind → act ≡ behind }
+{}
+
+/// A request that is well asked of a method passes the first checks, whatever history comes before it, and one that is well asked
+/// of none fails one of them, by which it is refused: they begin the list of checks that decides.
+pub fn well_asked_requests_pass_the_first_checks()
+    ensures passes { (asked : Asked) (method : Method) → IsWellAsked asked.request method → PassesAll asked (first_checks (Some method)) }
+    ensures fails { (asked : Asked) → ((method : Method) → IsWellAsked asked.request method → ⊥)
+        → (check : Check) × FailsFirst asked (first_checks (method_of asked.request.method)) check × FailsFirst asked (checks_of (method_of asked.request.method)) check }
+    ensures first { (method : Option Method) → (others : List Check) × (checks_of method ≡ first_checks method ++ others) }
 {}

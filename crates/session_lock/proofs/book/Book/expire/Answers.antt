@@ -11,8 +11,8 @@ returns-in_err-act-clause-none g c none act expiry =
     let mine = subst (λ now. IsExpiry now.seats now.history c.args.conn c.args.heard c.args.now act) (sym c.self.view_is) expiry in
     c.in_err-act.ensures.none refl c.self.inside.entries.history act kept.stands (subst (λ n. IsExpiry n c.self.inside.entries.history c.args.conn c.args.heard c.args.now act) (sym kept.seats_are) mine)
 
-pub add-requires : goal.add-requires
-add-requires g c =
+pub add-requires-clause-room : goal.add-requires-clause-room
+add-requires-clause-room g c =
     let written = c.self.inside.entries in
     let kept = c.self.invariant in
     let legal = subst (λ n. IsLegal n written.history) (sym kept.seats_are) kept.legal in
