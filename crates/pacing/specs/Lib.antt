@@ -1,4 +1,5 @@
 pub mod Patiences
+pub mod ReadRates
 pub mod Rounds
 pub mod Allowances
 pub mod Insisting

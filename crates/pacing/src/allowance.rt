@@ -1,25 +1,25 @@
-//! For how long a publisher may wait.
+//! How long a publisher may wait.
 ghost use Rattle.std.specs.Prelude.{◌≡◌, ◌≤◌, ◌∷◌, [], ◌-◌};
 ghost use Rattle.pacing.specs.Allowances.{IsWithin, counted_in, left_at, spent, waited_in};
 
-/// How long may be waited in five windows that follow one another, in microseconds.
+/// The most that a publisher may wait in five consecutive windows, in microseconds.
 const MOST: u64 = 20_000;
 
-/// How long a window is, in microseconds.
+/// The length of a window, in microseconds.
 const WINDOW: u64 = 50_000;
 
-/// For how long a publisher may still wait: 20 milliseconds in any 200. Moments are microseconds of a clock that doesn't go
+/// How long a publisher may still wait: 20 milliseconds in any 200. Moments are microseconds of a clock that doesn't go
 /// back. A wait counts in the window of 50 milliseconds in which it ends.
 #[derive(Clone, Copy, Debug, PartialEq, Eq, Drop)]
 pub struct Allowance {
     /// The window in which the last wait ended, counted from 5.
     pub window: u64,
-    /// What was waited in it and in the four windows before it, the last first.
+    /// The microseconds waited in it and in the four windows before it, the last first.
     pub waited: [u64; 5],
 }
 
 impl Allowance {
-    /// Nothing was waited.
+    /// No wait has counted yet.
     pub fn new() -> Allowance
         ensures new { result ≡ record { window = 0; waited = 0 ∷ 0 ∷ 0 ∷ 0 ∷ 0 ∷ [] } }
         ensures within { IsWithin result }
@@ -30,7 +30,7 @@ impl Allowance {
         }
     }
 
-    /// How long a wait may take that begins now.
+    /// Returns how long a wait that begins now may take, in microseconds.
     pub fn left(&self, now: u64) -> u64
         ensures { result ≡ left_at self.now now }
     {
@@ -44,9 +44,9 @@ impl Allowance {
         MOST.saturating_sub(waited)
     }
 
-    /// A wait began and ended at these moments. What was waited in the four windows before the one that it counts in stays, and
-    /// nothing is known of earlier ones. Where no wait lasts longer than was left when it began, no five windows in a row, and so
-    /// no 200 milliseconds, have more than 20 milliseconds of waits.
+    /// Counts a wait that began and ended at these moments. The waits of the four windows before the one that it counts in are
+    /// kept, and those of earlier windows are dropped. If no wait lasts longer than was left when it began, no five consecutive
+    /// windows, and so no 200 milliseconds, have more than 20 milliseconds of waits.
     pub fn spend(&mut self, began: u64, ended: u64)
         ensures within { IsWithin self.old → began ≤ ended → ended - began ≤ left_at self.old began → IsWithin self.new }
         ensures new { self.new ≡ record { window = counted_in self.old ended; waited = spent self.old (counted_in self.old ended) (ended - began) } }
@@ -67,7 +67,7 @@ impl Allowance {
         };
     }
 
-    /// What was waited in a window.
+    /// Returns the microseconds waited in a window.
     fn in_window(&self, window: u64) -> u64
         ensures { result ≡ waited_in self.now window }
     {

@@ -1,4 +1,4 @@
-//! A feed that tries again what was refused as pinned.
+//! A feed that retries what was refused as pinned.
 ghost use Rattle.std.specs.Prelude.{◌≡◌, false};
 ghost use Rattle.pacing.specs.Insisting.{PublishesAtLast, given_up_after as given_up_behind};
 
@@ -11,14 +11,14 @@ pub trait Pause {
     fn pause(&mut self, number: u32);
 }
 
-/// How often a publish that was refused as pinned is tried again, at most.
+/// How often a publish that was refused as pinned is retried, at most.
 const MOST_TRIES: u32 = 40;
 
-/// A feed that tries a publish again that was refused as pinned: a reader was just copying the packet that it would have
-/// replaced, and will be gone in a moment. Where all tries were refused, the refusal is answered, and no publish is tried
-/// twice until one goes through: a reader that stays costs its publisher one such wait.
+/// A feed that retries a publish that was refused as pinned: a reader was just copying the packet that it would have
+/// replaced, and will be gone in a moment. If all tries were refused, the refusal is returned, and no publish is retried
+/// until one goes through. So a reader that stays costs its publisher one such wait.
 ///
-/// A contract sees the feed in it, and whether the last publish was given up.
+/// Its model has the feed in it, and whether the last publish was given up.
 #[derive(Drop)]
 pub struct Insisting<F, P> {
     feed: F,
@@ -56,7 +56,7 @@ impl<F: Feed, P: Pause + Drop> Feed for Insisting<F, P> {
 
     ghost publish_gives = { PublishesAtLast F.publish_gives };
 
-    /// Publishes into the inner feed, again where that was refused as pinned.
+    /// Publishes into the inner feed, and retries if that was refused as pinned.
     fn publish(&mut self, tag: u8, bytes: &[u8]) -> Result<u64, Refused> {
         let most = if self.gave_up { 0 } else { MOST_TRIES };
         for number in 0..most {
@@ -82,7 +82,8 @@ impl<F: Feed, P: Pause + Drop> Feed for Insisting<F, P> {
     }
 }
 
-/// Whether the last publish was given up, after this answer: what is too long or comes too late never reached its place.
+/// Returns whether the last publish was given up, after this answer: what is too long or comes too late never reached its
+/// place.
 fn given_up_after(gave_up: bool, answer: &Result<u64, Refused>) -> bool
     ensures { result ≡ given_up_behind gave_up answer.now }
 {

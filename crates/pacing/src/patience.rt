@@ -1,12 +1,18 @@
 //! When a peer that takes nothing is tried again, and when it is given up.
 ghost use Rattle.std.specs.Prelude.{◌≡◌, ◌≤◌, ◌-◌, ◌+◌, ◌*◌, ◌^◌, ◌↔◌, true, min};
-ghost use Rattle.pacing.specs.Patiences.{next_distance, later};
+ghost use Rattle.pacing.specs.Patiences.{is_recent, later, next_distance};
 
 /// The longest distance of two tries, in milliseconds.
 const MOST: u64 = 100;
 
-/// Bytes wait for a peer that takes none now: it is tried again after a millisecond, and then at distances that double up to a
-/// tenth of a second. Moments are milliseconds of a clock that doesn't go back.
+/// The longest distance of two tries of a peer that a publisher may wait for, in milliseconds.
+const MOST_AWAITED: u64 = 2;
+
+/// For how many milliseconds a peer that takes nothing may be one whose network is only slow to acknowledge.
+const RECENT: u64 = 20;
+
+/// Bytes wait for a peer that takes none now: it is tried again after a millisecond, and then at distances that double up to a tenth
+/// of a second. One that a publisher may wait for is tried every two milliseconds for the first 20. Moments are milliseconds of a clock that doesn't go back.
 #[derive(Clone, Copy, Debug, PartialEq, Eq, Drop)]
 pub struct Patience {
     /// When the peer last took a byte, or the first had to wait.
@@ -43,11 +49,23 @@ impl Patience {
         self.due.saturating_sub(now)
     }
 
-    /// The peer was tried in vain.
-    pub fn wait_on(&mut self, now: u64)
-        ensures { self.new ≡ record { since = self.old.since; due = later now (next_distance self.old.distance); distance = next_distance self.old.distance } }
+    /// Whether the peer took a byte, or the first had to wait, less than 20 milliseconds ago.
+    pub fn is_recent(&self, now: u64) -> bool
+        ensures { result ≡ is_recent self.now now }
     {
-        let distance = self.distance.saturating_mul(2).min(MOST);
+        now.saturating_sub(self.since) < RECENT
+    }
+
+    /// The peer was tried in vain. `is_awaited` if a publisher may wait for it.
+    pub fn wait_on(&mut self, now: u64, is_awaited: bool)
+        ensures { self.new ≡ record { since = self.old.since; due = later now (next_distance self.old now is_awaited); distance = next_distance self.old now is_awaited } }
+    {
+        let most = if is_awaited && self.is_recent(now) {
+            MOST_AWAITED
+        } else {
+            MOST
+        };
+        let distance = self.distance.saturating_mul(2).min(most);
         *self = Patience {
             since: self.since,
             due: now.saturating_add(distance),
@@ -55,7 +73,7 @@ impl Patience {
         };
     }
 
-    /// Whether the peer has taken no byte for so many milliseconds.
+    /// Whether the peer has taken no byte for this many milliseconds.
     pub fn is_spent(&self, now: u64, most: u64) -> bool
         ensures { result ≡ true ↔ most ≤ now - self.now.since }
     {

@@ -7,10 +7,10 @@ use crate::standing::Standing;
 use std::alloc::{AllocError, Global};
 use std::marker::Model;
 
-/// How the players of a mount stand to its publisher, which waits in rounds: a round is opened with how many packets are to be
-/// taken, and is over once each player that kept up has taken as many or left, or was given up.
+/// The standings of a mount's players towards its publisher, which waits in rounds. A round is opened with a target: how many
+/// packets are to be taken. It is over when each player that kept up has taken that many, has left or was given up.
 ///
-/// A contract sees the standing of each seat, and the round's target.
+/// Its model has the standing of each seat, and the round's target.
 #[derive(Drop)]
 pub struct Round {
     players: Vec<Standing>,
@@ -31,7 +31,7 @@ impl Model for Round {
 }
 
 impl Round {
-    /// Nobody has any of so many seats.
+    /// The round of a mount with `seats` seats, none of which is taken.
     pub fn new(alloc: Global, seats: usize) -> Result<Round, AllocError>
         ensures { IfOk result (λ r. r ≡ record { players = replicate seats Absent; target = 0 }) }
     {
@@ -49,8 +49,8 @@ impl Round {
         self.count
     }
 
-    /// A player takes a seat. Nobody waits for it until it has taken all. Tells whether the seat's last player was the last that
-    /// was awaited, which can't be where that one has left.
+    /// A player takes a seat. It isn't waited for until it has taken all. Returns whether the seat's previous player was the
+    /// last that was awaited, which can't be if that one has left.
     pub fn join(&mut self, seat: usize) -> bool
         ensures new { self.new ≡ record self.old { players = slice_set self.old.players seat Behind } }
         ensures last { IsTrue result ↔ ((0 < awaited self.old.players) × (awaited self.new.players ≡ 0)) }
@@ -60,7 +60,7 @@ impl Round {
         before > 0 && self.count == 0
     }
 
-    /// A player leaves its seat. Tells whether it was the last that was awaited.
+    /// A player leaves its seat. Returns whether it was the last that was awaited.
     pub fn leave(&mut self, seat: usize) -> bool
         ensures new { self.new ≡ record self.old { players = slice_set self.old.players seat Absent } }
         ensures last { IsTrue result ↔ ((0 < awaited self.old.players) × (awaited self.new.players ≡ 0)) }
@@ -70,7 +70,7 @@ impl Round {
         before > 0 && self.count == 0
     }
 
-    /// A player had nothing more to take when so many packets were published. Tells whether it was the last that was
+    /// A player had nothing more to take when `at` packets were published. Returns whether it was the last that was
     /// awaited.
     pub fn level(&mut self, seat: usize, at: u64) -> bool
         ensures new { self.new ≡ record self.old { players = slice_set self.old.players seat (levelled self.old.target at (standing_of self.old.players seat)) } }
@@ -84,8 +84,8 @@ impl Round {
         before > 0 && self.count == 0
     }
 
-    /// A player has taken so many packets, and perhaps not all: one that is behind stays so. Tells whether it was the last that
-    /// was awaited.
+    /// A player has taken `at` packets, and perhaps not all: one that is behind stays behind. Returns whether it was the last
+    /// that was awaited.
     pub fn reach(&mut self, seat: usize, at: u64) -> bool
         ensures new { self.new ≡ record self.old { players = slice_set self.old.players seat (reached self.old.target at (standing_of self.old.players seat)) } }
         ensures last { IsTrue result ↔ ((0 < awaited self.old.players) × (awaited self.new.players ≡ 0)) }
@@ -98,7 +98,7 @@ impl Round {
         before > 0 && self.count == 0
     }
 
-    /// A player was seen to have taken so many packets. Where nobody waits for it yet, or it is awaited, nothing changes.
+    /// A player was seen to have taken `at` packets. If it isn't waited for yet, or is awaited, nothing changes.
     pub fn follow(&mut self, seat: usize, at: u64)
         ensures { self.new ≡ record self.old { players = slice_set self.old.players seat (followed at (standing_of self.old.players seat)) } }
     {
@@ -108,7 +108,7 @@ impl Round {
         }
     }
 
-    /// Whether the player of a seat keeps up and isn't awaited.
+    /// Returns whether the player of a seat keeps up and isn't awaited.
     pub fn is_level(&self, seat: usize) -> bool
         ensures { IsTrue result ↔ IsLevel (standing_of self.now.players seat) }
     {
@@ -118,8 +118,8 @@ impl Round {
         }
     }
 
-    /// How many packets the slowest player has taken of those that keep up and aren't awaited, or `published` where each has
-    /// taken more.
+    /// Returns how many packets the slowest of the players that keep up and aren't awaited has taken, or `published` if each
+    /// has taken more.
     pub fn slowest(&self, published: u64) -> u64
         ensures { result ≡ slowest self.now.players published }
     {
@@ -132,7 +132,7 @@ impl Round {
         least
     }
 
-    /// Opens a round in which so many packets are to be taken. Tells how many players are awaited.
+    /// Opens a round in which `target` packets are to be taken. Returns how many players are awaited.
     pub fn open(&mut self, target: u64) -> usize
         ensures new { self.new ≡ record { players = map (asked target) self.old.players; target = target } }
         ensures count { result ≡ awaited self.new.players }
@@ -142,7 +142,7 @@ impl Round {
         self.count
     }
 
-    /// Gives up those that are awaited yet. Tells how many these are.
+    /// Gives up the players that are still awaited. Returns how many these are.
     pub fn give_up(&mut self) -> usize
         ensures new { self.new ≡ record self.old { players = map given_up self.old.players } }
         ensures count { result ≡ awaited self.old.players }
@@ -153,7 +153,7 @@ impl Round {
         count
     }
 
-    /// Puts another standing in the place of a seat, if there is one.
+    /// Sets the standing of a seat, if there is such a seat.
     fn put(&mut self, seat: usize, standing: Standing)
         ensures { self.new ≡ record self.old { players = slice_set self.old.players seat standing } }
     {
@@ -171,7 +171,7 @@ impl Round {
     }
 }
 
-/// Each that keeps up and hasn't taken so many is awaited. Tells how many are.
+/// Marks each player that keeps up and hasn't taken `target` packets as awaited. Returns how many are awaited.
 fn ask(players: &mut [Standing], target: u64) -> usize
     ensures new { players.new ≡ map (asked target) players.old }
     ensures count { result ≡ awaited players.new }
@@ -190,7 +190,7 @@ fn ask(players: &mut [Standing], target: u64) -> usize
     count
 }
 
-/// Each that is awaited is behind.
+/// Marks each player that is awaited as behind.
 fn give_up(players: &mut [Standing])
     ensures new { players.new ≡ map given_up players.old }
     ensures none { awaited players.new ≡ 0 }

@@ -1,22 +1,22 @@
-//! How a player stands to its publisher.
+//! The standing of a player towards its publisher.
 ghost use Rattle.std.specs.Prelude.{◌≡◌};
 ghost use Rattle.pacing.specs.Rounds.{followed, given_up, levelled, reached};
 
-/// How the player of a seat stands to the publisher of its mount.
+/// The standing of a seat's player towards the publisher of its mount.
 #[derive(Clone, Copy, Debug, PartialEq, Eq, Drop)]
 pub enum Standing {
-    /// Nobody has the seat.
+    /// The seat isn't taken.
     Absent,
-    /// It hasn't taken all since it came, or since it was waited for in vain. Nobody waits for it.
+    /// It hasn't taken all since it came, or since it was waited for in vain. It isn't waited for.
     Behind,
-    /// It keeps up, and has taken so many packets.
+    /// It keeps up, and has taken `at` packets.
     Level { at: u64 },
-    /// It keeps up, and the publisher waits until it has taken as many as this round asks for.
+    /// It keeps up, and the publisher waits until it has taken as many packets as this round asks for.
     Awaited,
 }
 
 impl Standing {
-    /// How it stands once it has taken all when so many packets were published.
+    /// Returns its standing after it has taken all when `at` packets were published.
     pub(crate) fn levelled(self, target: u64, at: u64) -> Standing
         ensures { result ≡ levelled target at self }
     {
@@ -26,7 +26,7 @@ impl Standing {
         }
     }
 
-    /// How it stands once it has taken so many packets, and perhaps not all.
+    /// Returns its standing after it has taken `at` packets, and perhaps not all.
     pub(crate) fn reached(self, target: u64, at: u64) -> Standing
         ensures { result ≡ reached target at self }
     {
@@ -37,7 +37,7 @@ impl Standing {
         }
     }
 
-    /// How it stands where it was seen to have taken so many packets.
+    /// Returns its standing if it was seen to have taken `at` packets.
     pub(crate) fn followed(self, at: u64) -> Standing
         ensures { result ≡ followed at self }
     {
@@ -47,7 +47,7 @@ impl Standing {
         }
     }
 
-    /// How it stands when a round has lasted as long as it may.
+    /// Returns its standing when a round has lasted as long as it may.
     pub(crate) fn given_up(self) -> Standing
         ensures { result ≡ given_up self }
     {

@@ -13,8 +13,8 @@ use Rattle.publisher.specs.declared.fate.Fate.TheVariants as fate
 use Rattle.publisher.specs.declared.report.InReport.{InReport}
 use Rattle.publisher.specs.Rtp.{IsRtp}
 
--- a frame that is offered to the feed with this tag: its channel is the tag's, and where that is one of RTP, whose tags
--- are even, it is an RTP packet
+-- a frame that is offered to the feed with this tag: its channel is the tag's, and if the tag is one of RTP (an even
+-- one), the frame is an RTP packet
 pub record IsOffered (pairs : List (Option ChannelPair)) (frame : Frame) (tag : ℕ) : Type 0 where
   pub channel : IsTagOn pairs frame.channel (Some tag)
   pub rtp : tag % 2 ≡ 0 → IsRtp frame.payload
@@ -26,7 +26,8 @@ pub record IsBadRtp (pairs : List (Option ChannelPair)) (frame : Frame) : Type 0
   pub is_rtp : tag % 2 ≡ 0
   pub bad : ¬ IsRtp frame.payload
 
--- a frame that was offered to a feed of packets of at most `room` bytes, which refused it so, where it may
+-- a frame that was offered to a feed of packets of at most `room` bytes, which refused it with this refusal, one that it
+-- may give
 pub record IsRefused (pairs : List (Option ChannelPair)) (room : ℕ) (may : Refusal → Type 0) (frame : Frame) (refusal : Refusal) : Type 0 where
   pub tag : ℕ
   pub offered : IsOffered pairs frame tag
@@ -105,7 +106,7 @@ pub record AreCounted (handlings : List Handling) (r : InReport) : Type 0 where
   pub strangers : r.strangers ≡ count_of is_stranger handlings
   pub all : total r ≡ length handlings
 
--- 1 where the test holds
+-- 1 if the test holds, else 0
 abbrev pub one_if : Bool → ℕ
 one_if b = cond b 1 0
 

@@ -25,7 +25,7 @@ use Rattle.publisher.specs.Fates.{Handling, HasFate, AreCounted, published, tota
 abbrev pub HasPlaces : List (Option ChannelPair) → (places : ℕ) → Type 0
 HasPlaces pairs places = (tag channel : ℕ) → channel_of pairs tag ≡ Some channel → tag / 2 < places
 
--- a told log grows by these packets; of one that isn't told nothing is known
+-- if the log is known, it grows by these packets; of an unknown log this says nothing
 abbrev pub GrowsBy : (old : Option (List Packet)) → List Packet → (new : Option (List Packet)) → Type 0
 GrowsBy old packets new = new ≡ option_map (λ ps. ps ++ packets) old
 
@@ -33,14 +33,14 @@ GrowsBy old packets new = new ≡ option_map (λ ps. ps ++ packets) old
 abbrev pub NoneOf : (track : ℕ) → List Packet → Type 0
 NoneOf track packets = All (λ (p : Packet). p.tag ≢ 2 * track) packets
 
--- where a track stands after these packets: at the last RTP packet of it, and where it stood if there is none
+-- the point of a track after these packets: that of its last RTP packet, or the old point if there is none
 abbrev pub IsPointAfter : (track : ℕ) → (old : Option Point) → List Packet → (new : Option Point) → Type 0
 IsPointAfter track old packets new =
     NoneOf track packets × (new ≡ old)
     ⊎ (before : List Packet) × (last : Packet) × (after : List Packet)
     × (packets ≡ before ++ last ∷ after) × (last.tag ≡ 2 * track) × NoneOf track after × (new ≡ Some (point_of last.bytes))
 
--- so each track stands
+-- each track has its point after these packets
 abbrev pub ArePointsAfter : (old : List (Option Point)) → List Packet → (new : List (Option Point)) → Type 0
 ArePointsAfter old packets new = (track : ℕ) → track < length old → IsPointAfter track (get_or old track None) packets (get_or new track None)
 
@@ -56,7 +56,7 @@ answer_of stop.OutOfMemory = next.OutOfMemory
 abbrev pub handed_out : InReport → ℕ
 handed_out report = total report + length (handed (answer_of report.stop))
 
--- what is told where the intake was over before: no frame came, and its answer for good ended them
+-- the report if the intake was over before: no frame came, and the frames ended with the answer that is final
 abbrev pub StaysOver : {S : Type 0} → (S → Bool) → (old : IntakeState S) → InReport → Type 0
 StaysOver failed old report = (answer : Next) → IsOver failed old answer → (total report ≡ 0) × (answer_of report.stop ≡ answer)
 
@@ -69,11 +69,12 @@ abbrev pub HaveFates : List (Option ChannelPair) → (room : ℕ) → (may : Ref
 HaveFates pairs room may handlings = All (λ (h : Handling). HasFate pairs room may h.frame h.fate) handlings
 
 module _ {F : Type 0} (gives : F → Packet → Result ℕ Refusal → F → Type 0) (pairs : List (Option ChannelPair)) where
-  -- the feed was offered this frame as a packet of its channel's tag, and refused it so
+  -- the feed was offered this frame as a packet of its channel's tag, and refused it with this refusal
   abbrev pub Refuses : Frame → Refusal → (old new : F) → Type 0
   Refuses frame refusal old new = (tag : ℕ) × IsTagOn pairs frame.channel (Some tag) × gives old (packet_of tag frame.payload) (Err refusal) new
 
-  -- the feed was offered this frame and gave the answer that makes its fate; or it wasn't offered, and the feed stayed
+  -- the feed was offered this frame and gave the answer that makes its fate; or the frame wasn't offered, and the feed is
+  -- unchanged
   abbrev pub Meets : Frame → Fate → (old new : F) → Type 0
   Meets frame (fate.Published tag) old new = (number : ℕ) × gives old (packet_of tag frame.payload) (Ok number) new
   Meets frame fate.Pinned old new = (pins : ℕ) × Refuses frame (refused.Pinned pins) old new
@@ -83,7 +84,7 @@ module _ {F : Type 0} (gives : F → Packet → Result ℕ Refusal → F → Typ
   Meets frame fate.BadRtp old new = new ≡ old
   Meets frame fate.Stranger old new = new ≡ old
 
-  -- so these frames met their fates, one after another: each was offered to the feed as the one before it had left it
+  -- these frames met their fates, one after another: each was offered to the feed as the previous one left it
   abbrev pub MeetInTurn : List Handling → (old new : F) → Type 0
   MeetInTurn [] old new = new ≡ old
   MeetInTurn (h ∷ hs) old new = (mid : F) × Meets h.frame h.fate old mid × MeetInTurn hs mid new
@@ -94,10 +95,10 @@ module _ {O : Type 0} (observes : O → Fate → ℕ → O → Type 0) where
   SeesInTurn [] old new = new ≡ old
   SeesInTurn (h ∷ hs) old new = (mid : O) × observes old h.fate (length h.frame.payload) mid × SeesInTurn hs mid new
 
--- What was done with the frames of a stream, up to the first unit that is none, the end or a fault: the intake handed
--- them out in order and then gave its last answer, which lasts where it is an end; each met its fate at the feed, in
--- turn, and was counted by it; what was published stands in the log, in order; and the points are those of the last RTP
--- packets published.
+-- What was done with the frames of a stream, up to the first unit that is no frame, the end or a fault. The intake handed
+-- them out in order and then gave its last answer, which lasts if it is an end. Each met its fate at the feed, in turn,
+-- and was counted by it. What was published is in the log, in order. The points are those of the last RTP packets
+-- published.
 pub record RelaysIn {S F : Type 0} (incoming : S → Option (List ℕ)) (failed : S → Bool) (gives : F → Packet → Result ℕ Refusal → F → Type 0) (pairs : List (Option ChannelPair)) (room : ℕ) (may : Refusal → Type 0)
     (old new : IntakeState S) (old_feed new_feed : F) (old_log new_log : Option (List Packet)) (old_points new_points : List (Option Point)) (report : InReport) : Type 0 where
   pub handlings : List Handling

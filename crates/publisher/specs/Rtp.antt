@@ -9,7 +9,7 @@ pub record IsRtp (bytes : List ℕ) : Type 0 where
   pub version : slice_index bytes 0 / 64 ≡ 2
   pub sources : 12 + 4 * (slice_index bytes 0 % 16) ≤ length bytes
 
--- where an RTP packet stands: its sequence number is bytes 2 and 3, its timestamp bytes 4 to 7, the high ones first
+-- the point of an RTP packet: its sequence number is bytes 2 and 3, its timestamp bytes 4 to 7, the high ones first
 abbrev pub point_of : List ℕ → Point
 point_of bytes = record {
   seq = 256 * slice_index bytes 2 + slice_index bytes 3;

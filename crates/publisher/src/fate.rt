@@ -9,7 +9,7 @@ pub enum Fate {
     Pinned,
     /// It is longer than the feed's packets may be.
     Oversize,
-    /// The feed has numbered as many packets as it can.
+    /// The feed has no packet number left.
     Worn,
     /// The feed had no memory for it.
     Unkept,

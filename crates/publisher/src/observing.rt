@@ -1,4 +1,4 @@
-//! Who sees what becomes of frames as they come.
+//! The observer of what becomes of frames as they come.
 ghost use Rattle.std.specs.Prelude.{ℕ, ⊤};
 
 use crate::fate::Fate;
@@ -7,10 +7,10 @@ use crate::fate::Fate;
 pub trait FateObserver {
     ghost use Rattle.publisher.specs.declared.fate.Fate.{Fate};
 
-    /// One call of `observe` with this fate and so many bytes may lead from the one to the other.
+    /// One call of `observe` with this fate and this number of bytes may lead from the first state to the second.
     ghost observes: { Self → Fate → ℕ → Self → Type 0 };
 
-    /// A frame with so many bytes of data met this fate.
+    /// Called for each frame, with its fate and how many bytes of data it has.
     fn observe(&mut self, fate: Fate, bytes: usize)
         ensures { observes self.old fate bytes self.new };
 }

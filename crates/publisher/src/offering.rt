@@ -10,7 +10,7 @@ use interleaved::Frame;
 use transport_header::{Point, TrackChannels};
 
 /// Offers a frame to the feed as a packet of its track, unless its channel is that of no track or it
-/// is a bad RTP packet. The point of its track becomes that of an RTP packet that is published.
+/// is a bad RTP packet. If an RTP packet is published, its point becomes the point of its track.
 pub(crate) fn take_in<F: Feed>(
     frame: &Frame,
     feed: &mut F,

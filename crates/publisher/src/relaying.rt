@@ -12,15 +12,15 @@ use interleaved::Source;
 use rtsp_message::{Intake, Next, Unit};
 use transport_header::{Point, TrackChannels};
 
-/// Publishes the frames of a stream, until a message comes, the end or a fault. A frame on a channel
-/// of no track is a stranger, and one on an RTP channel is bad where it is no RTP packet; RTCP isn't
-/// looked at. The others are offered to the feed, each with the tag of its channel, and counted by what
-/// it answers.
+/// Publishes the frames of a stream until a message, the end or a fault. A frame on a channel of no
+/// track is a stranger. A frame on an RTP channel is bad if it is no RTP packet; RTCP isn't checked.
+/// The others are offered to the feed, each with the tag of its channel, and counted by the feed's
+/// result.
 ///
 /// `points` has a place for each track that is set up, which becomes the point of the last RTP packet
-/// published. They are told beside a feed that posts each point as soon as its packet is in the log
-/// (`Posting` of `relay_fanout`), since over any other feed, as in `talk`, the caller has them from
-/// here alone, all at once when this returns.
+/// published. `Posting` of `relay_fanout` also posts each point as soon as its packet is in the log.
+/// Over any other feed, as in `talk`, the caller has the points from here alone, all at once when this
+/// returns.
 pub fn relay_in<S: Source + Drop, F: Feed>(
     intake: &mut Intake<S>,
     feed: &mut F,
@@ -39,7 +39,7 @@ pub fn relay_in<S: Source + Drop, F: Feed>(
     relay_in_observed(intake, feed, channels, points, &mut Unobserved)
 }
 
-/// As `relay_in`, with an observer that sees each frame's fate as it comes: what is reported of a stream that goes on for days
+/// As `relay_in`, with an observer that sees each frame's fate as it comes. A stream can go on for days, and its reports
 /// can't wait until this returns.
 pub fn relay_in_observed<S: Source + Drop, F: Feed, O: FateObserver>(
     intake: &mut Intake<S>,
@@ -60,7 +60,7 @@ pub fn relay_in_observed<S: Source + Drop, F: Feed, O: FateObserver>(
     relay_frames(intake, feed, channels, points, observer)
 }
 
-// The same, without what follows of the counts of answers that the feed never gives.
+// The same, without the clauses about the counts of results that the feed never returns.
 fn relay_frames<S: Source + Drop, F: Feed, O: FateObserver>(
     intake: &mut Intake<S>,
     feed: &mut F,
@@ -74,7 +74,7 @@ fn relay_frames<S: Source + Drop, F: Feed, O: FateObserver>(
     ensures ends { weight S.bound intake.new + handed_out result ≤ weight S.bound intake.old }
     ensures for_good { StaysOver S.failed intake.old result }
 {
-    // No more frames than these can come, so that no count is too large.
+    // No more frames than this can come, so no count overflows.
     let _most = intake.left();
     let mut report = InReport::new();
     loop {

@@ -1,4 +1,4 @@
-//! What is told of frames that came in.
+//! The report of the frames that came in.
 ghost use Rattle.std.specs.Prelude.{◌≡◌, ◌+◌, ◌^◌, ◌<◌, []};
 ghost use Rattle.publisher.specs.Fates.{AreCounted, CountsOne, total};
 
@@ -12,7 +12,7 @@ pub enum InStop {
     Message(Request),
     /// The source is at its end.
     End,
-    /// The stream can't be read on.
+    /// The stream can't be read any further.
     Fault(Fault),
     /// The source has failed.
     ReadFailed,
@@ -20,8 +20,8 @@ pub enum InStop {
     OutOfMemory,
 }
 
-/// What became of the frames that came in: each is counted once. As each frame takes a byte at least of
-/// a source that gives at most 2^63, no count can be too large for its type.
+/// What became of the frames that came in. Each is counted once. A frame takes at least one byte of a
+/// source that gives at most 2^63 bytes, so no count overflows.
 #[derive(Drop)]
 pub struct InReport {
     /// The frames that were published, as one packet each.
@@ -30,7 +30,7 @@ pub struct InReport {
     pub pinned: u64,
     /// Those that are longer than the feed's packets may be.
     pub oversize: u64,
-    /// Those that the feed refused, because it can number no more packets.
+    /// Those that the feed refused, because it has no packet number left.
     pub worn: u64,
     /// Those that the feed had no memory for.
     pub unkept: u64,

@@ -13,8 +13,8 @@ const SOURCE: usize = 4;
 /// The version of RTP, in the top two bits of the first byte.
 const VERSION: u8 = 2;
 
-/// Whether the bytes are an RTP packet: of version 2, and as long as its fixed header and the
-/// contributing sources that it counts.
+/// Returns whether the bytes are an RTP packet: the version is 2, and the length is at least that of the
+/// fixed header and of the contributing sources that it counts.
 pub fn is_rtp(bytes: &[u8]) -> bool
     ensures { IsTrue result ↔ IsRtp bytes.now }
 {

@@ -1,4 +1,4 @@
--- When a mount is said to be silent.
+-- When a mount is reported as silent.
 use Rattle.std.specs.Prelude.{ℕ, ◌/◌, ◌<◌, Option, None, Some, nat_lt, if◌then◌else◌}
 
 -- the whole seconds of a silence, if they are more than two

@@ -1,4 +1,4 @@
-//! What the mounts and players of a server have come to, as values: what reports say, and whatever else is asked for it.
+//! The figures of a server's mounts and players, as values: for reports, and for any other query.
 #![tactic(auto)]
 
 mod mount_status;

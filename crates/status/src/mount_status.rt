@@ -1,4 +1,4 @@
-//! What a mount has come to.
+//! The figures of a mount.
 ghost use Rattle.std.specs.Prelude.{◌≡◌};
 ghost use Rattle.status.specs.Silences.{silent_for};
 
@@ -7,7 +7,7 @@ use relay_accounts::MountTally;
 use std::fmt;
 use std::net::SocketAddr;
 
-/// A mount that is recorded, and what it has come to.
+/// A mount that is recorded, and its figures.
 #[derive(Drop)]
 pub struct MountStatus {
     pub name: Bytes,
@@ -17,18 +17,18 @@ pub struct MountStatus {
     pub players: usize,
     /// What became of the frames that came since it was announced.
     pub tally: MountTally,
-    /// How many milliseconds ago its last packet came, or its first RECORD if none came.
+    /// How many milliseconds ago its last packet came, or its first RECORD if no packet came.
     pub silence: u64,
 }
 
-/// The line that tells what came to a mount since it was told of last.
+/// The line that reports what came to a mount since its last report.
 #[derive(Drop)]
 pub struct MountLine<'a> {
     pub status: &'a MountStatus,
     pub since: MountTally,
 }
 
-/// For how many whole seconds a mount is said to be silent. `None` up to two seconds.
+/// Returns for how many whole seconds a mount is reported as silent. `None` up to two seconds.
 pub fn silent_seconds(milliseconds: u64) -> Option<u64>
     ensures { result ≡ silent_for milliseconds }
 {

@@ -1,11 +1,11 @@
-//! What a player has come to.
+//! The figures of a player.
 ghost use Rattle.std.specs.Prelude.{◌≡◌, ◌-◌};
 
 use base_syntax::Bytes;
 use std::fmt;
 use std::net::SocketAddr;
 
-/// A player that has a seat, and what it has come to there, in packets.
+/// A player that has a seat, and its figures there, in packets.
 #[derive(Drop)]
 pub struct PlayerStatus {
     pub peer: SocketAddr,
@@ -16,18 +16,18 @@ pub struct PlayerStatus {
     pub sent: u64,
     /// How many it has lost at least.
     pub lost: u64,
-    /// How many were published and not taken for it yet.
+    /// How many were published and aren't taken for it yet.
     pub behind: u64,
 }
 
-/// What was told of a player, in packets.
+/// What was reported of a player, in packets.
 #[derive(Clone, Copy, Debug, PartialEq, Eq, Drop)]
 pub struct PlayerTold {
     pub sent: u64,
     pub lost: u64,
 }
 
-/// The line that tells what a player was sent and lost since it was told of last.
+/// The line that reports what a player was sent and lost since its last report.
 #[derive(Drop)]
 pub struct PlayerLine<'a> {
     pub status: &'a PlayerStatus,
@@ -35,14 +35,14 @@ pub struct PlayerLine<'a> {
 }
 
 impl PlayerTold {
-    /// Nothing was told.
+    /// Nothing was reported.
     pub fn nothing() -> PlayerTold
         ensures { result ≡ record { sent = 0; lost = 0 } }
     {
         PlayerTold { sent: 0, lost: 0 }
     }
 
-    /// What was sent and lost since an earlier telling.
+    /// Returns what was sent and lost since an earlier report.
     pub fn since(self, earlier: PlayerTold) -> PlayerTold
         ensures { result ≡ record { sent = self.sent - earlier.sent; lost = self.lost - earlier.lost } }
     {
@@ -54,7 +54,7 @@ impl PlayerTold {
 }
 
 impl PlayerStatus {
-    /// What is told of it now.
+    /// Returns what is reported of it now.
     pub fn told(&self) -> PlayerTold
         ensures { result ≡ record { sent = self.now.sent; lost = self.now.lost } }
     {

@@ -3,7 +3,7 @@ use crate::mount_status::MountStatus;
 use crate::player_status::PlayerStatus;
 use std::alloc::Global;
 
-/// The mounts that are recorded, and the players that have a seat, each with what it has come to, in the order in which they
+/// The mounts that are recorded, and the players that have a seat, each with its figures, in the order in which they
 /// came. Those that have ended since the last snapshot are among them.
 pub struct Snapshot {
     pub mounts: Vec<MountStatus>,
@@ -20,7 +20,7 @@ impl Drop for Snapshot {
 }
 
 impl Snapshot {
-    /// Of a server to which nothing came.
+    /// The snapshot of a server to which nothing came.
     pub fn new(alloc: Global) -> Snapshot {
         Snapshot {
             mounts: Vec::new(alloc),
