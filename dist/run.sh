@@ -6,8 +6,10 @@
 # As PREFIX/bin/vasklun it runs PREFIX/lib/vasklun/relay. The script `relay` sources it, and calls `run` with its own program.
 set -eu
 
-# run PROGRAM [ARGUMENT ..]: runs the program under the name of the script, and doesn't return.
+# run PROGRAM [ARGUMENT ..]: runs the program under the name of the script, and doesn't return. The allocator's settings are those
+# of the unit, whose comments say why, if the environment has no others: without them memory that connections gave back stays.
 run() {
+    export MALLOC_MMAP_THRESHOLD_="${MALLOC_MMAP_THRESHOLD_:-1048576}" MALLOC_ARENA_MAX="${MALLOC_ARENA_MAX:-4}"
     if is_endless "${@:2}"; then
         if open_pipe; then serve "$@"; fi
         # A relay that serves is worth more than the last lines of its stop.

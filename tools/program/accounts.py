@@ -7,7 +7,7 @@ import time
 from bursts import sets_both_up
 from lines import lost_by_peer
 from peers import GATHER, IN, MODES, OUT, Camera, accounts, counts, ending, ends_told, frame, mounts_reported, numbers_in, packet, until
-from peers import wanted
+from peers import NO_ACKNOWLEDGEMENT, wanted
 from viewers import ALL, CLOSES, CYCLES, DRAINS, ERRS, HALF, HALF_CLOSES, LITTLE, NOTHING, ON_THE_WAY, PAUSES, RESETS, ROUND, STAYS
 from viewers import TEARS_DOWN, WAITS, Viewer, all_left, left_by
 
@@ -35,7 +35,7 @@ EARLY = 6
 
 # Within how many seconds a line about a player that left comes, and about one that is disconnected; for how many seconds that one sends.
 # It isn't disconnected before.
-SOON, LET_GO, SPEAKS = 10, 100, 15
+SOON, LATEST, SPEAKS = 10, 24, 15
 
 
 def publish_round(camera, numbers):
@@ -174,8 +174,7 @@ def accounts_after_the_end_add_up(program, *options):
 
 
 def disconnected(program, options, ends_before):
-    """Both stay until the server disconnects them, and send frames for a while, so that their sessions don't expire. Then they read what
-    was on its way."""
+    """Both stay until the server disconnects them, and send frames for a while. Then they read what their system had taken before."""
     with ending(program, 3, "--keep", "128", "--seats", "2", "--verbose", *GATHER, *options) as server, Camera(server) as camera:
         name = camera.name()
         with Viewer(server, HALF, WAITS) as half, Viewer(server, NOTHING, WAITS) as none:
@@ -190,7 +189,7 @@ def disconnected(program, options, ends_before):
             if ends_before:
                 camera.tear_down()
             begun = time.monotonic()
-            while not all_left(server, [half.address, none.address]) and time.monotonic() < begun + LET_GO:
+            while not all_left(server, [half.address, none.address]) and time.monotonic() < begun + LATEST:
                 # What comes as it is disconnected would reset its connection.
                 for it in (half, none) if time.monotonic() < begun + SPEAKS else ():
                     it.speaks()
@@ -206,8 +205,8 @@ def disconnected(program, options, ends_before):
         # Which packets were refused isn't known.
         elif sum(counts(server, it.address, "player of cam")[word] for word in OUT) != told["published"]:
             yield f"of {told} is told {accounts(server, it.address, 'player of cam')}"
-        if ends_told(server, it.address) != ["player of cam: write failed"]:
-            yield f"one that reads {it.most} is told {ends_told(server, it.address)}"
+        if ends_told(server, it.address) != [f"player of cam: {NO_ACKNOWLEDGEMENT}"]:
+            yield f"of one that reads {it.most} is logged {ends_told(server, it.address)}"
 
 
 # How many packets are published to a player of one of two tracks: first those that it all reads, then those of which it reads none.

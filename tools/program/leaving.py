@@ -4,7 +4,8 @@ import resource
 import subprocess
 import time
 
-from peers import MODES, OPTIONS, SDP, Camera, Frame, Peer, Player, frame, packet, serving, until, wanted
+from peers import MODES, NO_ACKNOWLEDGEMENT, OPTIONS, SDP, Camera, Frame, Peer, Player, ends_told, frame, leave_out, packet, serving, until
+from peers import wanted
 
 # What is told, behind which the peer is hung up.
 BAD = b"RTSP/1.0 400 Bad Request\r\n\r\n"
@@ -17,9 +18,9 @@ PLACES, FLOOD = 1024, 1000
 # What players say that are heard and ask for nothing.
 RTCP = frame(bytes(8), 5)
 
-# Within so many seconds a seat is free that is left, and a player is let go to which writes fail, after 20 seconds each; not before so
-# many have passed since packets began to come.
-SOON, LET_GO, SOONEST = 10, 100, 19
+# Within how many seconds a seat is free that is left; and after how many seconds a player is disconnected whose system takes no byte:
+# not before the first since packets began to come, and not after the second since it takes none.
+SOON, SOONEST, LATEST = 10, 19, 24
 
 
 def ends(server, seconds=30):
@@ -154,40 +155,39 @@ def stall(server, camera, player):
     raise AssertionError(f"the player isn't stalled: the sockets hold {held} bytes")
 
 
-def has_gone(server, player, others, speaks, begun):
-    """Tells if no line tells of the player's end in time, or of one that speaks too soon behind that moment. Until then no session
-    expires: the others ask, and it may speak. (One that is silent ends at once where its reply finds room.)"""
-    name = player.name()
-    for _ in range(LET_GO):
-        if until(1, lambda: any(f" {name}: " in line for line in server.lines)):
-            if speaks and (passed := time.monotonic() - begun) < SOONEST:
-                yield f"it is let go after {passed:.1f} seconds"
-            return
-        for peer in others:
-            wanted(peer.ask("OPTIONS", "*"))
+def goes_in_time(server, player, begun, stalled, speaks=True):
+    """Yields what is wrong if a player isn't disconnected in time, with its line: packets have come to it since one moment, and its system
+    takes none since another. Meanwhile it may speak."""
+    name, end = player.name(), [f"player of cam: {NO_ACKNOWLEDGEMENT}"]
+    while not ends_told(server, name) and time.monotonic() < stalled + LATEST:
         with contextlib.suppress(OSError):
             player.send(RTCP if speaks else b"")
-    yield "it stays"
+        until(1, lambda: ends_told(server, name))
+    now = time.monotonic()
+    if ends_told(server, name) != end or now < begun + SOONEST or now > stalled + LATEST:
+        yield f"after {now - begun:.1f} s, of which its system takes no byte for {now - stalled:.1f}, is logged {ends_told(server, name)}"
 
 
 # In the session of the player by which it is formatted.
 TEARDOWN = "TEARDOWN {0.url} RTSP/1.0\r\nCSeq: 7\r\nSession: {0.session}\r\n\r\n"
+PAUSE = TEARDOWN.replace("TEARDOWN", "PAUSE")
 FAULT, ASKS = "HELLO\r\n", OPTIONS.decode()
 
 
 def frees_its_seat(program, options, said="", is_silent=False, stays=False, fails=False):
-    """A player that reads nothing has the only seat. It says this, and another one plays soon, or once writes to the first one have
-    failed. The server ends behind those that close, also if the first one stays."""
+    """A player that reads nothing has the only seat. It says this, and another one plays soon, or after the first one is disconnected.
+    The server ends after those that close, also if the first one stays."""
     with serving(program, "--accept", "3", "--seats", "1", *options) as server:
         with Camera(server) as camera, Player(server) as first, Player(server, plays=False) as second:
             begun = time.monotonic()
             stall(server, camera, first)
+            stalled = time.monotonic()
             wanted(second.play(), 453)
             first.send(said.format(first).encode())
             if is_silent:
                 first.fall_silent()
             if fails:
-                yield from has_gone(server, first, (camera, second), not said, begun)
+                yield from goes_in_time(server, first, begun, stalled, not said)
             plays_soon(second)
             for peer in (camera, second) if stays else (camera, second, first):
                 peer.close()
@@ -210,23 +210,65 @@ def stalled_player_that_tears_down(program, *options):
 
 
 def stalled_player_that_asked_and_sends_a_fault(program, *options):
-    """It is let go once writes to it fail, where a fault comes behind a request whose reply it doesn't read."""
+    """It is disconnected in time if a fault comes after a request whose reply it doesn't read."""
     yield from frees_its_seat(program, options, ASKS + FAULT, fails=True)
 
 
 def stalled_player_that_asked_and_falls_silent(program, *options):
-    """So it is where it says nothing more behind that request."""
+    """So it is if it says nothing more after that request."""
     yield from frees_its_seat(program, options, ASKS, is_silent=True, fails=True)
 
 
 def stalled_player_that_asked_and_tears_down(program, *options):
-    """So it is where it tears down behind that request."""
+    """So it is if it tears down after that request."""
     yield from frees_its_seat(program, options, ASKS + TEARDOWN, fails=True)
 
 
 def stalled_player_that_asks_for_nothing(program, *options):
-    """So it is where it asks for nothing and doesn't close: what is written to it moves nothing."""
+    """So it is if it asks for nothing and doesn't close."""
     yield from frees_its_seat(program, options, fails=True)
+
+
+# What players that read nothing say, and how their connections end with writers, and with a thread each. That thread is waited for two
+# seconds after a PAUSE or TEARDOWN, and its connection is closed then; after a TEARDOWN that is no failure, and has no line.
+SAYS = (
+    ("", NO_ACKNOWLEDGEMENT, NO_ACKNOWLEDGEMENT),
+    (PAUSE, NO_ACKNOWLEDGEMENT, "write failed"),
+    (TEARDOWN, NO_ACKNOWLEDGEMENT, None),
+    (ASKS + PAUSE, NO_ACKNOWLEDGEMENT, NO_ACKNOWLEDGEMENT),
+)
+
+
+def stalled_players_are_disconnected(program, *options):
+    """Players that read nothing and play, pause or tear down are disconnected in time."""
+    with serving(program, "--seats", str(len(SAYS)), *options) as server, contextlib.ExitStack() as peers:
+        camera, begun = peers.enter_context(Camera(server)), time.monotonic()
+        players = [peers.enter_context(Player(server)) for _ in SAYS]
+        for player in players:
+            stall(server, camera, player)
+        stalled, gone = time.monotonic(), {}
+        for player, (said, *_) in zip(players, SAYS):
+            player.send(said.format(player).encode())
+        while len(gone) < len(SAYS) and time.monotonic() < stalled + LATEST:
+            until(0.5, lambda: False)
+            camera.is_read()
+            # Each has lost packets: so its account is logged.
+            gone |= {it: time.monotonic() for it in players if it not in gone and has_account(server, it)}
+        for player, (said, *ends) in zip(players, SAYS):
+            end, came = ends[options == BY_THREADS], ends_told(server, player.name())
+            first, last = (begun + SOONEST, stalled + LATEST) if end == NO_ACKNOWLEDGEMENT else (stalled + 1, stalled + SOON)
+            when = gone.get(player, float("inf"))
+            if came != [f"player of cam: {end}"] * bool(end) or not first <= when <= last:
+                yield f"of one that says {said[:16]!r} is logged {came}, after {when - stalled:.1f} s in which its system takes no byte"
+
+
+def has_account(server, player):
+    """Whether the account of a player's session is logged."""
+    head = f"[INFO  relay_server::events] {player.name()}: player of cam: "
+    return any(line.startswith(head) for line in list(server.lines))
+
+
+BY_THREADS = "--writers", "0"
 
 
 def flood_is_answered(program, *options):
@@ -304,9 +346,12 @@ def cannot_be_bound(program):
             yield f"{address}: {ran}"
 
 
-def has_descriptors():
-    """Whether all places may be taken. What needs that is left out where it may not."""
-    return resource.getrlimit(resource.RLIMIT_NOFILE)[0] >= 1300
+def has_descriptors(part):
+    """Whether all places may be taken. If not, what of a part needs that is left out, which is printed."""
+    if resource.getrlimit(resource.RLIMIT_NOFILE)[0] >= 1300:
+        return True
+    leave_out(part, "less than 1,300 descriptors")
+    return False
 
 
 @contextlib.contextmanager
@@ -327,7 +372,7 @@ def told(peer, text, said=b""):
 
 def cannot_be_served(program, *options):
     """Who says no request, a line without an end, or comes when all places are taken, is told so; the first two have left theirs."""
-    if not has_descriptors():
+    if not has_descriptors(cannot_be_served):
         return
     with serving(program, "--accept", str(PLACES + 3), *options) as server, contextlib.ExitStack() as kept:
         yield from told(kept.enter_context(Peer(server)), BAD, b"HELLO\r\n")
@@ -340,7 +385,7 @@ def cannot_be_served(program, *options):
 
 def places_are_free_again(program, *options):
     """Once a camera has closed, and a connection was reset, their places are free: with two that stay 1,022 are served, and no more."""
-    if not has_descriptors():
+    if not has_descriptors(places_are_free_again):
         return
     with serving(program, "--accept", str(PLACES + 3), *options) as server:
         with Camera(server) as camera, Player(server), Peer(server) as other:
@@ -357,7 +402,7 @@ def places_are_free_again(program, *options):
 
 def refused_peers_read_why(program, *options):
     """Each of twenty peers for which there is no place reads why and then the end, though it has asked."""
-    if not has_descriptors():
+    if not has_descriptors(refused_peers_read_why):
         return
     with serving(program, "--accept", str(PLACES + 20), *options) as server:
         with filled(server):
@@ -372,7 +417,7 @@ def refused_peers_read_why(program, *options):
 
 def crowd_of_refused_peers(program, *options):
     """A hundred peers for which there is no place read why within two seconds: none is waited for."""
-    if not has_descriptors():
+    if not has_descriptors(crowd_of_refused_peers):
         return
     with serving(program, "--accept", str(PLACES + 100), *options) as server:
         with filled(server), contextlib.ExitStack() as stack:
@@ -390,7 +435,7 @@ def in_modes(*parts):
 
 LONG = in_modes(silent_player_is_hung_up_behind_the_end, stalled_player_that_asks_for_nothing)
 LONG += in_modes(stalled_player_that_asked_and_sends_a_fault, stalled_player_that_asked_and_falls_silent)
-LONG += in_modes(stalled_player_that_asked_and_tears_down)
+LONG += in_modes(stalled_player_that_asked_and_tears_down, stalled_players_are_disconnected)
 
 PARTS = in_modes(mount_ends_where_its_publisher_closes, seat_is_free_where_its_player_closes, server_ends_while_packets_gather)
 PARTS += in_modes(player_that_closes_behind_the_end, player_may_stay_behind_the_end)

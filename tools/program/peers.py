@@ -50,15 +50,29 @@ PLAYER_REPORT = re.compile(
 # A line about how a connection ended, and one about refused requests.
 END = re.compile(r"\[WARN  relay_server::server\] (\S+): (.+) \(connection \d+\)")
 
-REFUSED = re.compile(r"\[WARN  relay_server::refusing\] (\d+) refused (\d+) on (\S+), the last (\S+)")
+REFUSED = re.compile(r"\[WARN  relay_server::refusing\] (\d+) refused (\d+) on (no mount|\S+), the last (\S+)")
+
+# How the connection of a peer ends whose system takes no byte.
+NO_ACKNOWLEDGEMENT = "no acknowledgement for 20 s"
+
+# The parts that were left out, and what this system or this process doesn't grant them.
+LEFT_OUT = []
+
+
+def leave_out(part, why):
+    """Has `check-program` print that a part isn't tried here."""
+    LEFT_OUT.append(f"{part.__name__}: {why}")
 
 
 class Server:
-    """A server of the program on a free port, whose lines are read unless they shall wait."""
+    """A server of the program on a port of this host, a free one unless it is given, whose lines are read unless they shall wait. Its
+    environment has these variables, too. `reach` is the address at which its peers reach it; `tracer` is a command that runs it."""
 
-    def __init__(self, program, *options, reads=True):
+    reach = "127.0.0.1"
+
+    def __init__(self, program, *options, reads=True, host="127.0.0.1", port=0, variables=ALLOCATOR, tracer=()):
         self.process = subprocess.Popen(
-            [program, "serve", "127.0.0.1:0", *options], stderr=subprocess.PIPE, text=True, env={**os.environ, **ALLOCATOR}
+            [*tracer, program, "serve", f"{host}:{port}", *options], stderr=subprocess.PIPE, text=True, env={**os.environ, **variables}
         )
         self.pid, self.lines = self.process.pid, []
         self.port = self.listens()
@@ -103,8 +117,8 @@ class Server:
 
 
 @contextlib.contextmanager
-def serving(program, *options, reads=True):
-    server = Server(program, *options, reads=reads)
+def serving(program, *options, **how):
+    server = Server(program, *options, **how)
     try:
         yield server
     finally:
@@ -112,9 +126,9 @@ def serving(program, *options, reads=True):
 
 
 @contextlib.contextmanager
-def ending(program, count, *options):
-    """A server that ends by itself once so many connections have ended. Behind it all its lines are read."""
-    with serving(program, "--accept", str(count), *options) as server:
+def ending(program, count, *options, **how):
+    """A server that ends by itself after this number of connections have ended. After it all its lines are read."""
+    with serving(program, "--accept", str(count), *options, **how) as server:
         yield server
         if not server.has_ended():
             raise AssertionError(f"it doesn't end by itself with status 0 after {count} connections")
@@ -199,8 +213,8 @@ class Peer:
     """A connection, which gives up when nothing comes for thirty seconds. What came and wasn't asked for yet waits in it."""
 
     def __init__(self, server, source=None):
-        here = source and (source, 0)
-        self.socket = socket.create_connection(("127.0.0.1", server.port), timeout=30, source_address=here)
+        here, host = source and (source, 0), "::1" if ":" in (source or "") else server.reach
+        self.socket = socket.create_connection((host, server.port), timeout=30, source_address=here)
         self.socket.setsockopt(socket.IPPROTO_TCP, socket.TCP_NODELAY, 1)
         self.rest, self.session = bytearray(), None
 
@@ -228,7 +242,8 @@ class Peer:
 
     def name(self):
         """The address by which lines name it."""
-        return "%s:%d" % self.socket.getsockname()
+        host, port = self.socket.getsockname()[:2]
+        return f"[{host}]:{port}" if ":" in host else f"{host}:{port}"
 
     def send(self, data):
         self.socket.sendall(data)
@@ -320,8 +335,8 @@ def wanted(reply, status=200):
 class Camera(Peer):
     """Records into a mount of one track, on channels 0 and 1, unless it shall wait."""
 
-    def __init__(self, server, mount="cam", records=True):
-        super().__init__(server)
+    def __init__(self, server, mount="cam", records=True, source=None):
+        super().__init__(server, source)
         self.announce(f"rtsp://{server.address}/{mount}")
         if records:
             self.record()
@@ -343,8 +358,8 @@ class Camera(Peer):
 class Player(Peer):
     """Has set up the track of a mount, on channels 4 and 5, and plays it unless it shall wait."""
 
-    def __init__(self, server, mount="cam", plays=True):
-        super().__init__(server)
+    def __init__(self, server, mount="cam", plays=True, source=None):
+        super().__init__(server, source)
         self.url = f"rtsp://{server.address}/{mount}"
         if self.set_up(f"{self.url}/trackID=0", "interleaved=4-5") != 200:
             raise AssertionError("no SETUP")

@@ -135,7 +135,7 @@ def each_refusal_has_its_line(program):
 FAULTS, A_SECOND = 300, 10
 
 NOT_TOLD = re.compile(
-    r"\[WARN  relay_server::refusing\] (\d+) ends weren't told, of addresses with more than ten a second: stream fault"
+    r"\[WARN  relay_server::refusing\] (\d+) ends weren't logged, of addresses with more than ten a second: stream fault"
 )
 
 # How many addresses have one fault each. In a second the first 256 of them may have ten lines each, and all others ten together.
@@ -162,23 +162,32 @@ def refusals_are_told_again_after_a_minute(program):
 
 
 def names_have_their_own_lines_again(program):
-    """Refused requests of more mounts and statuses than are told apart go by `others`; each has its own line again a minute later."""
-    with serving(program, "--keep", "8", "--idle", "0") as server, contextlib.ExitStack() as peers:
+    """Refused requests of more mounts and statuses than are told apart go by `others`; each has its own line again a minute later. A
+    refused connection has its own line among them, too."""
+    options = "--keep", "8", "--idle", "0", "--per-address", str(MOUNTS + 1)
+    with serving(program, *options) as server, contextlib.ExitStack() as peers:
         urls = [f"rtsp://{server.address}/{place}" for place in range(MOUNTS)]
-        for url in urls:
-            wanted(peers.enter_context(Peer(server)).ask("ANNOUNCE", url, body=SDP))
+        cameras = [peers.enter_context(Camera(server, str(place), records=False)) for place in range(MOUNTS)]
         other = peers.enter_context(Peer(server))
         for url in urls:
             is_refused(other, url)
-        time.sleep(MINUTE + 3)
+        with Peer(server) as late:
+            late.is_hung_up()
+        for _ in range(3):
+            time.sleep(MINUTE / 3 + 1)
+            # So that no session expires.
+            for it in cameras:
+                it.is_read()
         before, some = len(server.lines), (0, 1, MOUNTS - 2, MOUNTS - 1)
         for place in some:
             is_refused(other, urls[place])
         due = {(status, str(place)) for status in (403, 404, 461) for place in some}
         until(5, lambda: due <= set(refused_by_key(server.lines[before:])))
         first, last = refused_by_key(server.lines[:before]), refused_by_key(server.lines[before:])
-    if not due <= set(last) or first.total() != 3 * MOUNTS or not {mount for _, mount in first} >= {"0", "others"}:
+    if not due <= set(last) or first.total() != 3 * MOUNTS + 1 or not {mount for _, mount in first} >= {"0", "others"}:
         yield f"at first is told {first}, and a minute later {last}"
+    if first[503, "no mount"] != 1:
+        yield f"of a refused connection is logged {first}"
 
 
 def is_refused(peer, url):
@@ -271,7 +280,7 @@ def faults_of_one_address_have_few_lines(program):
 
 def faults_of_many_addresses_have_few_lines(program):
     """More addresses than there are places for share ten lines a second, and what is over is counted."""
-    if not has_descriptors():
+    if not has_descriptors(faults_of_many_addresses_have_few_lines):
         return
     with ending(program, ADDRESSES) as server, contextlib.ExitStack() as peers:
         sources = [f"127.0.{place // 250 + 1}.{place % 250 + 1}" for place in range(ADDRESSES)]

@@ -201,7 +201,7 @@ def all_of_many_are_told(program, *options):
 
 def all_of_as_many_as_may_be_are_told(program, *options):
     """So it is with as many connections as it takes."""
-    if has_descriptors():
+    if has_descriptors(all_of_as_many_as_may_be_are_told):
         yield from accounts_of(PLACES - 1, program, options)
 
 

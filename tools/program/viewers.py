@@ -13,7 +13,7 @@ ALL, HALF, LITTLE, NOTHING = ROUND, ROUND // 2, 5, 0
 
 # How a player leaves. One that cycles plays and pauses in each round, one that errs sends what is no request, one that drains reads up to
 # the end of the mount, one that stays reads on a second after the mount's end, or just closes then if it has read nothing, and one that
-# waits is disconnected by the server.
+# waits is disconnected by the server: what it hasn't been sent by then never comes.
 CLOSES, RESETS, HALF_CLOSES, ERRS, PAUSES, TEARS_DOWN = "closes", "resets", "half-closes", "errs", "pauses", "tears down"
 
 CYCLES, DRAINS, STAYS, WAITS = "cycles", "drains", "stays", "waits"
@@ -135,7 +135,7 @@ class Viewer(Player):
 
     def has_read_all(self):
         """Whether it has read all that it was sent."""
-        return self.way == WAITS or self.most != NOTHING and self.way not in (CLOSES, RESETS)
+        return self.most != NOTHING and self.way not in (CLOSES, RESETS, WAITS)
 
     def most_unsent(self, keep):
         """How many packets may be unsent when it leaves a seat of a ring that keeps this many. Replies to requests, and the end of a mount,

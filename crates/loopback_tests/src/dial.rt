@@ -8,16 +8,16 @@ use std::sync::atomic::{AtomicU64, Ordering};
 use std::thread;
 use std::time::{Clock, Duration};
 
-/// A clock that a test moves by hand. All copies of it are one clock, which stays as long as the program runs.
+/// A clock that a test moves by hand. All copies of it are one clock, which exists while the program runs.
 #[derive(Clone, Copy, Drop)]
 pub(crate) struct Dial {
     moment: &'static AtomicU64,
-    /// How often it was asked.
+    /// How often it was read.
     asked: &'static AtomicU64,
 }
 
 impl Dial {
-    /// It stands at 0.
+    /// The clock is at 0.
     pub(crate) fn new(rt: &impl Abort, alloc: Global) -> Dial {
         Dial {
             moment: number(rt, alloc),
@@ -25,13 +25,13 @@ impl Dial {
         }
     }
 
-    /// It stands at this moment from now on.
+    /// Sets the clock to this moment.
     pub(crate) fn set(&self, moment: u64) {
         self.moment.store(moment, Ordering::SeqCst);
     }
 
-    /// It stands at this moment, and connections look at it: a hundred times, which takes ten of them about as many
-    /// milliseconds.
+    /// Sets the clock to this moment, and waits until connections have read it a hundred times. With ten connections this takes
+    /// about a hundred milliseconds.
     pub(crate) fn pass<R: Clock>(&self, rt: &R, moment: u64) {
         self.set(moment);
         let before = self.asked.load(Ordering::SeqCst);
@@ -44,12 +44,12 @@ impl Dial {
     }
 }
 
-/// A number that is 0 and stays.
+/// A number that is 0, and is never freed.
 fn number(rt: &impl Abort, alloc: Global) -> &'static AtomicU64 {
     Box::leak(Box::new(alloc, AtomicU64::new(0)).expect(rt, "memory"))
 }
 
-/// What a clock tells; without one it is 0.
+/// The moment of a clock; without a clock it is 0.
 #[derive(Clone, Copy, Drop)]
 pub(crate) struct Told(pub(crate) Option<Dial>);
 

@@ -1,9 +1,11 @@
 //! Sessions that expire over loopback, by a clock that the test moves.
 use crate::dial::Dial;
+use crate::held::wait_for;
 use crate::kept::{Kept, is_only_end};
 use crate::loopback::{ANNOUNCE, Client, MODES, OPTIONS, Set, listening, start, start_on, status};
 use crate::scripted::{
-    FRAME, Peers, SETUP_OUT, passes_on, play, player, plays_at_last, publisher, stalled, status_in,
+    FRAME, Peers, SETUP_OUT, asks_at_last, passes_on, play, player, plays_at_last, publisher,
+    stalled, status_in,
 };
 use log::Log;
 use relay_server::{Gate, OpenGate};
@@ -14,32 +16,23 @@ use std::process::Abort;
 use std::random::RandomSource;
 use std::sync::atomic::{AtomicBool, Ordering};
 use std::sync::{Arc, Wait};
-use std::thread;
 use std::thread::Threads;
-use std::time::{Clock, Duration};
+use std::time::Clock;
 
 /// An RTCP packet as a frame on the channel of a player.
 const REPORT: &[u8] = b"\x24\x05\x00\x08\x80\xc9\x00\x01\x00\x00\x00\x00";
 
-/// The first moment at which a session has expired that was heard at 0, and the one before.
+/// The first moment at which a session that was heard at 0 has expired, and the one before.
 const EXPIRED: u64 = 60_000;
 
 const ALIVE: u64 = 59_999;
 
-/// Announces the mount until its name is free, up to a thousand times. The status that is answered last.
+/// Announces the mount until its name is free, up to a thousand times. Returns the last status.
 fn announces_at_last<R: Clock + Abort>(rt: &R, client: &mut Client) -> u16 {
-    let mut answered = 0;
-    for _ in 0..1000 {
-        answered = client.status_of(rt, ANNOUNCE.as_bytes());
-        if answered != 403 {
-            break;
-        }
-        thread::sleep(rt, Duration::from_millis(10));
-    }
-    answered
+    asks_at_last(rt, client, ANNOUNCE.as_bytes(), 403)
 }
 
-/// A camera vanishes without closing: another one has its name once its time is over, and not before.
+/// A camera vanishes without closing. Another one has its name after its time is over, and not before.
 fn camera_vanishes<R: Net<Stream = TcpStream> + Clock + Abort>(
     rt: &R,
     alloc: Global,
@@ -56,7 +49,7 @@ fn camera_vanishes<R: Net<Stream = TcpStream> + Clock + Abort>(
     camera.addr(rt)
 }
 
-/// It vanishes from a server that has this runtime, which then ends. Tells who it was.
+/// A camera vanishes from a server that has this runtime, which then ends. Returns the camera's address.
 fn vanishes_from<R, S>(rt: &R, served: S, alloc: Global, writers: usize) -> SocketAddr
 where
     R: Threads
@@ -90,7 +83,7 @@ fn a_vanished_publishers_name_is_free_and_one_line_tells_it(rt: HostRuntime) {
     }
 }
 
-/// A camera sends frames and no request, and a player RTCP and no request: both stay, as long as they do so.
+/// A camera sends frames and no request, and a player RTCP and no request. Both stay connected while they do so.
 fn frames_keep_sessions<R: Net<Stream = TcpStream> + Clock + Abort>(
     rt: &R,
     alloc: Global,
@@ -105,7 +98,7 @@ fn frames_keep_sessions<R: Net<Stream = TcpStream> + Clock + Abort>(
         player.say(rt, REPORT);
         dial.pass(rt, ALIVE * turn);
     }
-    // Part of a frame is none.
+    // Part of a frame doesn't count.
     player.say(rt, &REPORT[..11]);
     dial.pass(rt, ALIVE * 3 + ALIVE);
     assert!(rt; passes_on(rt, &mut camera, &mut player));
@@ -126,7 +119,8 @@ fn frames_keep_the_sessions_of_a_publisher_and_a_player(rt: HostRuntime) {
     }
 }
 
-/// The first player, which says nothing, loses its seat to the second one, which is refused a seat and stays for that.
+/// The first player, which sends nothing, loses its seat to the second one. That one was refused a seat before, and keeps
+/// its session by that request.
 fn silent_player_loses_its_seat<R: Net<Stream = TcpStream> + Clock + Abort>(
     rt: &R,
     alloc: Global,
@@ -227,25 +221,14 @@ impl Gate for Third {
     }
 }
 
-/// Waits until a word is set, for at most ten seconds.
-fn wait_for<R: Clock>(rt: &R, word: &AtomicBool) -> bool {
-    for _ in 0..10_000u32 {
-        if word.load(Ordering::SeqCst) {
-            return true;
-        }
-        thread::sleep(rt, Duration::from_millis(1));
-    }
-    false
-}
-
 /// Whether these are frames of 6,000 bytes of data on a player's channel, the last of which may be cut.
 fn are_frames(bytes: &[u8]) -> bool {
     let head: &[u8] = b"\x24\x04\x17\x70";
     bytes.chunks(6004).all(|frame| frame.starts_with(head.get(..frame.len()).unwrap_or(head)))
 }
 
-/// The first player has stopped reading, so that its reply mostly waits behind frames while its session's time passes. Nobody waits
-/// for it. Then it reads the reply between whole frames, and its seat is free.
+/// The first player has stopped reading, so that its reply mostly waits after frames while its session's time passes. Nothing
+/// waits for it. Then it reads the reply between whole frames, and its seat is free.
 fn reads_late<R: Net<Stream = TcpStream> + Clock + Abort>(
     rt: &R,
     alloc: Global,
@@ -268,7 +251,7 @@ fn reads_late<R: Net<Stream = TcpStream> + Clock + Abort>(
     peers.first.addr(rt)
 }
 
-/// It comes to a server that has this runtime, which then ends. Tells who it was.
+/// A player reads late from a server that has this runtime, which then ends. Returns the player's address.
 fn reads_late_from<R, S>(rt: &R, served: S, alloc: Global, writers: usize) -> SocketAddr
 where
     R: Threads
@@ -292,7 +275,7 @@ where
     first
 }
 
-/// How many warnings tell of a peer.
+/// Returns how many warnings name a peer.
 fn warnings_of(lines: &[String], peer: &str) -> usize {
     lines
         .iter()
@@ -316,7 +299,7 @@ fn a_reply_that_waits_is_whole_and_then_the_session_has_expired(rt: HostRuntime)
     }
 }
 
-/// A player's session expires without a seat: it stays, and sets up anew.
+/// A player's session expires without a seat. The player stays connected, and sets up again.
 fn set_up_anew<R: Net<Stream = TcpStream> + Clock + Abort>(
     rt: &R,
     alloc: Global,
@@ -346,8 +329,8 @@ fn a_player_whose_session_expired_while_it_paused_sets_up_anew(rt: HostRuntime) 
     }
 }
 
-/// The clock jumps while the mount ends, and as far as it can: whoever has a part in the mount is hung up, and the name is
-/// free.
+/// The clock jumps while the mount ends, and as far as it can. The peers that have a part in the mount are disconnected, and
+/// the name is free.
 fn clock_jumps<R: Net<Stream = TcpStream> + Clock + Abort>(
     rt: &R,
     alloc: Global,

@@ -20,7 +20,7 @@ pub(crate) struct Kept<R> {
 }
 
 impl<R: Abort> Kept<R> {
-    /// Nothing was written. The list stays as long as the program runs.
+    /// Nothing was written. The list exists while the program runs.
     pub(crate) fn new(rt: R, alloc: Global) -> Kept<R> {
         let lines = Box::new(alloc, Mutex::new(Vec::new(alloc))).expect(&rt, "memory");
         Kept {
@@ -91,7 +91,7 @@ impl<R: Clock> Clock for Kept<R> {
     }
 }
 
-/// Whether just one of these lines tells how a connection ended, and is this one.
+/// Returns whether exactly one of these lines reports how a connection ended, and is this one.
 pub(crate) fn is_only_end(lines: &[String], told: &str) -> bool {
     let mut count = 0usize;
     for line in lines {

@@ -1,13 +1,17 @@
-//! Tests of the server over loopback, over what `relay_server` makes public, of what only its own program can set: a clock, a gate,
-//! a listener that fails, and the book. What can be seen of the built program is tried by `tools/check-program`.
+//! Tests of the server over loopback, over what `relay_server` makes public. They set what only a program of their own can
+//! set: a clock, a gate, a listener that fails, and the book. `tools/check-program` tests the built program.
 //!
-//! They stand in a crate of their own, so that the server isn't proved twice.
+//! They are in a crate of their own, so that the server isn't proved twice.
 #![tactic(auto)]
 
+#[cfg(test)]
+mod access_tests;
 #[cfg(test)]
 mod dial;
 #[cfg(test)]
 mod expiry_tests;
+#[cfg(test)]
+mod held;
 #[cfg(test)]
 mod kept;
 #[cfg(test)]

@@ -2,7 +2,9 @@
 use crate::dial::{Dial, Told};
 use log::Log;
 use packet_ring::Pass;
-use relay_server::{Accepts, Gate, Options, RingMaker, Seat, SharedBook, Stopping, run_server};
+use relay_server::{
+    Accepts, Access, Gate, Options, RingMaker, Seat, SharedBook, Stopping, run_server,
+};
 use relay_talk::FixedWord;
 use session_lock::Book;
 use std::alloc::{AllocError, Global};
@@ -25,12 +27,12 @@ pub(crate) const OPTIONS: &[u8] = b"OPTIONS * RTSP/1.0\r\nCSeq: 9\r\n\r\n";
 /// The word in each session's identifier.
 const WORD: FixedWord = FixedWord(0x0000_abcd);
 
-/// A peer of a server, which gives up when nothing comes for thirty seconds.
+/// A peer of a server, with a read timeout of thirty seconds.
 #[derive(Drop)]
 pub(crate) struct Client {
     stream: TcpStream,
     alloc: Global,
-    /// What was read and not asked for yet.
+    /// What was read and isn't taken yet.
     rest: Vec<u8>,
 }
 
@@ -51,7 +53,7 @@ impl Client {
         }
     }
 
-    /// Its own address, which the server names it by.
+    /// Returns its own address, which the server names it by.
     pub(crate) fn addr(&self, rt: &impl Abort) -> SocketAddr {
         self.stream.local_addr().expect(rt, "its address")
     }
@@ -60,7 +62,7 @@ impl Client {
         self.stream.write_all(bytes).expect(rt, "a write");
     }
 
-    /// Reads a piece more. `false` at the end.
+    /// Reads one more piece. `false` at the end.
     fn read_more(&mut self) -> io::Result<bool> {
         let mut piece = [0; 4096];
         let count = self.stream.read(&mut piece)?;
@@ -68,7 +70,7 @@ impl Client {
         Ok(count > 0)
     }
 
-    /// The first so many bytes of what was read.
+    /// Takes the first `count` bytes of what was read.
     fn take(&mut self, rt: &impl Abort, count: usize) -> Vec<u8> {
         let count = count.min(self.rest.len());
         let taken = Vec::from_slice(self.alloc, &self.rest[..count]).expect(rt, "memory");
@@ -76,7 +78,7 @@ impl Client {
         taken
     }
 
-    /// The next so many bytes, or fewer where there are no more.
+    /// Returns the next `count` bytes, or fewer if there are no more.
     pub(crate) fn bytes(&mut self, rt: &impl Abort, count: usize) -> Vec<u8> {
         for _ in 0..100_000u32 {
             if self.rest.len() >= count || !self.read_more().expect(rt, "a read") {
@@ -86,7 +88,7 @@ impl Client {
         self.take(rt, count)
     }
 
-    /// The next bytes up to an empty line, or up to the end.
+    /// Returns the next bytes up to an empty line, or up to the end.
     pub(crate) fn head(&mut self, rt: &impl Abort) -> Vec<u8> {
         for _ in 0..100_000u32 {
             let end = self
@@ -104,7 +106,7 @@ impl Client {
         self.take(rt, usize::MAX)
     }
 
-    /// Reads the frames before the next reply, and tells how many there are.
+    /// Reads the frames before the next reply, and returns how many there are.
     pub(crate) fn frames(&mut self, rt: &impl Abort) -> u32 {
         let mut count = 0u32;
         for _ in 0..100_000u32 {
@@ -120,7 +122,7 @@ impl Client {
         count
     }
 
-    /// These come next again.
+    /// Puts back these bytes, which come next again.
     fn put_back(&mut self, rt: &impl Abort, bytes: &[u8]) {
         let mut rest = Vec::from_slice(self.alloc, bytes).expect(rt, "memory");
         rest.extend_from_slice(self.rest.as_slice())
@@ -128,29 +130,29 @@ impl Client {
         self.rest = rest;
     }
 
-    /// Asks, and answers the head of the reply.
+    /// Sends a request, and returns the head of the reply.
     pub(crate) fn ask(&mut self, rt: &impl Abort, request: &[u8]) -> Vec<u8> {
         self.say(rt, request);
         self.head(rt)
     }
 
-    /// Asks, and answers the status of the reply.
+    /// Sends a request, and returns the status of the reply.
     pub(crate) fn status_of(&mut self, rt: &impl Abort, request: &[u8]) -> u16 {
         status(self.ask(rt, request).as_slice())
     }
 
-    /// Whether just these bytes come next.
+    /// Returns whether exactly these bytes come next.
     pub(crate) fn reads(&mut self, rt: &impl Abort, wanted: &[u8]) -> bool {
         self.bytes(rt, wanted.len()).as_slice() == wanted
     }
 
-    /// Whether nothing comes any more.
+    /// Returns whether nothing comes any more.
     pub(crate) fn is_hung_up(&mut self, rt: &impl Abort) -> bool {
         self.bytes(rt, 1).is_empty()
     }
 }
 
-/// The number that stands in the status code's place of a reply.
+/// Returns the status code of a reply.
 pub(crate) fn status(head: &[u8]) -> u16 {
     let mut code = 0u16;
     for byte in head.get(9..12).unwrap_or(b"") {
@@ -169,7 +171,7 @@ pub(crate) struct Running {
     thread: JoinHandle<Result<(), AllocError>>,
 }
 
-/// What the book of a server that has ended says.
+/// What the book of a server that has ended has.
 #[derive(Clone, Copy)]
 pub(crate) struct Ended {
     /// How many calls it keeps.
@@ -179,7 +181,7 @@ pub(crate) struct Ended {
 }
 
 impl Running {
-    /// Opens as many connections as there may be. Tells how many these are.
+    /// Opens connections up to the limit. Returns how many these are.
     pub(crate) fn fill<R: Wait>(&self, rt: &R) -> u32 {
         let mut count = 0u32;
         for _ in 0..1024u32 {
@@ -207,34 +209,34 @@ impl Running {
 }
 
 impl Running {
-    /// Waits for a server that doesn't begin. Whether it says that there was no memory or no thread.
+    /// Waits for a server that doesn't begin. Returns whether it reports that there was no memory or no thread.
     pub(crate) fn refuses<R: Threads>(self, rt: &R) -> bool {
         self.thread.join(rt).is_err()
     }
 }
 
-/// What a test's server is told.
+/// The settings of a test's server.
 #[derive(Clone, Copy)]
 pub(crate) struct Set {
     pub(crate) accept: u64,
     pub(crate) seats: usize,
     /// The milliseconds for which packets gather.
     pub(crate) gather: u64,
-    /// How many threads send all frames; 0 for a thread a player.
+    /// How many threads send all frames; 0 for one thread for each player.
     pub(crate) writers: usize,
     /// The milliseconds between two reports of mounts and losses; `None` for none.
     pub(crate) report: Option<u64>,
-    /// What tells the time; `None` where it stands at 0.
+    /// The clock; `None` for one that is always at 0.
     pub(crate) dial: Option<Dial>,
-    /// The milliseconds after which a silent peer is looked at.
+    /// The milliseconds after which a silent peer is checked.
     pub(crate) read_wait: u64,
 }
 
-/// By whom frames are sent: by a thread a player, and by two writers.
+/// How frames are sent: by one thread for each player, and by two writers.
 pub(crate) const MODES: [usize; 2] = [0, 2];
 
 impl Set {
-    /// Packets gather for a millisecond, a thread a player sends frames, there are no reports, and the time stands still.
+    /// Packets gather for a millisecond, each player has a thread, there are no reports, and the clock is always at 0.
     pub(crate) fn of(accept: u64, seats: usize) -> Set {
         Set {
             accept,
@@ -247,7 +249,7 @@ impl Set {
         }
     }
 
-    /// By this clock, and a silent peer is looked at every ten milliseconds.
+    /// The same with this clock, and a silent peer is checked every ten milliseconds.
     pub(crate) fn timed(self, dial: Dial) -> Set {
         Set {
             dial: Some(dial),
@@ -256,9 +258,28 @@ impl Set {
         }
     }
 
-    /// So many threads send all frames.
+    /// The same with `writers` threads that send all frames.
     pub(crate) fn by(self, writers: usize) -> Set {
         Set { writers, ..self }
+    }
+
+    /// The server's options with these settings. Players stay connected when their mount has ended.
+    fn options(self) -> Options {
+        Options {
+            accept: Some(self.accept),
+            gather: self.gather,
+            back: 0,
+            after_end: None,
+            write_wait: Some(20_000),
+            end_wait: 20_000,
+            writers: self.writers,
+            is_direct: false,
+            is_verbose: false,
+            report: self.report,
+            read_wait: self.read_wait,
+            idle: None,
+            silent: None,
+        }
     }
 }
 
@@ -273,6 +294,7 @@ fn serve<R, S, L, G>(
     book: SharedBook<Seat<Pass>>,
     gate: G,
     moments: Told,
+    access: Access,
 ) -> JoinHandle<Result<(), AllocError>>
 where
     R: Threads + Abort,
@@ -286,7 +308,7 @@ where
             Err(_) => return Err(AllocError),
         };
         run_server(
-            served, alloc, &listener, options, maker, book, WORD, gate, moments, stopping,
+            served, alloc, &listener, options, maker, book, WORD, gate, moments, stopping, access,
         )
     })
     .expect(rt, "a thread")
@@ -323,8 +345,8 @@ where
     start_on(&rt, rt, alloc, listener, addr, set, gate)
 }
 
-/// Starts a server of this address, which has this runtime and takes its connections from there. Its packets have at most 16,384
-/// bytes, its rings keep 512 packets, and players stay when their mount has ended.
+/// Starts a server of this address, which has this runtime and takes its connections from `listener`. Its packets have at most
+/// 16,384 bytes, its rings keep 512 packets, and players stay connected when their mount has ended.
 pub(crate) fn start_on<R, S, L, G>(
     rt: &R,
     served: S,
@@ -340,35 +362,44 @@ where
     L: Accepts + Drop + Send + 'static,
     G: Gate + Drop + Send + Sync + 'static,
 {
+    let access = Access::unlimited();
+    start_with(rt, served, alloc, listener, addr, set, gate, access)
+}
+
+/// The same with a server whose peers may do what `access` gives their addresses.
+pub(crate) fn start_with<R, S, L, G>(
+    rt: &R,
+    served: S,
+    alloc: Global,
+    listener: L,
+    addr: SocketAddr,
+    set: Set,
+    gate: G,
+    access: Access,
+) -> Running
+where
+    R: Threads + RandomSource + Abort,
+    S: Threads + Wait + Clock + Log + Eprint + Copy + Send + Sync + 'static,
+    L: Accepts + Drop + Send + 'static,
+    G: Gate + Drop + Send + Sync + 'static,
+{
     let seats = set.seats.min(1024);
     let hasher = RandomState::new(rt).expect(rt, "random bytes");
     let book = Book::new(alloc, seats, hasher);
     let book = Arc::new(alloc, Mutex::new(book)).expect(rt, "memory");
     let theirs = Arc::try_clone(&book).expect(rt, "a count of the book's users");
-    let options = Options {
-        accept: Some(set.accept),
-        gather: set.gather,
-        back: 0,
-        after_end: None,
-        write_wait: 20_000,
-        writers: set.writers,
-        is_direct: false,
-        is_verbose: false,
-        report: set.report,
-        read_wait: set.read_wait,
-        idle: None,
-    };
     let maker = RingMaker::new(512, seats, 16_384);
     let thread = serve(
         rt,
         served,
         alloc,
         listener,
-        options,
+        set.options(),
         maker,
         theirs,
         gate,
         Told(set.dial),
+        access,
     );
     Running { addr, book, thread }
 }

@@ -27,14 +27,14 @@ impl Accepts for Failing {
     }
 }
 
-/// The number that a line of a refusal with this text tells. `None` where it tells of something else.
+/// Returns the number in a line of a refusal with this text. `None` if it is another line.
 fn told(line: &str, text: &str) -> Option<u64> {
     let rest = line.strip_prefix("[WARN  relay_server::refusing] ")?;
     rest.strip_suffix(text)?.parse::<u64>().ok()
 }
 
-/// How many refusals with this text these lines tell of. `None` where one of them tells of something else.
-fn all_told(lines: &[String], text: &str) -> Option<u64> {
+/// Returns how many refusals with this text these lines report. `None` if one of them is another line.
+pub(crate) fn all_told(lines: &[String], text: &str) -> Option<u64> {
     let mut sum = 0u64;
     for line in lines {
         sum = sum.saturating_add(told(line.as_str(), text)?);
@@ -42,7 +42,7 @@ fn all_told(lines: &[String], text: &str) -> Option<u64> {
     Some(sum)
 }
 
-/// Six accepts fail, each of which is waited for a tenth of a second. The first is told at once and the others at the end,
+/// Six accepts fail, with a wait of a tenth of a second after each. The first is logged at once, and the others at the end,
 /// together.
 #[test]
 fn an_accept_that_fails_is_tried_again(rt: HostRuntime) {
@@ -64,15 +64,15 @@ fn an_accept_that_fails_is_tried_again(rt: HostRuntime) {
     assert!(rt; lines.len() <= 2 && all_told(lines.as_slice(), text) == Some(6));
 }
 
-/// Starts each thread but the one of this number, counted from 0.
+/// Lets each thread start but the one with this number, counted from 0.
 #[derive(Drop)]
-struct Refusing {
+pub(crate) struct Refusing {
     number: u64,
     asked: AtomicU64,
 }
 
 impl Refusing {
-    fn new(number: u64) -> Refusing {
+    pub(crate) fn new(number: u64) -> Refusing {
         Refusing {
             number,
             asked: AtomicU64::new(0),
@@ -88,8 +88,8 @@ impl Gate for Refusing {
     }
 }
 
-/// A client for which there is no connection is told so and hung up.
-fn late_is_refused<R: Net<Stream = TcpStream> + Abort>(
+/// A client for which there is no connection is sent a 503 and disconnected.
+pub(crate) fn late_is_refused<R: Net<Stream = TcpStream> + Abort>(
     rt: &R,
     alloc: Global,
     addr: SocketAddr,
@@ -100,7 +100,7 @@ fn late_is_refused<R: Net<Stream = TcpStream> + Abort>(
     late
 }
 
-/// Its peer is told so and closed, and the next ones are served. The server ends, for which no thread may be counted any more.
+/// Its peer is sent a 503 and disconnected, and the next ones are served. The server ends, so no thread is counted any more.
 #[test]
 fn a_connection_without_a_thread_is_refused(rt: HostRuntime) {
     let alloc = rt.alloc();
@@ -117,7 +117,7 @@ fn a_connection_without_a_thread_is_refused(rt: HostRuntime) {
     assert!(rt; all_told(lines.as_slice(), " refused: no thread") == Some(1));
 }
 
-/// Its place in the book is free again before its peer is told.
+/// Its place in the book is free again before its peer is sent the 503.
 #[test]
 fn a_refused_connection_leaves_its_place(rt: HostRuntime) {
     let alloc = rt.alloc();
@@ -127,7 +127,7 @@ fn a_refused_connection_leaves_its_place(rt: HostRuntime) {
     server.end(&rt);
 }
 
-/// Its peer is told so, and a line tells why.
+/// Its peer is sent a 503, and a line has the reason.
 #[test]
 fn a_connection_of_a_full_server_is_refused(rt: HostRuntime) {
     let alloc = rt.alloc();
@@ -141,7 +141,8 @@ fn a_connection_of_a_full_server_is_refused(rt: HostRuntime) {
     assert!(rt; all_told(lines.as_slice(), " refused: too many connections") == Some(1));
 }
 
-/// A player that has the only seat is hung up after the reply to its PLAY, and another one has the seat then. Tells who it was.
+/// A player that has the only seat is disconnected after the reply to its PLAY, and another one has the seat then. Returns
+/// the player's address.
 fn seat_is_free_again<R: Net<Stream = TcpStream> + Clock + Abort>(
     rt: &R,
     alloc: Global,
@@ -177,7 +178,7 @@ fn a_player_without_a_thread_for_its_frames_is_let_go(rt: HostRuntime) {
     assert!(rt; is_only_end(lines.as_slice(), told.as_str()));
 }
 
-/// Starts each thread that all connections share but the one of this number, counted from 0.
+/// Lets each thread that all connections share start but the one with this number, counted from 0.
 #[derive(Drop)]
 struct Lacking {
     number: u64,

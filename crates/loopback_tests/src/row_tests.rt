@@ -15,11 +15,11 @@ struct Row {
     body: &'static [u8],
 }
 
-/// What players are told of `cam`.
+/// The reply to a player's DESCRIBE of `cam`.
 const DESCRIBED: &[u8] =
     b"v=0\r\na=control:*\r\nm=video 0 RTP/AVP 96\r\na=control:trackID=0\r\nm=audio 0 RTP/AVP 0\r\na=control:trackID=1\r\n";
 
-/// A player asks what `cam` is.
+/// A player's DESCRIBE of `cam`.
 const DESCRIBE: Row = Row {
     client: 1,
     request: b"DESCRIBE rtsp://h/cam RTSP/1.0\r\nCSeq: 1\r\n\r\n",
@@ -97,7 +97,7 @@ const BEHIND_THE_END: [Row; 3] = [
     },
 ];
 
-/// Whether a row's client is answered as the row says.
+/// Returns whether a row's client gets the row's reply.
 fn is_as(rt: &impl Abort, clients: &mut [Client; 2], row: &Row) -> bool {
     let Some(client) = clients.get_mut(row.client) else {
         return false;

@@ -68,7 +68,7 @@ pub(crate) fn player<R: Net<Stream = TcpStream> + Abort>(
     client
 }
 
-/// The status that a request in the session of this number is answered by.
+/// Returns the status of the reply to a request in the session of this number.
 pub(crate) fn status_in(
     rt: &impl Abort,
     alloc: Global,
@@ -107,12 +107,12 @@ impl Peers {
     }
 }
 
-/// Whether the packet of `FRAME` comes next.
+/// Returns whether the packet of `FRAME` comes next.
 fn has_frame(rt: &impl Abort, player: &mut Client) -> bool {
     player.bytes(rt, 16).as_slice().ends_with(&FRAME[4..])
 }
 
-/// Whether the packet of `FRAME` comes from a camera to a player.
+/// Returns whether the packet of `FRAME` comes from a camera to a player.
 pub(crate) fn passes_on(rt: &impl Abort, camera: &mut Client, player: &mut Client) -> bool {
     camera.say(rt, FRAME);
     has_frame(rt, player)
@@ -126,7 +126,7 @@ fn numbered(alloc: Global, number: u16) -> Result<Vec<u8>, AllocError> {
     Ok(frame)
 }
 
-/// Publishes so many packets of 6,000 bytes, with the numbers from this one on.
+/// Publishes `count` packets of 6,000 bytes, with the numbers from `from` on.
 fn publish(rt: &impl Abort, alloc: Global, camera: &mut Client, from: u16, count: u16) {
     for place in 0..count {
         let packet = numbered(alloc, from.wrapping_add(place)).expect(rt, "memory");
@@ -134,12 +134,17 @@ fn publish(rt: &impl Abort, alloc: Global, camera: &mut Client, from: u16, count
     }
 }
 
-/// Asks to play until a seat is free, up to a thousand times. The status that is answered last.
-pub(crate) fn plays_at_last<R: Clock + Abort>(rt: &R, client: &mut Client, number: u8) -> u16 {
+/// Sends a request until its reply has another status than `refused`, up to a thousand times. Returns the last status.
+pub(crate) fn asks_at_last<R: Clock + Abort>(
+    rt: &R,
+    client: &mut Client,
+    request: &[u8],
+    refused: u16,
+) -> u16 {
     let mut answered = 0;
     for _ in 0..1000 {
-        answered = client.status_of(rt, &play(number));
-        if answered != 453 {
+        answered = client.status_of(rt, request);
+        if answered != refused {
             break;
         }
         thread::sleep(rt, Duration::from_millis(10));
@@ -147,10 +152,15 @@ pub(crate) fn plays_at_last<R: Clock + Abort>(rt: &R, client: &mut Client, numbe
     answered
 }
 
+/// Sends PLAY until a seat is free, up to a thousand times. Returns the last status.
+pub(crate) fn plays_at_last<R: Clock + Abort>(rt: &R, client: &mut Client, number: u8) -> u16 {
+    asks_at_last(rt, client, &play(number), 453)
+}
+
 /// How many packets of 6,000 bytes are published at once to a player that reads nothing: fewer than its ring keeps.
 const BATCH: u16 = 400;
 
-/// Publishes 2,000 packets, more than a system's buffers mostly hold, with time for the server to write each batch.
+/// Publishes 2,000 packets, more than most systems' buffers hold, with time for the server to write each batch.
 fn stall<R: Clock + Abort>(rt: &R, alloc: Global, camera: &mut Client) {
     for place in 0..5u16 {
         publish(rt, alloc, camera, BATCH.wrapping_mul(place), BATCH);
@@ -158,7 +168,7 @@ fn stall<R: Clock + Abort>(rt: &R, alloc: Global, camera: &mut Client) {
     }
 }
 
-/// Peers of which the first player has stopped reading amid what the camera published.
+/// Peers of which the first player has stopped reading in the middle of what the camera published.
 pub(crate) fn stalled<R: Net<Stream = TcpStream> + Clock + Abort>(
     rt: &R,
     alloc: Global,

@@ -1,16 +1,13 @@
 //! Connections over loopback.
+use crate::held::{Held, Latch};
 use crate::loopback::{Client, MODES, OPTIONS, Set, start, status};
 use crate::scripted::{FRAME, Peers, SETUP_OUT, passes_on, play, publisher, status_in};
-use relay_server::{Gate, OpenGate};
+use relay_server::OpenGate;
 use std::alloc::Global;
 use std::net::{Net, SocketAddr, TcpStream};
 use std::process::Abort;
-use std::sync::Arc;
-use std::sync::atomic::{AtomicBool, Ordering};
-use std::thread;
-use std::time::{Clock, Duration};
 
-/// A frame comes to its player on the channel that it set up. After that the server has read all that the camera said.
+/// A frame comes to its player on the channel that it set up. After that the server has read all that the camera sent.
 fn comes_out<R: Abort>(rt: &R, camera: &mut Client, player: &mut Client) {
     assert!(rt; player.status_of(rt, SETUP_OUT) == 200);
     assert!(rt; player.status_of(rt, &play(2)) == 200);
@@ -19,13 +16,13 @@ fn comes_out<R: Abort>(rt: &R, camera: &mut Client, player: &mut Client) {
     assert!(rt;
         frame.as_slice().starts_with(b"\x24\x04\x00\x0c") && frame.as_slice().ends_with(&FRAME[4..])
     );
-    // One that is refused, for its 16,385 bytes: no player is told of its number.
+    // One that is refused, because it has 16,385 bytes: no player is sent its number.
     camera.say(rt, b"\x24\x00\x40\x01\x80\x60\x00\x63");
     camera.say(rt, &[0; 16_381]);
     camera.ask(rt, OPTIONS);
 }
 
-/// A player that comes later is told which packet is the next one.
+/// A player that comes later is sent the number of the next packet.
 fn late_player_is_told<R: Net<Stream = TcpStream> + Abort>(
     rt: &R,
     alloc: Global,
@@ -82,36 +79,7 @@ fn each_connection_comes_asks_and_hangs_up(rt: HostRuntime) {
     assert!(rt; ended.kept == 6);
 }
 
-/// What a test tells the gate of its server, and is told by it.
-#[derive(Drop)]
-struct Latch {
-    opened: AtomicBool,
-    gave_up: AtomicBool,
-}
-
-/// Holds the first call of connection 1 until it is opened, for at most 10,000 turns of a millisecond.
-#[derive(Drop)]
-struct Held<R> {
-    rt: R,
-    latch: Arc<Latch, Global>,
-}
-
-impl<R: Clock> Gate for Held<R> {
-    fn pass(&self, conn: u64, turn: u64) {
-        if conn != 1 || turn != 0 {
-            return;
-        }
-        for _ in 0..10_000u32 {
-            if self.latch.opened.load(Ordering::SeqCst) {
-                return;
-            }
-            thread::sleep(&self.rt, Duration::from_millis(1));
-        }
-        self.latch.gave_up.store(true, Ordering::SeqCst);
-    }
-}
-
-/// The second client is answered while the first one is held, which is answered once it is let on.
+/// The second client is answered while the first one is held. The first one is answered after it is let on.
 fn second_is_served_first<R: Net<Stream = TcpStream> + Abort>(
     rt: &R,
     alloc: Global,
@@ -122,26 +90,19 @@ fn second_is_served_first<R: Net<Stream = TcpStream> + Abort>(
     held.say(rt, OPTIONS);
     let mut other = Client::connect(rt, alloc, addr);
     assert!(rt; other.status_of(rt, OPTIONS) == 200);
-    latch.opened.store(true, Ordering::SeqCst);
+    latch.open();
     assert!(rt; status(held.head(rt).as_slice()) == 200);
 }
 
 #[test]
 fn connections_are_served_side_by_side(rt: HostRuntime) {
     let alloc = rt.alloc();
-    let latch = Latch {
-        opened: AtomicBool::new(false),
-        gave_up: AtomicBool::new(false),
-    };
-    let latch = Arc::new(alloc, latch).expect(&rt, "memory");
-    let gate = Held {
-        rt,
-        latch: Arc::try_clone(&latch).expect(&rt, "a count of the latch's users"),
-    };
+    let latch = Latch::new(&rt, alloc);
+    let gate = Held::new(rt, &latch);
     let server = start(rt, alloc, Set::of(2, 1), gate);
     second_is_served_first(&rt, alloc, server.addr, &latch);
     server.end(&rt);
-    assert!(rt; !latch.gave_up.load(Ordering::SeqCst));
+    assert!(rt; !latch.gave_up());
 }
 
 /// The second player has the seat once the first one pauses, and the first one isn't sent what comes then.

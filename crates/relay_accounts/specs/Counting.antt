@@ -32,7 +32,8 @@ came_in counts = counts.published + counts.pinned + counts.oversize + counts.bad
 abbrev pub accounted : Counts → ℕ
 accounted counts = counts.sent + counts.skipped + counts.lost + counts.unsent
 
--- the counts with what is told of the frames of a stretch of recording; one that had no number is counted with those that had no memory
+-- the counts with the report of the frames of a stretch of recording; a frame that had no number is counted with those that
+-- had no memory
 abbrev pub with_report : Counts → InReport → Counts
 with_report counts report = record counts {
   published = capped (counts.published + report.published);
@@ -43,20 +44,20 @@ with_report counts report = record counts {
   unkept = capped (counts.unkept + report.worn + report.unkept);
 }
 
--- the counts with so many frames that came while nothing was recorded
+-- the counts with this number of frames that came while nothing was recorded
 abbrev pub with_strangers : Counts → ℕ → Counts
 with_strangers counts frames = record counts { strangers = capped (counts.strangers + frames) }
 
--- of the packets that a seat took, those that its sender skipped, as far as there were so many
+-- how many of the packets that a seat took were skipped by its sender, at most as many as it took
 abbrev pub skipped_of : Left → HandedOver → ℕ
 skipped_of left handed = min handed.skipped left.taken
 
--- of the others those that it sent
+-- how many of the others it sent
 abbrev pub sent_of : Left → HandedOver → ℕ
 sent_of left handed = min handed.sent (left.taken - skipped_of left handed)
 
--- The account of a seat that was left, of a ring that keeps so many packets. Of the packets after its cursor only the last so
--- many are still there; the others are lost. What was taken and neither sent nor skipped is unsent.
+-- The account of a seat that was left, of a ring that keeps `keep` packets. Of the packets after its cursor only the last
+-- `keep` are still there; the others are lost. What was taken and neither sent nor skipped is unsent.
 abbrev pub account_of : Left → HandedOver → (keep : ℕ) → SeatAccount
 account_of left handed keep = record {
   sent = sent_of left handed;
@@ -74,12 +75,12 @@ with_account counts account = record counts {
   unsent = capped (counts.unsent + account.unsent);
 }
 
--- What a player would have lost if it left its seat now: those that it was told lost, and of those that were published behind
--- its cursor the ones that its ring keeps no longer.
+-- What a player would have lost if it left its seat now: those that were reported lost, and of those that were published
+-- after its cursor the ones that its ring keeps no longer.
 abbrev pub lost_by_now : (lost cursor published keep : ℕ) → ℕ
 lost_by_now lost cursor published keep = capped (lost + (published - cursor - keep))
 
--- the counts with so many milliseconds for which packets waited
+-- the counts with the milliseconds for which packets waited
 abbrev pub with_wait : Counts → (milliseconds : ℕ) → Counts
 with_wait counts milliseconds = record counts { slowed = capped (counts.slowed + milliseconds) }
 

@@ -3,8 +3,8 @@ use Rattle.std.specs.Prelude.{ℕ, ◌+◌, List, count_by, nat_le}
 use Rattle.relay_accounts.specs.declared.handover.HandedOver.{HandedOver}
 use Rattle.relay_accounts.specs.Capped.{capped}
 
--- what a handover is seen as: how many frames the system took before those that wait, how many packets were skipped, and
--- the place behind the last byte of each frame that waits
+-- the model of a handover: how many frames the system took before those that wait, how many packets were skipped, and
+-- the place after the last byte of each frame that waits
 pub record Handing : Type 0 where
   pub sent : ℕ
   pub skipped : ℕ

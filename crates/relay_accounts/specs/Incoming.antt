@@ -26,8 +26,8 @@ pub record DropsFrames {S : Type 0} (incoming : S → Option (List ℕ)) (failed
   pub tells : Tells incoming failed new (answer_of stop)
   pub counted : after ≡ with_strangers before (length frames)
 
--- The frames that came in were offered to the feed of the mount, on these channels, up to this answer; what became of them is
--- told in a report, and counted by it: the sum of the fates grows by as many as came.
+-- The frames that came in were offered to the feed of the mount, on these channels, up to this answer. A report has what
+-- became of them, and they are counted by it: the sum of the fates grows by the number of frames that came.
 pub record PublishesFrames {S F : Type 0} (incoming : S → Option (List ℕ)) (failed : S → Bool) (gives : F → Packet → Result ℕ Refusal → F → Type 0) (pairs : List (Option ChannelPair)) (room : ℕ) (may : Refusal → Type 0)
     (old new : IntakeState S) (feed : F) (after : Option F) (before counts : Counts) (stop : InStop) : Type 0 where
   pub left : F

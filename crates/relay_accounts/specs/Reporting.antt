@@ -1,4 +1,4 @@
--- What is told of a mount while it goes on.
+-- What is reported of a mount while it goes on.
 use Rattle.std.specs.Prelude.{ℕ, ◌+◌, ◌-◌}
 use Rattle.publisher.specs.declared.fate.Fate.{Fate}
 use Rattle.publisher.specs.declared.fate.Fate.TheVariants as fate
@@ -22,7 +22,7 @@ nothing_published = record {
 abbrev pub came_to_mount : MountTally → ℕ
 came_to_mount tally = tally.packets + tally.pinned + tally.oversize + tally.bad_rtp + tally.unknown_channel + tally.unkept
 
--- the tally with one frame more, which has so many bytes and met this fate
+-- the tally with one more frame, which has this number of bytes and met this fate
 abbrev pub with_fate : MountTally → Fate → (bytes : ℕ) → MountTally
 with_fate tally (fate.Published tag) bytes = record tally { packets = capped (tally.packets + 1); bytes = capped (tally.bytes + bytes) }
 with_fate tally fate.Pinned bytes = record tally { pinned = capped (tally.pinned + 1) }

@@ -8,7 +8,7 @@ use publisher::InReport;
 use std::{fmt, mem};
 
 /// What became of the packets of a connection since its session began, or since the session before it ended. A count that
-/// would pass 2^64 - 1 stays there.
+/// would exceed 2^64 - 1 stays at 2^64 - 1.
 ///
 /// The frames that came while it recorded are the sum of the first six counts. The packets that were published to the mount
 /// while it had a seat are the sum of `sent`, `skipped`, `lost` and `unsent`.
@@ -16,7 +16,7 @@ use std::{fmt, mem};
 pub struct Counts {
     /// Frames that were published.
     pub published: u64,
-    /// Frames that were refused, since a player was just copying the packet that they would have replaced.
+    /// Frames that were refused, because a player was just copying the packet that they would have replaced.
     pub pinned: u64,
     /// Frames that are longer than a packet may be.
     pub oversize: u64,
@@ -26,7 +26,7 @@ pub struct Counts {
     pub unknown_channel: u64,
     /// Frames that the mount had no number or no memory for.
     pub unkept: u64,
-    /// Frames that came while nothing was recorded: nobody's loss.
+    /// Frames that came while nothing was recorded. They don't count as losses.
     pub strangers: u64,
     /// Packets that the system's socket took, each as a whole frame. What its buffer held when the connection broke is among
     /// them.
@@ -37,7 +37,7 @@ pub struct Counts {
     pub lost: u64,
     /// Packets that the ring still kept when the seat was left, and those that were taken from it and not handed to the system.
     pub unsent: u64,
-    /// For how many milliseconds in all the packets that were published waited for players.
+    /// For how many milliseconds in total the published packets waited for players.
     pub slowed: u64,
 }
 
@@ -104,7 +104,7 @@ impl Counts {
         self.slowed = self.slowed.saturating_add(milliseconds);
     }
 
-    /// The session has ended: its counts, which begin anew.
+    /// Ends the session: returns its counts, and resets them.
     pub fn end(&mut self) -> Counts
         ensures all { result ≡ self.old }
         ensures anew { self.new ≡ nothing_counted }
@@ -112,7 +112,7 @@ impl Counts {
         mem::replace(self, Counts::new())
     }
 
-    /// What was counted since these counts were taken, of the same connection.
+    /// Returns what was counted since the earlier counts of the same connection.
     pub fn since(&self, earlier: &Counts) -> Counts
         ensures { result ≡ counted_since self.now earlier.now }
     {
@@ -132,7 +132,7 @@ impl Counts {
         }
     }
 
-    /// Whether a packet of a mount was lost or refused. Strangers are nobody's loss, and what a player left unsent is none.
+    /// Returns whether a packet of a mount was lost or refused. Strangers and what a player left unsent aren't losses.
     pub fn has_losses(&self) -> bool
         ensures { IsTrue result ↔ (0 < losses self.now) }
     {

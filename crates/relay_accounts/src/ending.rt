@@ -1,6 +1,6 @@
 //! How connections end.
 ghost use Rattle.std.specs.Prelude.{◌≡◌};
-ghost use Rattle.relay_accounts.specs.Endings.{end_of as connection_end, reset_end, status_of as fault_status};
+ghost use Rattle.relay_accounts.specs.Endings.{end_of as connection_end, end_by as end_by_failure, status_of as fault_status};
 
 use rtsp_message::{Fault, Status};
 use std::fmt;
@@ -22,6 +22,12 @@ pub enum ConnectionEnd {
     Idle,
     /// Its peer reset it while it was sent frames.
     Reset,
+    /// Its peer's system acknowledged nothing for 20 seconds: neither bytes that were sent to it nor that it is still there.
+    NoAcknowledgement,
+    /// It recorded, and no whole message or frame came for as long as `--silent` says.
+    Silent,
+    /// It announced a mount, and set up no track of it for a minute.
+    NotSetUp,
 }
 
 impl fmt::Display for ConnectionEnd {
@@ -41,6 +47,9 @@ impl fmt::Display for ConnectionEnd {
             ConnectionEnd::Expired => write!(f, "session expired after 60 s of silence"),
             ConnectionEnd::Idle => write!(f, "silent without a session"),
             ConnectionEnd::Reset => write!(f, "left by a reset"),
+            ConnectionEnd::NoAcknowledgement => write!(f, "no acknowledgement for 20 s"),
+            ConnectionEnd::Silent => write!(f, "silent while recording"),
+            ConnectionEnd::NotSetUp => write!(f, "no SETUP for 60 s after its ANNOUNCE"),
         }
     }
 }
@@ -56,9 +65,17 @@ pub enum FrameEnd {
     OutOfMemory,
 }
 
-/// How a connection ended, from the ends of the thread that read it and of the one that sent its frames. `is_over` where
-/// the last packet of its mount was written and the peer was told the end of its stream: then how the peer left is no
-/// failure.
+/// How the system ended a connection.
+#[derive(Clone, Copy, Debug, PartialEq, Eq, Drop)]
+pub enum WireFailure {
+    /// The peer reset it, or closed it and reads no more.
+    Reset,
+    /// The peer's system acknowledged nothing for as long as the system waits for that.
+    NoAcknowledgement,
+}
+
+/// How a connection ended, from the ends of the thread that read it and of the one that sent its frames. `is_over` if the last
+/// packet of its mount was written and the peer was sent the end of its stream: then how the peer left is no failure.
 pub fn end_of(read: ConnectionEnd, sent: FrameEnd, is_over: bool) -> ConnectionEnd
     ensures { result ≡ connection_end read sent is_over }
 {
@@ -68,7 +85,10 @@ pub fn end_of(read: ConnectionEnd, sent: FrameEnd, is_over: bool) -> ConnectionE
         | (ConnectionEnd::NoThread, _)
         | (ConnectionEnd::Expired, _)
         | (ConnectionEnd::Idle, _)
-        | (ConnectionEnd::Reset, _) => read,
+        | (ConnectionEnd::Reset, _)
+        | (ConnectionEnd::NoAcknowledgement, _)
+        | (ConnectionEnd::Silent, _)
+        | (ConnectionEnd::NotSetUp, _) => read,
         (_, FrameEnd::OutOfMemory) => ConnectionEnd::OutOfMemory,
         _ if is_over => ConnectionEnd::Done,
         (_, FrameEnd::WriteFailed) => ConnectionEnd::WriteFailed,
@@ -76,12 +96,19 @@ pub fn end_of(read: ConnectionEnd, sent: FrameEnd, is_over: bool) -> ConnectionE
     }
 }
 
-/// How a connection ended whose peer reset it while it was sent frames, if it did: what failed then failed by the reset.
-pub fn end_by_reset(end: ConnectionEnd, was_reset: bool) -> ConnectionEnd
-    ensures { result ≡ reset_end end was_reset }
+/// How a connection ended that the system has ended, if it has: what failed then failed by that. A peer that acknowledges nothing
+/// is reported even if the connection was about to end by itself, since its last bytes never arrived.
+pub fn end_by(end: ConnectionEnd, failure: Option<WireFailure>) -> ConnectionEnd
+    ensures { result ≡ end_by_failure end failure }
 {
-    match end {
-        ConnectionEnd::ReadFailed | ConnectionEnd::WriteFailed if was_reset => ConnectionEnd::Reset,
+    match (end, failure) {
+        (ConnectionEnd::ReadFailed | ConnectionEnd::WriteFailed, Some(WireFailure::Reset)) => {
+            ConnectionEnd::Reset
+        }
+        (
+            ConnectionEnd::Done | ConnectionEnd::ReadFailed | ConnectionEnd::WriteFailed,
+            Some(WireFailure::NoAcknowledgement),
+        ) => ConnectionEnd::NoAcknowledgement,
         _ => end,
     }
 }

@@ -24,7 +24,7 @@ pub struct Handover {
     /// How many frames the system took before those that wait.
     sent: u64,
     skipped: u64,
-    /// The place behind the last byte of each frame that waits, at the front.
+    /// The place after the last byte of each frame that waits, at the front.
     ends: [u64; MOST],
     count: usize,
 }
@@ -53,7 +53,7 @@ impl Handover {
         }
     }
 
-    /// So many packets of tracks that aren't set up were taken.
+    /// Counts `count` packets that were taken and are of tracks that aren't set up.
     pub fn skip(&mut self, count: u64)
         ensures { self.new ≡ record self.old { skipped = capped (self.old.skipped + count) } }
     {
@@ -68,7 +68,8 @@ impl Handover {
         self.count = 0;
     }
 
-    /// A frame waits behind the others, whose last byte is before this place. Where sixteen wait already it is never sent.
+    /// Adds a frame that waits after the others; its last byte is before this place. If sixteen wait already, it isn't added
+    /// and never counts as sent.
     pub fn put(&mut self, end: u64)
         ensures kept { length self.old.waiting < 16 → self.new ≡ record self.old { waiting = self.old.waiting ++ end ∷ [] } }
         ensures full { 16 ≤ length self.old.waiting → self.new ≡ self.old }

@@ -2,9 +2,9 @@
 use std::sync::atomic::{AtomicU64, Ordering};
 
 /// When a connection was last heard: the moment of its last whole message or frame, in milliseconds of a clock that doesn't go
-/// back. Bytes that make neither count for nothing. Of two moments the later one stays, whoever tells which.
+/// back. Bytes that make neither don't count. Of two moments the later one is kept, whichever thread sets them.
 ///
-/// Who reads for the connection says what moment it is; who is handed a message or a frame notes it.
+/// The thread that reads for the connection sets the moment; the code that is handed a message or a frame notes it.
 #[derive(Drop)]
 pub struct Heard {
     now: AtomicU64,
@@ -20,22 +20,22 @@ impl Heard {
         }
     }
 
-    /// It is this moment, or a later one that was told before.
+    /// Sets the current moment, unless a later one was set before.
     pub fn pass(&self, now: u64) {
         self.now.fetch_max(now, Ordering::SeqCst);
     }
 
-    /// Which moment it is.
+    /// Returns the current moment.
     pub fn now(&self) -> u64 {
         self.now.load(Ordering::SeqCst)
     }
 
-    /// A whole message or frame has come by now.
+    /// Notes that a whole message or frame has come by now.
     pub fn note(&self) {
         self.last.fetch_max(self.now(), Ordering::SeqCst);
     }
 
-    /// The moment of the last whole message or frame.
+    /// Returns the moment of the last whole message or frame.
     pub fn last(&self) -> u64 {
         self.last.load(Ordering::SeqCst)
     }

@@ -12,7 +12,7 @@ use publisher::{FateObserver, InReport, InStop, relay_in_observed};
 use rtsp_message::{Intake, Next, Unit};
 use transport_header::{MOST_TRACKS, TrackChannels};
 
-/// Publishes frames until a message comes, the end or a fault, by `relay_in`. Nobody reads its points: the feed posts each
+/// Publishes frames until a message, the end or a fault, by `relay_in`. Nothing reads its points: the feed posts each
 /// as soon as its packet is in. The observer sees each frame's fate as it comes.
 pub fn publish_frames<S: Source + Drop, F: Feed, O: FateObserver>(
     intake: &mut Intake<S>,
@@ -28,7 +28,7 @@ pub fn publish_frames<S: Source + Drop, F: Feed, O: FateObserver>(
     relay_in_observed(intake, feed, channels, &mut points, observer)
 }
 
-/// Drops frames until a message comes, the end or a fault, counts each as a stranger and notes it as heard.
+/// Drops frames until a message, the end or a fault, counts each as a stranger and notes it as heard.
 pub fn skip_frames<S: Source + Drop>(
     intake: &mut Intake<S>,
     counts: &mut Counts,

@@ -1,4 +1,4 @@
-//! How many lines of one address may be told in a second.
+//! The limit of log lines of one address in a second.
 ghost use Rattle.std.specs.Prelude.{◌≡◌, ◌/◌, ◌↔◌, ◌≤◌, IsTrue, length};
 ghost use Rattle.relay_accounts.specs.Rates.{MayTell, told_once_more};
 
@@ -6,23 +6,23 @@ use std::alloc::{AllocError, Global};
 use std::marker::Model;
 use std::net::IpAddr;
 
-/// How many lines may be told in a second.
+/// How many lines may be logged in a second.
 const MOST: u32 = 10;
 
-/// Of how many addresses it is known how many lines they had.
+/// For how many addresses the lines are counted.
 const ADDRESSES: usize = 256;
 
-/// How many lines were told in the second of a clock in which the last one was.
+/// How many lines were logged in the clock's second in which the last one was logged.
 #[derive(Clone, Copy, Debug, PartialEq, Eq, Drop)]
 pub struct LineRate {
     /// The second, since the clock's beginning.
     pub second: u64,
-    /// How many lines were told in it, at most ten.
+    /// How many lines were logged in it, at most ten.
     pub count: u32,
 }
 
 impl LineRate {
-    /// No line was told yet.
+    /// No line was logged yet.
     pub fn new() -> LineRate
         ensures { result ≡ record { second = 0; count = 0 } }
     {
@@ -32,7 +32,8 @@ impl LineRate {
         }
     }
 
-    /// Whether a line may be told at this moment, in milliseconds: the eleventh of a second may not. One that may counts as told.
+    /// Returns whether a line may be logged at this moment, in milliseconds: the eleventh of a second may not. A line that may
+    /// be logged is counted.
     pub fn tell(&mut self, now: u64) -> bool
         ensures allowed { IsTrue result ↔ MayTell self.old now }
         ensures told { IsTrue result → self.new ≡ told_once_more self.old now }
@@ -58,7 +59,7 @@ struct Known {
     rate: LineRate,
 }
 
-/// How many lines of each address were told in a second, of at most 256 addresses. The others share one rate.
+/// How many lines of each address were logged in a second, for at most 256 addresses. The others share one rate.
 pub struct LineRates {
     known: Vec<Known>,
     others: LineRate,
@@ -74,7 +75,7 @@ impl Drop for LineRates {
 }
 
 impl LineRates {
-    /// No line was told yet.
+    /// No line was logged yet.
     pub fn new(alloc: Global) -> Result<LineRates, AllocError> {
         Ok(LineRates {
             known: Vec::with_capacity(alloc, ADDRESSES)?,
@@ -82,7 +83,8 @@ impl LineRates {
         })
     }
 
-    /// Whether a line of this address may be told at this moment, in milliseconds. One that may counts as told.
+    /// Returns whether a line of this address may be logged at this moment, in milliseconds. A line that may be logged is
+    /// counted.
     pub fn tell(&mut self, address: IpAddr, now: u64) -> bool {
         for known in &mut self.known {
             if known.address == address {
@@ -92,8 +94,8 @@ impl LineRates {
         self.rate_of_new(address, now / 1_000).tell(now)
     }
 
-    /// The rate of an address of which nothing is known: in a place of its own, which may be that of an address that had no line
-    /// in this second. Where there is none it shares one.
+    /// Returns the rate of an address of which nothing is known: in a place of its own, which may be that of an address that
+    /// had no line in this second. If there is no place, it shares one.
     fn rate_of_new(&mut self, address: IpAddr, second: u64) -> &mut LineRate {
         let rate = LineRate::new();
         if self.known.len() < ADDRESSES && self.known.push(Known { address, rate }).is_ok() {

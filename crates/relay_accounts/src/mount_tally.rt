@@ -1,18 +1,19 @@
-//! What a mount's publisher has come to.
+//! What became of the frames of a mount's publisher.
 ghost use Rattle.std.specs.Prelude.{◌≡◌, ◌↔◌, IsTrue};
 ghost use Rattle.relay_accounts.specs.Reporting.{came_to_mount, nothing_published, published_since, with_fate};
 
 use publisher::Fate;
 use std::fmt;
 
-/// What became of the frames that came to a mount while its publisher recorded. A count that would pass 2^64 - 1 stays there.
+/// What became of the frames that came to a mount while its publisher recorded. A count that would exceed 2^64 - 1 stays at
+/// 2^64 - 1.
 #[derive(Clone, Copy, Debug, PartialEq, Eq, Drop)]
 pub struct MountTally {
     /// How many packets were published.
     pub packets: u64,
     /// How many bytes these have.
     pub bytes: u64,
-    /// Frames that were refused, since a player was just copying the packet that they would have replaced.
+    /// Frames that were refused, because a player was just copying the packet that they would have replaced.
     pub pinned: u64,
     /// Frames that are longer than a packet may be.
     pub oversize: u64,
@@ -43,7 +44,7 @@ impl MountTally {
         }
     }
 
-    /// A frame with so many bytes of data met this fate.
+    /// Counts a frame with `bytes` bytes of data that met this fate.
     pub fn add(&mut self, fate: Fate, bytes: u64)
         ensures { self.new ≡ with_fate self.old fate bytes }
     {
@@ -60,7 +61,7 @@ impl MountTally {
         }
     }
 
-    /// What came since an earlier tally of the same mount.
+    /// Returns what came since an earlier tally of the same mount.
     pub fn since(&self, earlier: &MountTally) -> MountTally
         ensures { result ≡ published_since self.now earlier.now }
     {
@@ -76,7 +77,7 @@ impl MountTally {
         }
     }
 
-    /// Whether no frame came.
+    /// Returns whether no frame came.
     pub fn is_nothing(&self) -> bool
         ensures { IsTrue result ↔ (came_to_mount self.now ≡ 0) }
     {

@@ -1,4 +1,4 @@
-//! What became of a connection, as lines tell it.
+//! What became of a connection, as log lines report it.
 use crate::counts::Counts;
 use crate::ending::ConnectionEnd;
 use base_syntax::Bytes;
@@ -30,8 +30,8 @@ pub struct Outcome {
     pub end: ConnectionEnd,
     /// What was counted since its last session began, or since that ended.
     pub counts: Counts,
-    /// Whether they are that session's account, which isn't told yet.
+    /// Whether they are that session's account, which isn't logged yet.
     pub has_account: bool,
-    /// Its part in the mount of its last session. `None` where it had none, or there was no memory for the name.
+    /// Its part in the mount of its last session. `None` if it had none, or if there was no memory for the name.
     pub part: Option<Part>,
 }

@@ -1,6 +1,4 @@
-//! Requests that were refused, by mount and status.
-ghost use Rattle.std.specs.Prelude.{◌≡◌, ◌≤◌, length};
-
+//! Requests that were refused, by what they were about and status.
 use crate::tally::Tally;
 use base_syntax::Bytes;
 use rtsp_message::Status;
@@ -8,27 +6,63 @@ use std::alloc::{AllocError, Global};
 use std::fmt;
 use std::net::SocketAddr;
 
-/// How many mounts and statuses are told of by themselves.
+/// How many counts there are at most.
 const MOST: usize = 128;
 
-/// For how many milliseconds what was told is known.
+/// For how many milliseconds a count is kept after its line.
 const KNOWN: u64 = 60_000;
 
-/// Requests on one mount that were refused with one status.
+/// What a refused request was about.
+#[derive(Clone, Copy, Debug, PartialEq, Eq, Drop)]
+pub enum Subject<'a> {
+    /// The mount of this name.
+    Mount(&'a [u8]),
+    /// A name that no mount has, or one for which there is no count.
+    Others,
+    /// A connection, before its first request.
+    NoMount,
+}
+
+/// A subject that is kept.
+#[derive(Drop)]
+enum Kept {
+    Mount(Bytes),
+    Others,
+    NoMount,
+}
+
+impl Kept {
+    fn of(alloc: Global, subject: Subject) -> Result<Kept, AllocError> {
+        Ok(match subject {
+            Subject::Mount(name) => Kept::Mount(Bytes::from_slice(alloc, name)?),
+            Subject::Others => Kept::Others,
+            Subject::NoMount => Kept::NoMount,
+        })
+    }
+
+    fn subject(&self) -> Subject {
+        match self {
+            Kept::Mount(name) => Subject::Mount(name.as_slice()),
+            Kept::Others => Subject::Others,
+            Kept::NoMount => Subject::NoMount,
+        }
+    }
+}
+
+/// Requests about one subject that were refused with one status.
 #[derive(Drop)]
 struct Entry {
-    /// `None` for names that no mount has.
-    name: Option<Bytes>,
+    kept: Kept,
     status: Status,
     last: SocketAddr,
     tally: Tally,
 }
 
-/// A line that tells of requests that were refused.
+/// A line that reports requests that were refused.
 #[derive(Drop)]
 pub struct RefusedLine {
     count: u64,
-    name: Option<Bytes>,
+    kept: Kept,
     status: Status,
     last: SocketAddr,
 }
@@ -36,16 +70,17 @@ pub struct RefusedLine {
 impl fmt::Display for RefusedLine {
     fn fmt<W: fmt::Write>(&self, f: &mut fmt::Formatter<W>) -> fmt::Result {
         write!(f, "{} refused {} on ", self.count, self.status.code())?;
-        match &self.name {
-            Some(name) => write!(f, "{}", name.as_slice().escape_ascii())?,
-            None => write!(f, "others")?,
+        match &self.kept {
+            Kept::Mount(name) => write!(f, "{}", name.as_slice().escape_ascii())?,
+            Kept::Others => write!(f, "others")?,
+            Kept::NoMount => write!(f, "no mount")?,
         }
         write!(f, ", the last {}", self.last)
     }
 }
 
-/// Requests that were refused, counted by mount and status, each of which is told of once a minute at most. There are at most
-/// 128 such counts, whatever names peers ask for: names that no mount has are one, and so are those for which there is no place.
+/// Requests that were refused, counted by subject and status, each of which is reported once a minute at most. There are at most 128
+/// such counts, whatever names peers ask for: names that no mount has are one, and so are those for which there is no place.
 pub struct RefusedRequests {
     alloc: Global,
     entries: Vec<Entry>,
@@ -69,18 +104,19 @@ impl RefusedRequests {
         })
     }
 
-    /// A request of this peer was refused with this status, on a mount of this name, or on a name that no mount has.
-    pub fn add(&mut self, name: Option<&[u8]>, status: Status, peer: SocketAddr) {
-        if self.count(name, status, peer) || self.begin(name, status, peer) {
+    /// A request about this subject, of this peer, was refused with this status.
+    pub fn add(&mut self, subject: Subject, status: Status, peer: SocketAddr) {
+        if self.count(subject, status, peer) || self.begin(subject, status, peer) {
             return;
         }
-        let _ = self.count(None, status, peer) || self.begin(None, status, peer);
+        let _ = self.count(Subject::Others, status, peer)
+            || self.begin(Subject::Others, status, peer);
     }
 
-    /// Counts it where there is such a count.
-    fn count(&mut self, name: Option<&[u8]>, status: Status, peer: SocketAddr) -> bool {
+    /// Counts it, if there is such a count.
+    fn count(&mut self, subject: Subject, status: Status, peer: SocketAddr) -> bool {
         for entry in &mut self.entries {
-            if entry.status == status && is_same(&entry.name, name) {
+            if entry.status == status && is_same(entry.kept.subject(), subject) {
                 entry.tally.add();
                 entry.last = peer;
                 return true;
@@ -89,19 +125,22 @@ impl RefusedRequests {
         false
     }
 
-    /// Begins such a count, where there is a place. The last places are for names that no mount has.
-    fn begin(&mut self, name: Option<&[u8]>, status: Status, peer: SocketAddr) -> bool {
-        let most = if name.is_some() { MOST - OTHERS } else { MOST };
+    /// Begins such a count, if there is a place. The last places are for what is about no mount.
+    fn begin(&mut self, subject: Subject, status: Status, peer: SocketAddr) -> bool {
+        let most = match subject {
+            Subject::Mount(_) => MOST - OTHERS,
+            Subject::Others | Subject::NoMount => MOST,
+        };
         if self.entries.len() >= most {
             return false;
         }
-        let Ok(name) = copy_of(self.alloc, name) else {
+        let Ok(kept) = Kept::of(self.alloc, subject) else {
             return false;
         };
         let mut tally = Tally::new();
         tally.add();
         let entry = Entry {
-            name,
+            kept,
             status,
             last: peer,
             tally,
@@ -109,7 +148,7 @@ impl RefusedRequests {
         self.entries.push(entry).is_ok()
     }
 
-    /// When the next line is to be told. `None` where nothing was refused since the last one.
+    /// When the next line is due. `None` if nothing was refused since the last one.
     pub fn due(&self) -> Option<u64> {
         let mut due: Option<u64> = None;
         for entry in &self.entries {
@@ -121,16 +160,16 @@ impl RefusedRequests {
         due
     }
 
-    /// The next line that is to be told at this moment, in milliseconds; then it counts as told.
+    /// The next line that is due at this moment, in milliseconds; then it counts as written.
     pub fn tell(&mut self, now: u64) -> Option<RefusedLine> {
         self.forget(now);
         for entry in &mut self.entries {
             if let Some(count) = entry.tally.tell(now) {
-                // Without memory for the name it is told without.
-                let name = copy_of(self.alloc, slice_of(&entry.name)).unwrap_or(None);
+                // Without memory for the name it is reported without.
+                let kept = Kept::of(self.alloc, entry.kept.subject()).unwrap_or(Kept::Others);
                 return Some(RefusedLine {
                     count,
-                    name,
+                    kept,
                     status: entry.status,
                     last: entry.last,
                 });
@@ -139,7 +178,7 @@ impl RefusedRequests {
         None
     }
 
-    /// Drops what was told a minute ago and hasn't come since.
+    /// Drops what was reported a minute ago and hasn't come since.
     fn forget(&mut self, now: u64) {
         self.entries.retain(|entry| {
             entry.tally.count > 0
@@ -151,28 +190,13 @@ impl RefusedRequests {
     }
 }
 
-/// How many places are for names that no mount has: one for each status that is told of.
-const OTHERS: usize = 8;
+/// How many places are for what is about no mount: one for each status that is counted, and one for connections.
+const OTHERS: usize = 9;
 
-/// The bytes of a name, if there is one.
-fn slice_of(name: &Option<Bytes>) -> Option<&[u8]> {
-    match name {
-        Some(name) => Some(name.as_slice()),
-        None => None,
-    }
-}
-
-fn is_same(one: &Option<Bytes>, other: Option<&[u8]>) -> bool {
+fn is_same(one: Subject, other: Subject) -> bool {
     match (one, other) {
-        (Some(one), Some(other)) => one.as_slice() == other,
-        (None, None) => true,
+        (Subject::Mount(one), Subject::Mount(other)) => one == other,
+        (Subject::Others, Subject::Others) | (Subject::NoMount, Subject::NoMount) => true,
         _ => false,
-    }
-}
-
-fn copy_of(alloc: Global, name: Option<&[u8]>) -> Result<Option<Bytes>, AllocError> {
-    match name {
-        Some(name) => Ok(Some(Bytes::from_slice(alloc, name)?)),
-        None => Ok(None),
     }
 }

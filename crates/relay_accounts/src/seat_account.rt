@@ -20,7 +20,7 @@ pub struct SeatAccount {
 }
 
 impl SeatAccount {
-    /// The account of a seat that was left, of a ring that keeps so many packets, whose sender handed so much over.
+    /// Returns the account of a seat that was left, of a ring that keeps `keep` packets, if its sender handed over `handed`.
     pub fn of(left: &Left, handed: HandedOver, keep: u64) -> SeatAccount
         ensures is { result ≡ account_of left.now handed keep }
         ensures closes { left.now.taken + left.now.lost + left.now.left < 2 ^ 64
@@ -39,8 +39,8 @@ impl SeatAccount {
     }
 }
 
-/// How many packets a player would have lost if it left its seat now: it was told so many lost and stands at this cursor, and
-/// so many were published to its ring, which keeps so many.
+/// Returns how many packets a player would have lost if it left its seat now. `lost` were reported lost to it, and its
+/// cursor is `cursor`; `published` were published to its ring, which keeps `keep`.
 pub fn lost_so_far(lost: u64, cursor: u64, published: u64, keep: u64) -> u64
     ensures { result ≡ lost_by_now lost cursor published keep }
 {

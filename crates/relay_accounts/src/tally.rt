@@ -1,17 +1,17 @@
-//! What is told of once in a while.
+//! A count that is logged at most once a minute.
 ghost use Rattle.std.specs.Prelude.{◌≡◌, ◌+◌, None, Some, MatchOption};
 ghost use Rattle.relay_accounts.specs.Capped.{capped};
 ghost use Rattle.relay_accounts.specs.Tallies.{due_at, IsDue};
 
-/// How long nothing is told after what was told last, in milliseconds.
+/// How long nothing is logged after the last log line, in milliseconds.
 const WHILE: u64 = 60_000;
 
-/// Counts what is told of at most once a minute, with its number. Moments are milliseconds of a clock that doesn't go back.
+/// Counts what is logged at most once a minute, with its number. Moments are milliseconds of a clock that doesn't go back.
 #[derive(Clone, Copy, Debug, PartialEq, Eq, Drop)]
 pub struct Tally {
-    /// How often it came since it was told.
+    /// How often it came since it was last logged.
     pub count: u64,
-    /// When it was told last.
+    /// When it was last logged.
     pub told: Option<u64>,
 }
 
@@ -26,14 +26,14 @@ impl Tally {
         }
     }
 
-    /// It came once more.
+    /// Counts it once more.
     pub fn add(&mut self)
         ensures { self.new ≡ record self.old { count = capped (self.old.count + 1) } }
     {
         self.count = self.count.saturating_add(1);
     }
 
-    /// When it is to be told. `None` where nothing came since it was told.
+    /// Returns when it is due to be logged. `None` if nothing came since it was last logged.
     pub fn due(&self) -> Option<u64>
         ensures { result ≡ due_at self.now }
     {
@@ -46,7 +46,7 @@ impl Tally {
         }
     }
 
-    /// How often it came, where that is to be told now; then it counts as told.
+    /// Returns how often it came, if that is due to be logged now; then it counts as logged.
     pub fn tell(&mut self, now: u64) -> Option<u64>
         ensures { MatchOption result ((IsDue self.old now → ⊥) × (self.new ≡ self.old)) (λ count. IsDue self.old now × (count ≡ self.old.count) × (self.new ≡ record { count = 0; told = Some now })) }
     {

@@ -13,7 +13,7 @@ IsBounded buffer.System = ⊤
 IsBounded (buffer.Bytes bytes) = bytes ≤ 4194304
 
 -- the ranges of a ring's numbers, of the time that packets gather for, in milliseconds, of how many threads send frames, of
--- the seconds between reports, and of the bytes of a send buffer
+-- the seconds between reports and of silence, of what one address may have, and of the bytes of a send buffer
 pub record IsInRange (settings : Settings) : Type 0 where
   pub keeps : (1 ≤ settings.keep) × (settings.keep ≤ 4095)
   pub seated : (1 ≤ settings.seats) × (settings.seats ≤ 1024)
@@ -22,9 +22,12 @@ pub record IsInRange (settings : Settings) : Type 0 where
   pub goes_back : settings.back ≤ 4095
   pub writes : IfSome settings.writers (λ count. count ≤ 64)
   pub reports : IfSome settings.report (λ seconds. (1 ≤ seconds) × (seconds ≤ 86400))
+  pub silences : IfSome settings.silent (λ seconds. (1 ≤ seconds) × (seconds ≤ 86400))
+  pub connects : IfSome settings.per_address (λ count. (1 ≤ count) × (count ≤ 1024))
+  pub announces : IfSome settings.mounts_per_address (λ count. (1 ≤ count) × (count ≤ 64))
   pub buffers : IsBounded settings.send_buffer
 
--- what is sent from where it lies in the ring is sent by no writer
+-- what is sent from its place in the ring is sent by no writer
 abbrev pub SendsItself : Settings → Type 0
 SendsItself settings = settings.is_direct ≡ true → IfSome settings.writers (λ count. count ≡ 0)
 
@@ -36,7 +39,7 @@ HasRoomToSend (buffer.Bytes bytes) = 16384 ≤ bytes
 
 -- a server that is asked for has its numbers in their ranges, and no writers beside players that send themselves
 abbrev pub IsServedInRange : Asked → Type 0
-IsServedInRange (asks.Serve addr settings) = IsInRange settings × SendsItself settings × HasRoomToSend settings.send_buffer
+IsServedInRange (asks.Serve addr settings origins) = IsInRange settings × SendsItself settings × HasRoomToSend settings.send_buffer
 IsServedInRange (asks.Talk word) = ⊤
 IsServedInRange (asks.Steps stopped) = ⊤
 IsServedInRange asks.Nothing = ⊤

@@ -7,10 +7,11 @@ ghost use Rattle.relay_command.specs.Serving.{HasRoomToSend, IsServedInRange};
 ghost use Rattle.relay_command.specs.Stopping.{IsStopped, IsNoActor};
 
 use crate::commands::{command, serve_command, steps_command};
-use crate::settings::{SendBuffer, Settings};
+use crate::settings::{Origins, SendBuffer, Settings};
 use crate::task::{Task, task_named};
 use clap::error::ErrorKind;
 use clap::{ArgMatches, Error};
+use networks::{NetworkFault, Networks};
 use ring_script::read_actor;
 use ring_steps::Actor;
 use std::alloc::{AllocError, Global};
@@ -19,18 +20,18 @@ use std::convert::AsStr;
 /// What an accepted command line asks for.
 #[derive(Debug, Drop)]
 pub enum Asked {
-    /// One connection is answered, with what stands after `--word`.
+    /// One connection is answered, with the text after `--word`.
     Talk(Option<String>),
-    /// A ring's schedule is run, behind which this actor stops, if one does.
+    /// A ring's schedule is run, after which this actor stops, if one does.
     Steps(Option<Actor>),
-    /// Connections are served at this address.
-    Serve(String, Settings),
-    /// No command, which the parser lets nobody say.
+    /// Connections are served at this address, with these settings, from these networks.
+    Serve(String, Settings, Origins),
+    /// No command, which the parser lets no line be.
     Nothing,
 }
 
-/// What the words of a command line ask for, of which the first is the program's name. An error has a text and an exit
-/// code: it tells why the line isn't understood, gives the help that it asks for, or says `out of memory`.
+/// Returns what the words of a command line ask for, of which the first is the program's name. An error has a text and an exit
+/// code. Its text is why the line isn't understood, the help that it asks for, or `out of memory`.
 pub fn read_words<S: AsStr>(alloc: Global, words: &[S]) -> Result<Asked, Error>
     ensures ranges { IfOk result IsServedInRange }
 {
@@ -60,13 +61,14 @@ fn asked_of(alloc: Global, matches: &ArgMatches) -> Result<Asked, Error>
             if is_short(settings.send_buffer) {
                 return Err(short_send_buffer(alloc)?);
             }
-            Ok(Asked::Serve(addr, settings))
+            let origins = origins_of(alloc, of_command)?;
+            Ok(Asked::Serve(addr, settings, origins))
         }
         None => Ok(Asked::Nothing),
     }
 }
 
-/// A copy of what stands after an option or for an argument.
+/// Returns a copy of the text of an option or an argument.
 fn text_of(alloc: Global, matches: &ArgMatches, name: &str) -> Result<Option<String>, AllocError> {
     match matches.get_str(name) {
         Some(text) => Ok(Some(String::from_str(alloc, text)?)),
@@ -74,7 +76,44 @@ fn text_of(alloc: Global, matches: &ArgMatches, name: &str) -> Result<Option<Str
     }
 }
 
-/// The actor that stops, where a text stands after `--stopped`. An error tells that the text names none.
+/// Returns the networks from which peers may publish and play, and those without limits for an address.
+fn origins_of(alloc: Global, matches: &ArgMatches) -> Result<Origins, Error> {
+    Ok(Origins {
+        publish: networks_of(alloc, matches, "publish-from")?,
+        play: networks_of(alloc, matches, "play-from")?,
+        exempt: networks_of(alloc, matches, "limit-exempt")?,
+    })
+}
+
+/// Returns the networks of an option. An error has the reason why its text is no list of them.
+fn networks_of(alloc: Global, matches: &ArgMatches, name: &str) -> Result<Option<Networks>, Error> {
+    let Some(text) = matches.get_str(name) else {
+        return Ok(None);
+    };
+    match Networks::read(alloc, text) {
+        Ok(networks) => Ok(Some(networks)),
+        Err(fault) => Err(no_networks(alloc, name, text, fault)?),
+    }
+}
+
+/// A command line fault: a text is no list of networks.
+fn no_networks(
+    alloc: Global,
+    name: &str,
+    text: &str,
+    fault: NetworkFault,
+) -> Result<Error, AllocError>
+    ensures { IfOk result (λ error. kind_of error ≡ ValueValidation) }
+{
+    if fault == NetworkFault::OutOfMemory {
+        return Err(AllocError);
+    }
+    let why = format!(in alloc; "invalid value '{text}' for '--{name} <NET>': {fault}")?;
+    let mut command = serve_command(alloc)?.bin_name("relay serve")?;
+    command.error(ErrorKind::ValueValidation, &why)
+}
+
+/// Returns the actor that stops, if a text comes after `--stopped`. It is an error if the text names none.
 fn stopped_of(alloc: Global, text: Option<&str>) -> Result<Option<Actor>, Error>
     ensures stopped { IfOk result (IsStopped (option_copied text.entry)) }
     ensures refused { IfErr result (IsNoActor (option_copied text.entry)) }
@@ -88,7 +127,7 @@ fn stopped_of(alloc: Global, text: Option<&str>) -> Result<Option<Actor>, Error>
     }
 }
 
-/// Tells that `--direct` and writers exclude each other, as a command line is told that it isn't understood.
+/// A command line fault: `--direct` and writers exclude each other.
 fn direct_by_writers(alloc: Global) -> Result<Error, AllocError>
     ensures { IfOk result (λ error. kind_of error ≡ ArgumentConflict) }
 {
@@ -100,7 +139,7 @@ fn direct_by_writers(alloc: Global) -> Result<Error, AllocError>
 /// The least send buffer that can be asked for, in bytes.
 const LEAST_SEND_BUFFER: u32 = 16_384;
 
-/// Whether a send buffer that is asked for is too short.
+/// Returns whether a send buffer that is asked for is too short.
 fn is_short(buffer: SendBuffer) -> bool
     ensures short { IsTrue result → HasRoomToSend buffer → ⊥ }
     ensures long { (IsTrue result → ⊥) → HasRoomToSend buffer }
@@ -111,7 +150,7 @@ fn is_short(buffer: SendBuffer) -> bool
     }
 }
 
-/// Tells that a send buffer is too short, as a command line is told that it isn't understood.
+/// A command line fault: a send buffer is too short.
 fn short_send_buffer(alloc: Global) -> Result<Error, AllocError>
     ensures { IfOk result (λ error. kind_of error ≡ ValueValidation) }
 {
@@ -120,7 +159,7 @@ fn short_send_buffer(alloc: Global) -> Result<Error, AllocError>
     command.error(ErrorKind::ValueValidation, why)
 }
 
-/// Tells that a text names no actor, as a command line is told that it isn't understood.
+/// A command line fault: a text names no actor.
 fn no_actor(alloc: Global, name: &str) -> Result<Error, AllocError>
     ensures { IfOk result (λ error. kind_of error ≡ ValueValidation) }
 {

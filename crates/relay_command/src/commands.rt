@@ -45,7 +45,7 @@ pub(crate) fn steps_command<'a>(alloc: Global) -> Result<Command<'a>, AllocError
     let stopped = Arg::new(alloc, "stopped")
         .long("stopped")
         .value_name("A")
-        .help("Stop p or this seat behind the schedule, and let the others finish their calls");
+        .help("Stop p or this seat after the schedule, and let the others finish their calls");
     Command::new(alloc, "steps")
         .about("Runs a ring's schedule from standard input, and writes what each step did")
         .after_help(STEPS_EXAMPLE)
@@ -72,6 +72,12 @@ pub(crate) fn serve_command<'a>(alloc: Global) -> Result<Command<'a>, AllocError
         .arg(back_arg(alloc))?
         .arg(hang_up_ended_arg(alloc))?
         .arg(idle_arg(alloc))?
+        .arg(silent_arg(alloc))?
+        .arg(per_address_arg(alloc))?
+        .arg(mounts_per_address_arg(alloc))?
+        .arg(limit_exempt_arg(alloc))?
+        .arg(publish_from_arg(alloc))?
+        .arg(play_from_arg(alloc))?
         .arg(writers_arg(alloc))?
         .arg(direct_arg(alloc))?
         .arg(verbose_arg(alloc))?
@@ -94,7 +100,7 @@ fn keep_arg<'a>(alloc: Global) -> Arg<'a> {
         .value_name("N")
         .default_value("512")
         .value_parser(clap::value_parser!(u16).range(1..4096))
-        .help("How many packets a mount keeps for players that are behind, 1 to 4095")
+        .help("How many packets a mount keeps for players that are slow, 1 to 4095")
 }
 
 fn seats_arg<'a>(alloc: Global) -> Arg<'a> {
@@ -139,7 +145,7 @@ fn back_arg<'a>(alloc: Global) -> Arg<'a> {
         .default_value("0")
         .value_parser(clap::value_parser!(u16).range(0..4096))
         .help(
-            "How many of the kept packets a new player is given at once, 0 to 4095; above 0 without RTP-Info; near --keep a fast publisher makes it lose some, and has packets refused while it copies",
+            "How many of the kept packets a new player is sent at once, 0 to 4095; above 0 without RTP-Info; near --keep a fast publisher makes it lose some, and has packets refused while it copies",
         )
 }
 
@@ -147,7 +153,7 @@ fn hang_up_ended_arg<'a>(alloc: Global) -> Arg<'a> {
     Arg::new(alloc, "hang-up-ended")
         .long("hang-up-ended")
         .action(ArgAction::SetTrue)
-        .help("Hang a player up once the last packet of its mount was written")
+        .help("Disconnect a player after the last packet of its mount was written")
 }
 
 fn idle_arg<'a>(alloc: Global) -> Arg<'a> {
@@ -157,7 +163,64 @@ fn idle_arg<'a>(alloc: Global) -> Arg<'a> {
         .default_value("300")
         .value_parser(clap::value_parser!(u16))
         .help(
-            "Hang up who says nothing for so long without a session, 0 to 65535, where 0 is never",
+            "Disconnect clients that have no session after SECONDS of silence, 0 to 65535; 0 is never",
+        )
+}
+
+fn silent_arg<'a>(alloc: Global) -> Arg<'a> {
+    Arg::new(alloc, "silent")
+        .long("silent")
+        .value_name("SECONDS")
+        .value_parser(clap::value_parser!(u64).range(1..86_401))
+        .help(
+            "Disconnect a publisher that sends nothing, no packet and no request, for SECONDS while it records, within two more, 1 to 86400 [default: its session expires after 60]",
+        )
+}
+
+fn per_address_arg<'a>(alloc: Global) -> Arg<'a> {
+    Arg::new(alloc, "per-address")
+        .long("per-address")
+        .value_name("N")
+        .value_parser(clap::value_parser!(u16).range(1..1025))
+        .help(
+            "How many connections an address may have, 1 to 1024; IPv6 counts by /64; a wall behind NAT is one address [default: any number]",
+        )
+}
+
+fn mounts_per_address_arg<'a>(alloc: Global) -> Arg<'a> {
+    Arg::new(alloc, "mounts-per-address")
+        .long("mounts-per-address")
+        .value_name("N")
+        .value_parser(clap::value_parser!(u16).range(1..65))
+        .help(
+            "How many mounts an address may publish, 1 to 64; a recorder is one address [default: any number]",
+        )
+}
+
+fn limit_exempt_arg<'a>(alloc: Global) -> Arg<'a> {
+    Arg::new(alloc, "limit-exempt")
+        .long("limit-exempt")
+        .value_name("NET")
+        .help(
+            "Networks that --per-address and --mounts-per-address don't apply to, as 10.0.0.5,192.168.7.0/24",
+        )
+}
+
+fn publish_from_arg<'a>(alloc: Global) -> Arg<'a> {
+    Arg::new(alloc, "publish-from")
+        .long("publish-from")
+        .value_name("NET")
+        .help(
+            "Networks from which mounts may be published, as 10.0.0.0/8,fd00::/8; others get 403; it is no authentication [default: all]",
+        )
+}
+
+fn play_from_arg<'a>(alloc: Global) -> Arg<'a> {
+    Arg::new(alloc, "play-from")
+        .long("play-from")
+        .value_name("NET")
+        .help(
+            "Networks from which mounts may be played; others get 403; it is no authentication [default: all]",
         )
 }
 
@@ -167,7 +230,7 @@ fn writers_arg<'a>(alloc: Global) -> Arg<'a> {
         .value_name("N")
         .value_parser(clap::value_parser!(u16).range(0..65))
         .help(
-            "How many threads send frames, 0 to 64, where 0 gives each player its own [default: one a processor]",
+            "How many threads send frames, 0 to 64; 0 gives each player its own [default: one a processor]",
         )
 }
 
@@ -176,7 +239,7 @@ fn direct_arg<'a>(alloc: Global) -> Arg<'a> {
         .long("direct")
         .action(ArgAction::SetTrue)
         .help(
-            "Send each packet from its place in the ring, with --writers 0: who reads nothing may then stop its mount, whose packets are refused, for up to 20 seconds",
+            "Copy each packet once, from its place in the ring, with --writers 0: a player that stops reading can then block its mount, whose packets are refused, for 20 seconds, a slow one for longer",
         )
 }
 
@@ -184,7 +247,7 @@ fn verbose_arg<'a>(alloc: Global) -> Arg<'a> {
     Arg::new(alloc, "verbose")
         .long("verbose")
         .action(ArgAction::SetTrue)
-        .help("Tell of each mount and each player on standard error")
+        .help("Log each mount, each player and each refusal on standard error")
 }
 
 fn report_arg<'a>(alloc: Global) -> Arg<'a> {
@@ -193,7 +256,7 @@ fn report_arg<'a>(alloc: Global) -> Arg<'a> {
         .value_name("SECONDS")
         .value_parser(clap::value_parser!(u64).range(1..86_401))
         .help(
-            "Tell each mount's packets and each player's losses so often on standard error, 1 to 86400",
+            "Log each mount's packets and each player's losses every SECONDS on standard error, 1 to 86400",
         )
 }
 

@@ -7,5 +7,5 @@ mod settings;
 mod task;
 
 pub use asked::{Asked, read_words};
-pub use settings::{SendBuffer, Settings};
+pub use settings::{Origins, SendBuffer, Settings};
 pub use task::{Task, exit_code, task_named};

@@ -1,16 +1,18 @@
-//! What `relay serve` is to do, as its command line says.
+//! The settings of `relay serve`, from its command line.
+ghost use Rattle.std.specs.Prelude.{◌≤◌, IfSome};
 ghost use Rattle.relay_command.specs.Serving.{IsInRange};
 
 use clap::ArgMatches;
+use networks::Networks;
 
 /// The send buffer of a connection: what the system may hold for a peer that is behind.
 #[derive(Clone, Copy, Debug, PartialEq, Eq, Drop)]
 pub enum SendBuffer {
-    /// The program's default where the system grants it, else as much as the system likes.
+    /// The program's default if the system grants it, else the system's own size.
     Default,
-    /// As much as the system likes.
+    /// The system's own size.
     System,
-    /// So many bytes, 16,384 to 4,194,304, as far as the system grants them.
+    /// This many bytes, 16,384 to 4,194,304, as far as the system grants them.
     Bytes(u32),
 }
 
@@ -27,20 +29,27 @@ pub struct Settings {
     pub accept: Option<u64>,
     /// For how long packets gather before players are woken, 0 to 100 milliseconds.
     pub gather: u64,
-    /// How many of the kept packets a player is given that begins to play, 0 to 4095.
+    /// How many of the kept packets a player is sent when it starts to play, 0 to 4095.
     pub back: u64,
-    /// Whether a player is hung up after the last packet of its mount.
+    /// Whether a player is disconnected after the last packet of its mount.
     pub hang_up_ended: bool,
-    /// After how many seconds a connection without a session is hung up that says nothing; `None` for never.
+    /// After how many seconds of silence a connection without a session is disconnected; `None` for never.
     pub idle: Option<u64>,
+    /// After how many seconds of silence, 1 to 86,400, a connection that records is disconnected; `None` leaves it to the expiry of
+    /// its session.
+    pub silent: Option<u64>,
+    /// How many connections an address may have, 1 to 1,024; `None` for any number.
+    pub per_address: Option<usize>,
+    /// How many mounts an address may have, 1 to 64; `None` for any number.
+    pub mounts_per_address: Option<usize>,
     /// How many threads send the frames of all players, 0 to 64; 0 gives each player a thread of its own, and `None` is one for
     /// each processor.
     pub writers: Option<usize>,
-    /// Whether each player's thread writes packets from where they lie in the ring. Then `writers` is 0 or `None`.
+    /// Whether each player's thread writes packets from their place in the ring. Then `writers` is 0 or `None`.
     pub is_direct: bool,
-    /// Whether lines tell of each mount and each player.
+    /// Whether lines report each mount and each player.
     pub is_verbose: bool,
-    /// After how many seconds, 1 to 86,400, and again after as many, lines tell of mounts and losses; `None` for never.
+    /// How many seconds, 1 to 86,400, are between two reports of mounts and losses; `None` for no reports.
     pub report: Option<u64>,
     /// What the system may hold for a peer that is behind.
     pub send_buffer: SendBuffer,
@@ -48,9 +57,20 @@ pub struct Settings {
     pub until_eof: bool,
 }
 
+/// The networks from which peers may publish and play: `None` is everywhere, or for `exempt` nowhere.
+#[derive(Debug, Drop)]
+pub struct Origins {
+    /// The networks from which mounts may be announced.
+    pub publish: Option<Networks>,
+    /// The networks from which mounts may be described and played.
+    pub play: Option<Networks>,
+    /// The networks for which `per_address` and `mounts_per_address` don't apply.
+    pub exempt: Option<Networks>,
+}
+
 impl Settings {
-    /// What the arguments of `serve` say. The command line has a default for each number but `accept`, and lets no
-    /// number through that is out of its range.
+    /// Returns the settings of the arguments of `serve`. The command line has a default for each number but `accept`, and lets
+    /// no number through that is out of its range.
     pub fn of(matches: &ArgMatches) -> Settings
         ensures ranges { IsInRange result }
     {
@@ -66,14 +86,19 @@ impl Settings {
                 0 => None,
                 seconds => Some(seconds as u64),
             },
+            silent: seconds(matches, "silent"),
+            per_address: matches
+                .get_one::<u16>("per-address")
+                .map(|count| usize::from(count).clamp(1, 1_024)),
+            mounts_per_address: matches
+                .get_one::<u16>("mounts-per-address")
+                .map(|count| usize::from(count).clamp(1, 64)),
             writers: matches
                 .get_one::<u16>("writers")
                 .map(|count| usize::from(count).min(64)),
             is_direct: matches.get_flag("direct"),
             is_verbose: matches.get_flag("verbose"),
-            report: matches
-                .get_one::<u64>("report")
-                .map(|seconds| seconds.clamp(1, 86_400)),
+            report: seconds(matches, "report"),
             send_buffer: match matches.get_one::<u64>("send-buffer") {
                 None => SendBuffer::Default,
                 Some(0) => SendBuffer::System,
@@ -82,6 +107,15 @@ impl Settings {
             until_eof: matches.get_flag("until-eof"),
         }
     }
+}
+
+/// Seconds of the command line, 1 to 86,400. `None` without the option.
+fn seconds(matches: &ArgMatches, name: &str) -> Option<u64>
+    ensures { IfSome result (λ seconds. (1 ≤ seconds) × (seconds ≤ 86400)) }
+{
+    matches
+        .get_one::<u64>(name)
+        .map(|seconds| seconds.clamp(1, 86_400))
 }
 
 /// A number of the command line.

@@ -1,4 +1,4 @@
-//! What a command line asks for, and the exit code that tells how that went.
+//! What a command line asks for, and the exit code of how that went.
 ghost use Rattle.std.specs.Prelude.{◌≡◌};
 ghost use Rattle.std.specs.Process.{exit_status};
 ghost use Rattle.relay_command.specs.Commands.{task_of};
@@ -16,7 +16,7 @@ pub enum Task {
     Serve,
 }
 
-/// The task that a command's name means. `None` where the program has no such command.
+/// Returns the task that a command's name means. `None` if the program has no such command.
 pub fn task_named(name: &str) -> Option<Task>
     ensures { result ≡ task_of name.now }
 {
@@ -28,7 +28,7 @@ pub fn task_named(name: &str) -> Option<Task>
     }
 }
 
-/// The exit code that tells a status.
+/// Returns the exit code of a status.
 pub fn exit_code(status: u8) -> ExitCode
     ensures { exit_status result ≡ status }
 {

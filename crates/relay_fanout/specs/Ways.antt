@@ -3,7 +3,7 @@ use Rattle.std.specs.Prelude.{ℕ, ◌≤◌, ⊤, length}
 use Rattle.relay_fanout.specs.declared.way.Way.{Way}
 use Rattle.relay_fanout.specs.declared.way.Way.TheVariants as ways
 
--- there is room for packets of so many bytes, where they are copied
+-- there is room for packets of `packet_bytes` bytes, if they are copied
 abbrev pub HasRoom : Way → (packet_bytes : ℕ) → Type 0
 HasRoom (ways.Copied buf) n = n ≤ length buf.items
 HasRoom ways.Direct n = ⊤

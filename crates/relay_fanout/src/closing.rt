@@ -2,8 +2,8 @@
 use crate::socket::HangUp;
 use interleaved::Source;
 
-/// Says nothing more, and reads what the peer still sends: at most so many reads, each for at most so many milliseconds.
-/// So the peer isn't told of a reset before it has read what was written last.
+/// Closes the writing side, and reads what the peer still sends: at most `reads` reads, each for at most `wait` milliseconds.
+/// So the peer sees no reset before it has read what was written last.
 pub fn close_behind_text<S: Source, H: HangUp>(wire: &H, source: &mut S, reads: u32, wait: u64) {
     wire.limit_waits(wait);
     wire.close_writes();

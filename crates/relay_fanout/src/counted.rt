@@ -3,7 +3,7 @@ ghost use Rattle.std.specs.Prelude.{◌≡◌};
 
 use interleaved::{Failed, Sink, TrySink};
 
-/// A sink that counts the bytes that it took: of a socket those that the system took.
+/// A sink that counts the bytes that it took; for a socket, those that the system took.
 #[derive(Drop)]
 pub struct Counted<W: Sink> {
     inner: W,
@@ -11,14 +11,14 @@ pub struct Counted<W: Sink> {
 }
 
 impl<W: Sink + Drop> Counted<W> {
-    /// Nothing was written to it since.
+    /// Nothing was written to it yet.
     pub(crate) fn new(inner: W) -> Counted<W> {
         Counted { inner, taken: 0 }
     }
 }
 
 impl<W: Sink> Counted<W> {
-    /// How many bytes it has taken.
+    /// Returns how many bytes it has taken.
     pub(crate) fn taken(&self) -> u64 {
         self.taken
     }

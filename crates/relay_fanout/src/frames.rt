@@ -1,11 +1,11 @@
-//! A playing connection, and who sends its frames.
+//! A playing connection, and what sends its frames.
 ghost use Rattle.relay_fanout.specs.Ways.{HasRoom};
 
 use crate::maker::Leave;
 use crate::mount_signal::{MountSignal, Stand};
 use crate::pace::KnownLevel;
 use crate::phase::FramePhase;
-use crate::playing::{Playing, SentFrames, TapPlace};
+use crate::playing::{Playing, SentFrames, TapPlace, Waits};
 use crate::socket::HangUp;
 use crate::wake_signal::WakeSignal;
 use crate::way::Way;
@@ -27,8 +27,8 @@ use waking::Next;
 
 /// What the thread that sends a connection's frames has of it: a thread of its own, or a writer, which has other players, too.
 ///
-/// A frame thread holds the tap's lock as long as it takes from it; the thread that reads takes the tap out when it has joined it.
-/// A writer holds the player's lock for one look, and the writing side's meanwhile.
+/// A frame thread holds the tap's lock while it takes from it; the thread that reads takes the tap out after it has joined
+/// the frame thread. A writer holds the player's lock for one look, and the writing side's meanwhile.
 pub struct SharedPlayer<T, W: Sink, H> {
     pub writing: WritingSide<W>,
     pub wire: H,
@@ -61,7 +61,7 @@ impl<T, W: Sink + Drop, H> SharedPlayer<T, W, H> {
         text: &[u8],
     ) -> Result<(), Failed> {
         let written = self.writing.write(rt, text);
-        // After it was given back: a writer that marks it later than this gets it at its last try.
+        // After the writing side was given back: a writer that marks it later than this gets it at its last try.
         if self.writing.was_skipped() {
             wake_signal.writers.raise();
         }
@@ -95,7 +95,7 @@ impl<T: Lend + Leave + Drop, W: Sink + Drop, H: HangUp + Drop> SharedPlayer<T, W
         }
     }
 
-    /// Puts the player in that a writer will look at, with the tap that was put in before. Tells its number.
+    /// Puts in the player that a writer will look at, with the tap that was put in before. Returns its number.
     pub(crate) fn play(
         &self,
         rt: &impl Wait,
@@ -115,7 +115,7 @@ impl<T: Lend + Leave + Drop, W: Sink + Drop, H: HangUp + Drop> SharedPlayer<T, W
         number
     }
 
-    /// Takes the player out again, after at most one look of its writer, and says how its frames ended. Its tap is put back.
+    /// Takes the player out again, after at most one look of its writer, and returns how its frames ended. Its tap is put back.
     fn stop_playing(&self, rt: &impl Wait) -> SentFrames {
         let Some(playing) = self.playing.lock(rt).take() else {
             return SentFrames::none();
@@ -136,13 +136,13 @@ impl<T: Lend + Leave + Drop, W: Sink + Drop, H: HangUp + Drop> SharedPlayer<T, W
         mem::replace(&mut *self.tap.lock(rt), TapPlace::Nowhere)
     }
 
-    /// Leaves the tap where its mount has ended.
+    /// Leaves the tap of a mount that has ended.
     fn leave(&self, rt: &impl Wait) {
         self.tap.lock(rt).leave();
     }
 
-    /// Sends what the tap gives until it is told to stop, the mount has ended or the connection fails, and says how that
-    /// came.
+    /// Sends what the tap gives until a stop is requested, the mount has ended or the connection fails. Returns how the frames
+    /// ended.
     pub(crate) fn send<R: Wait + Clock>(
         &self,
         rt: &R,
@@ -175,8 +175,9 @@ impl<T: Lend + Leave + Drop, W: Sink + Drop, H: HangUp + Drop> SharedPlayer<T, W
         SentFrames { end, handover }
     }
 
-    /// Hangs up where the frames ended by themselves, so that the thread that reads sees it. At the end of the mount the
-    /// connection stays, or is told the end and hung up `after_end`; a stop ends that wait.
+    /// Disconnects the player if the frames ended by themselves, so that the thread that reads sees it. At the end of the mount
+    /// the connection stays open if `after_end` is `None`. Else the end of the stream is sent, and the player is disconnected
+    /// after that time; a stop ends the wait.
     fn end_connection<R: Wait + Clock>(&self, rt: &R, end: FrameEnd, after_end: Option<Duration>) {
         if end == FrameEnd::Ended {
             let Some(most) = after_end else {
@@ -218,7 +219,7 @@ impl<T: Lend + Leave + Drop, W: Sink + Drop, H: HangUp + Drop> SharedPlayer<T, W
         let seat = sending.seat;
         let mut known = KnownLevel::new();
         for _ in rt.forever() {
-            // Read before the tap is looked at, so that no wake is missed.
+            // Read before the look at the tap, so that no wake-up is missed.
             let wakes = signal.wakes();
             if !self.phase.is_running(rt) {
                 return FrameEnd::Stopped;
@@ -251,15 +252,15 @@ impl<T: Lend + Leave + Drop, W: Sink + Drop, H: HangUp + Drop> SharedPlayer<T, W
 }
 
 impl<T: Tap + Leave + Drop, W: TrySink + Drop, H: HangUp + Drop> SharedPlayer<T, W, H> {
-    /// A writer looks at the player of this number; at another one, which came since, it doesn't. While the thread that reads puts
-    /// it in or takes it out, it is looked at again after a moment.
+    /// Makes a writer's look at the player of this number, and none at another one that came since. While the thread that reads
+    /// puts the player in or takes it out, the look is retried after a moment.
     pub(crate) fn look(
         &self,
         rt: &impl Wait,
         number: u64,
         buf: &mut Vec<u8>,
         now: u64,
-        most: u64,
+        waits: Waits,
     ) -> Next {
         let Some(mut playing) = self.playing.try_lock() else {
             return Next::Later(1);
@@ -267,7 +268,7 @@ impl<T: Tap + Leave + Drop, W: TrySink + Drop, H: HangUp + Drop> SharedPlayer<T,
         match &mut *playing {
             Some(playing) => {
                 if playing.number() == number {
-                    playing.look(rt, &self.writing, &self.wire, buf, now, most)
+                    playing.look(rt, &self.writing, &self.wire, buf, now, waits)
                 } else {
                     Next::Sleep
                 }
@@ -277,29 +278,29 @@ impl<T: Tap + Leave + Drop, W: TrySink + Drop, H: HangUp + Drop> SharedPlayer<T,
     }
 }
 
-/// What a frame thread is told.
+/// What a frame thread is given.
 #[derive(Drop)]
 pub(crate) struct Sending {
     signal: Arc<MountSignal, Global>,
     seat: usize,
     channels: TrackChannels,
-    /// For how long the connection may stay once its mount has ended. `None` for good.
+    /// For how long the connection may stay open after its mount has ended. `None` for ever.
     after_end: Option<Duration>,
     /// Whether packets are written from where they lie in the ring.
     is_direct: bool,
 }
 
-/// Who sends the frames of a seat.
+/// What sends the frames of a seat.
 #[derive(Drop)]
 enum Sender {
-    /// Nobody yet.
+    /// Nothing yet.
     Nobody,
     Thread(JoinHandle<SentFrames>),
     /// The writer with which it has this place.
     Writer(Place),
 }
 
-/// A seat that a connection is attached to, and who sends what it takes.
+/// A seat that a connection is attached to, and what sends the packets that it takes.
 pub struct Frames {
     mount: u64,
     seat: usize,
@@ -329,8 +330,8 @@ impl Frames {
         }
     }
 
-    /// Starts a thread of its own, which may fail where there is no memory or no thread. It writes packets from where they lie
-    /// in the ring where `is_direct` says so.
+    /// Starts a thread of its own, which may fail if there is no memory or no thread. If `is_direct`, it writes packets from
+    /// where they lie in the ring.
     pub fn start<R, T, W, H>(
         &mut self,
         rt: R,
@@ -374,23 +375,23 @@ impl Frames {
         H: HangUp + Drop,
     {
         let signal = Arc::try_clone(&self.signal)?;
-        // The player before its place in the list: a writer that finds the place finds the player.
+        // The player is put in before its place in the list: a writer that finds the place finds the player.
         let number = player.play(rt, signal, self.seat, channels, after_end);
         self.sender = Sender::Writer(writers.add(rt, player, number)?);
         Ok(())
     }
 
-    /// Whether a thread was started that isn't joined.
+    /// Returns whether a thread was started that isn't joined.
     pub fn has_thread(&self) -> bool {
         matches!(self.sender, Sender::Thread(_))
     }
 
-    /// Which seat it is.
+    /// Returns which seat it is.
     pub fn seat(&self) -> usize {
         self.seat
     }
 
-    /// The number of the mount, the seat and what tells of its packets.
+    /// Returns the number of the mount, the seat and the signal of its packets.
     pub fn into_seat(self) -> (u64, usize, Arc<MountSignal, Global>) {
         let Frames {
             mount,
@@ -401,7 +402,8 @@ impl Frames {
         (mount, seat, signal)
     }
 
-    /// Takes the seat from who sends its frames, waits for the end of its thread or its writer's look, and says how they ended.
+    /// Takes the seat from the thread or writer that sends its frames, waits for the end of the thread or of the writer's look,
+    /// and returns how the frames ended.
     pub fn join<R, T, W, H>(
         &mut self,
         rt: &R,
@@ -422,7 +424,7 @@ impl Frames {
                 }
                 player.stop_playing(rt)
             }
-            // Without a sender the player may have been put in in vain.
+            // Without a sender, a player may still have been put in.
             Sender::Nobody => player.stop_playing(rt),
         }
     }

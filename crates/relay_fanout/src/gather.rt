@@ -9,15 +9,15 @@ use player::{OutReport, OutStop, relay_out, relay_out_held};
 use relay_accounts::Handover;
 use transport_header::TrackChannels;
 
-/// The sink of a connection: a buffer, and behind it the socket, whose bytes are counted.
+/// The sink of a connection: a buffer, and after it the socket, whose bytes are counted.
 pub(crate) type Line<W> = Gathering<Counted<W>>;
 
-/// The place in the connection's bytes behind what was written to it so far.
+/// Returns the place in the connection's bytes after what was written to it so far.
 fn place_of<W: Sink + Drop>(line: &Line<W>) -> u64 {
     line.inner().taken().saturating_add(line.len() as u64)
 }
 
-/// Notes what one take came to.
+/// Notes the report of one take.
 fn note<W: Sink + Drop>(handover: &mut Handover, report: &OutReport, line: &Line<W>) {
     handover.skip(report.skipped);
     if report.sent > 0 {
@@ -25,8 +25,8 @@ fn note<W: Sink + Drop>(handover: &mut Handover, report: &OutReport, line: &Line
     }
 }
 
-/// Makes up to sixteen takes, fewer where that is as much as leaves in one write, and says why no more came. For a writer a
-/// frame has room after what is gathered, so none is written with waiting.
+/// Makes up to sixteen takes, fewer if that fills one write (`GATHERED` bytes), and returns why no more came. For a writer, a
+/// frame has room after what is gathered, so no write waits.
 pub(crate) fn gather<T: Tap, W: Sink + Drop>(
     tap: &mut T,
     line: &mut Line<W>,
@@ -52,8 +52,8 @@ pub(crate) fn gather<T: Tap, W: Sink + Drop>(
     OutStop::Done
 }
 
-/// Makes up to sixteen takes, whose packets are written from where they lie in the ring: one that finds the buffer full waits there
-/// until the socket takes more.
+/// Makes up to sixteen takes, whose packets are written from where they lie in the ring. A packet that finds the buffer full
+/// waits there until the socket takes more.
 pub(crate) fn gather_held<T: Lend, W: Sink + Drop>(
     tap: &mut T,
     line: &mut Line<W>,
@@ -74,7 +74,7 @@ pub(crate) fn gather_held<T: Lend, W: Sink + Drop>(
     OutStop::Done
 }
 
-/// Where nothing waits any more, all frames before this batch were taken.
+/// Begins a batch. If nothing waits any more, all frames before it were taken.
 fn begin<W: Sink + Drop>(line: &Line<W>, handover: &mut Handover) {
     if line.len() == 0 {
         handover.pass();

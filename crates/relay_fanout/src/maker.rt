@@ -7,7 +7,7 @@ use packet_ring::{Pass, Publisher, Subscriber};
 use std::alloc::{AllocError, Global};
 use std::sync::Arc;
 
-/// A tap that can be left for good: nobody takes its seat again.
+/// A tap that can be left for ever: its seat isn't taken again.
 pub trait Leave {
     /// Leaves the seat, with its account. What the tap was a part of may go with it.
     fn leave_for_good(self) -> Left;
@@ -20,7 +20,7 @@ impl Leave for Subscriber {
     }
 }
 
-/// Makes what the packets of a mount go through, from its publisher to its players.
+/// Makes the feed and the passes of a mount, which its packets go through from its publisher to its players.
 pub trait Maker {
     type In: Feed + Drop + Send;
 
@@ -37,16 +37,16 @@ pub trait Maker {
     /// Detaches it again.
     fn detach(&self, out: Self::Out) -> (Self::Pass, Left);
 
-    /// How many packets are kept for a player that is behind.
+    /// Returns how many packets are kept for a player that is behind.
     fn keep(&self) -> u64;
 
-    /// How many bytes the longest packet has.
+    /// Returns how many bytes the longest packet has.
     fn packet_bytes(&self) -> usize;
 
-    /// How many of the kept packets come out of a tap that is attached, before those that are published from then on.
+    /// Returns how many of the kept packets come out of a tap that is attached, before those that are published from then on.
     fn back(&self) -> u64;
 
-    /// Whether a frame thread writes packets from where they lie in the ring.
+    /// Returns whether a frame thread writes packets from where they lie in the ring.
     fn is_direct(&self) -> bool {
         false
     }
@@ -66,7 +66,7 @@ pub struct RingMaker {
 }
 
 impl RingMaker {
-    /// Rings that keep so many packets of at most so many bytes, with so many seats.
+    /// Makes rings that keep `keep` packets of at most `packet_bytes` bytes, with `seats` seats.
     pub fn new(keep: usize, seats: usize, packet_bytes: usize) -> RingMaker
         requires keep { (1 ≤ keep) × (keep ≤ 4095) }
         requires seats { seats ≤ 1024 }
@@ -81,7 +81,7 @@ impl RingMaker {
         }
     }
 
-    /// The same, where a seat that is attached is given so many of the kept packets.
+    /// The same, with the last `back` kept packets for a seat that is attached.
     pub fn going_back(self, back: u64) -> RingMaker {
         RingMaker {
             keep: self.keep,
@@ -92,7 +92,7 @@ impl RingMaker {
         }
     }
 
-    /// The same, where frame threads write packets from where they lie in the ring, or don't.
+    /// The same, with `is_direct`: whether frame threads write packets from where they lie in the ring.
     pub fn lending(self, is_direct: bool) -> RingMaker {
         RingMaker {
             keep: self.keep,
@@ -140,7 +140,7 @@ impl Maker for RingMaker {
     }
 }
 
-/// A pass together with what tells of its mount's packets: so a player has both from the book.
+/// A pass together with the signal of its mount's packets: a player has both from the book.
 #[derive(Drop)]
 pub struct Seat<P> {
     pub pass: P,
@@ -148,7 +148,7 @@ pub struct Seat<P> {
 }
 
 impl<P: Drop> Seat<P> {
-    /// A seat for each pass.
+    /// Returns a seat for each pass.
     pub fn of(
         alloc: Global,
         passes: Vec<P>,

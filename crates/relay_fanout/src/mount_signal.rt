@@ -1,4 +1,4 @@
-//! What tells the players of a mount that there are packets.
+//! The signal that wakes the players of a mount when there are packets.
 ghost use Rattle.std.specs.Prelude.{◌≡◌, ◌%◌, ◌^◌};
 
 use crate::pace::{KnownLevel, Pace};
@@ -14,7 +14,7 @@ use std::sync::{Arc, Mutex, Wait};
 use transport_header::{MOST_TRACKS, Point};
 use waking::{NO_MARKS, are_marks, next_word};
 
-/// Where a player stands: how many packets it was sent and told lost, and the number of the next one.
+/// A player's position: how many packets it was sent, how many were reported lost to it, and the number of the next one.
 #[derive(Clone, Copy, Drop)]
 pub(crate) struct Stand {
     pub(crate) cursor: u64,
@@ -22,17 +22,17 @@ pub(crate) struct Stand {
     pub(crate) lost: u64,
 }
 
-/// What a player has come to in its seat, in packets.
+/// The figures of a player in its seat, in packets.
 #[derive(Clone, Copy, Debug, PartialEq, Eq, Drop)]
 pub struct PlayerFigures {
     pub sent: u64,
     /// How many it has lost at least.
     pub lost: u64,
-    /// How many were published and not taken for it yet.
+    /// How many were published and aren't taken for it yet.
     pub behind: u64,
 }
 
-/// What the publisher of a mount and its players share beside the ring: where each track stands, and the word that
+/// What the publisher of a mount and its players share beside the ring: the point of each track, and the word that
 /// players sleep on while there is nothing to take.
 ///
 /// Any thread of the server may use it. The points' lock is held for a copy of them or a change of one.
@@ -44,7 +44,7 @@ pub struct MountSignal {
     wakes: AtomicU64,
     /// Whether no packet comes any more.
     ended: AtomicBool,
-    /// Who keeps up with the publisher.
+    /// Which players keep up with the publisher.
     pub(crate) pace: Pace,
     pub(crate) tallies: Tallies,
     wake_signal: Arc<WakeSignal, Global>,
@@ -65,7 +65,7 @@ impl Drop for MountSignal {
 }
 
 impl MountSignal {
-    /// Of a mount with so many seats, in the server that this wake signal is of.
+    /// The signal of a mount with `seats` seats, in the server of this wake signal.
     pub fn new(
         alloc: Global,
         seats: usize,
@@ -82,7 +82,7 @@ impl MountSignal {
         })
     }
 
-    /// The last packet of a track stands here.
+    /// Sets the point of a track to that of its last packet.
     pub(crate) fn post(&self, rt: &impl Wait, track: usize, point: Point) {
         let mut points = self.points.lock(rt);
         if let Some(place) = points.get_mut(track) {
@@ -90,7 +90,7 @@ impl MountSignal {
         }
     }
 
-    /// Where each track stands.
+    /// Returns the point of each track.
     pub(crate) fn points(
         &self,
         rt: &impl Wait,
@@ -100,7 +100,7 @@ impl MountSignal {
         Ok(Items::new(Vec::from_slice(alloc, points.as_slice())?))
     }
 
-    /// A packet came. The players aren't woken yet. Tells when as many have come as leave at once.
+    /// Notes that a packet came. Doesn't wake the players. Returns true when a full batch (16 packets) is waiting.
     ///
     /// Called once the packet can be taken, and before the waking thread is notified.
     pub(crate) fn mark(&self) -> bool {
@@ -112,7 +112,7 @@ impl MountSignal {
         before == Ok(TAKES - 1)
     }
 
-    /// Wakes the players if packets came since they were last woken, but for those that a writer has. Says whether any came.
+    /// Wakes the players if packets came since they were last woken, except those that a writer has. Returns whether any came.
     pub(crate) fn wake_if_marked(&self) -> bool {
         let is_marked = are_marks(self.news.swap(NO_MARKS, Ordering::SeqCst));
         if is_marked {
@@ -127,25 +127,25 @@ impl MountSignal {
         self.tallies.set_player(seat, 0, 0);
     }
 
-    /// A player stands so, and may have more to take.
+    /// A player is at this position, and may have more to take.
     pub(crate) fn reach(&self, rt: &impl Wait, seat: usize, stand: Stand, known: &mut KnownLevel) {
         self.pace.reach(rt, seat, stand.cursor, known);
         self.tallies.set_player(seat, stand.sent, stand.lost);
     }
 
-    /// A player stands so, and had nothing more to take.
+    /// A player is at this position, and had nothing more to take.
     pub(crate) fn level(&self, rt: &impl Wait, seat: usize, stand: Stand, known: &mut KnownLevel) {
         self.pace.level(rt, seat, stand.cursor, known);
         self.tallies.set_player(seat, stand.sent, stand.lost);
     }
 
-    /// A player stands so, and nothing more comes.
+    /// A player is at this position, and nothing more comes.
     pub(crate) fn stand(&self, seat: usize, stand: Stand) {
         self.pace.stand(seat, stand.cursor);
         self.tallies.set_player(seat, stand.sent, stand.lost);
     }
 
-    /// A frame with so many bytes of data came from the publisher at this moment, in milliseconds, and met this fate.
+    /// Counts a frame of the publisher with `bytes` bytes of data that came at this moment, in milliseconds, and met this fate.
     pub fn note(&self, rt: &impl Wait, fate: Fate, bytes: usize, now: u64) {
         self.tallies.add(rt, fate, bytes, now);
     }
@@ -155,18 +155,19 @@ impl MountSignal {
         self.tallies.begin(rt, now);
     }
 
-    /// What became of the frames that came to the mount.
+    /// Returns what became of the frames that came to the mount.
     pub fn tally(&self, rt: &impl Wait) -> MountTally {
         self.tallies.of_mount(rt)
     }
 
-    /// The moment of its last packet, or of its first RECORD where none came, in milliseconds.
+    /// Returns the moment of its last packet, or of its first RECORD if no packet came, in milliseconds.
     pub fn last_packet(&self, rt: &impl Wait) -> u64 {
         self.tallies.last(rt)
     }
 
-    /// What the player in a seat has come to, of a ring that keeps so many packets. It has lost at least what it was told, and of
-    /// the packets behind its cursor those that aren't kept any more: its next sixteen takes may have been made and not told yet.
+    /// Returns the figures of the player in a seat, of a ring that keeps `keep` packets. It has lost at least what was reported
+    /// lost, and of the packets after its cursor those that aren't kept any more. Its next sixteen takes may have been made and
+    /// not reported yet.
     pub fn player(&self, rt: &impl Wait, seat: usize, keep: u64) -> PlayerFigures {
         // In this order, each before what is written first: none counts as lost twice.
         let published = self.tally(rt).packets;
@@ -189,12 +190,12 @@ impl MountSignal {
         self.ended.load(Ordering::SeqCst)
     }
 
-    /// Wakes the players of the mount, to whatever came.
+    /// Wakes the players of the mount, whatever came.
     pub fn wake(&self) {
-        // The marks first: one that is made after this is told by who made it.
+        // The marks first: for a mark that is made after this, the thread that makes it notifies.
         self.news.store(NO_MARKS, Ordering::SeqCst);
         self.wake_threads();
-        // After the wake-up is counted, which a writer that reads the word as it is now sees.
+        // After the wake-up is counted: a writer that reads the word from here on sees it.
         self.wake_signal.writers.raise();
     }
 
@@ -208,7 +209,7 @@ impl MountSignal {
         self.wakes.wake_all();
     }
 
-    /// How often the players were woken: read before a look at the ring, it lets no wake be missed.
+    /// Returns how often the players were woken. If it is read before a look at the ring, no wake-up is missed.
     pub(crate) fn wakes(&self) -> u64 {
         self.wakes.load(Ordering::SeqCst)
     }

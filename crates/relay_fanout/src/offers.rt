@@ -1,4 +1,4 @@
-//! What ANNOUNCEs offer, and no mount has used yet.
+//! The offers of ANNOUNCE requests that no mount has used yet.
 use crate::maker::{Maker, Seat};
 use crate::mount_signal::MountSignal;
 use crate::wake_signal::WakeSignal;
@@ -6,17 +6,17 @@ use std::alloc::{AllocError, Global};
 use std::sync::{Arc, Condvar, CondvarTimeouts, Mutex, Wait};
 use std::time::{Clock, Duration};
 
-/// How many offers may stand in no mount.
+/// How many offers may be unused.
 const MOST: usize = 4;
 
-/// For how many milliseconds one is waited for.
+/// How long an ANNOUNCE waits for an offer, in milliseconds.
 const WAIT: u64 = 2_000;
 
-/// As many offers stand in no mount as may.
+/// The limit of unused offers is reached.
 #[derive(Debug, Drop)]
 pub struct Busy;
 
-/// What an ANNOUNCE offers: what its mount's packets would go through, with a seat for each pass.
+/// What an ANNOUNCE offers: the feed and the signal of its mount, with a seat for each pass.
 #[derive(Drop)]
 pub struct Offer<M: Maker> {
     pub feed: M::In,
@@ -25,7 +25,7 @@ pub struct Offer<M: Maker> {
 }
 
 impl<M: Maker> Offer<M> {
-    /// A new one, which takes the memory of a mount.
+    /// Makes a new one, which takes the memory of a mount.
     pub fn make(
         alloc: Global,
         maker: &M,
@@ -43,10 +43,10 @@ impl<M: Maker> Offer<M> {
     }
 }
 
-/// The offers of a server that stand in no mount, at most four: one is kept for the next ANNOUNCE, whoever sends it, and the
-/// others are being made or judged. Nobody has used what comes back of one that was refused.
+/// The unused offers of a server, at most four: one is kept for the next ANNOUNCE, whichever client sends it, and the others
+/// are being made or judged. What comes back of a refused offer was never used.
 ///
-/// The lock is held for a change of who has one; no other is taken meanwhile, and no offer is made or dropped.
+/// The lock is held while an offer changes hands; no other is taken meanwhile, and no offer is made or dropped.
 pub struct Offers<M: Maker> {
     standing: Mutex<Standing<M>>,
     changed: Condvar,
@@ -84,7 +84,7 @@ impl<M: Maker> Offers<M> {
         }
     }
 
-    /// Takes the one that is kept. `None` where none is: then the caller may make one. Waits while four stand in no mount and none
+    /// Takes the one that is kept. `None` if none is kept: then the caller may make one. Waits while four are unused and none
     /// of them is kept, for two seconds at most.
     pub fn take<R: Wait + Clock>(&self, rt: &R) -> Result<Option<Offer<M>>, Busy> {
         let most = Duration::from_millis(WAIT);
@@ -103,7 +103,7 @@ impl<M: Maker> Offers<M> {
         Ok(None)
     }
 
-    /// One comes back that opened no mount. It is kept where none is, and else dropped.
+    /// Takes back an offer that opened no mount. It is kept if none is kept, else dropped.
     pub fn put(&self, rt: &impl Wait, offer: Offer<M>) {
         let mut standing = self.standing.lock(rt);
         if standing.kept.is_none() {
@@ -117,7 +117,7 @@ impl<M: Maker> Offers<M> {
         self.leave(rt);
     }
 
-    /// One stands in a mount now, or couldn't be made.
+    /// Counts one unused offer less: a mount uses it now, or it couldn't be made.
     pub fn leave(&self, rt: &impl Wait) {
         let mut standing = self.standing.lock(rt);
         standing.count = standing.count.saturating_sub(1);

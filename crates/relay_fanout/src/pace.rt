@@ -1,4 +1,4 @@
-//! How a publisher is slowed to the players that keep up.
+//! How a publisher is slowed to the pace of the players that keep up.
 use pacing::Round;
 use std::alloc::{AllocError, Global};
 use std::sync::atomic::{AtomicU64, Ordering};
@@ -7,10 +7,12 @@ use std::time::{Clock, Duration};
 
 /// The players of a mount as their publisher sees them, and what it waits on.
 ///
-/// A player's thread, or its writer, writes its cursor after each of its writes, and changes its own standing only where it isn't known to
-/// keep up or a round was opened since. The publisher's thread opens a round, wakes the players, and sleeps until the last that
-/// it waits for has taken as many as the round asks for, or left. The lock is held for a look at each seat or a change of one;
-/// it may be taken under the lock of a frame thread's tap or of a writer's player and its writing side, and no other is taken meanwhile.
+/// A player's thread, or its writer, stores its cursor after each of its writes. It changes its own standing only if it isn't
+/// known to keep up or a round was opened since. The publisher's thread opens a round, wakes the players, and sleeps until
+/// the last that it waits for has taken as many as the round asks for, or left.
+///
+/// The lock is held for a look at each seat or a change of one. It may be taken under the lock of a frame thread's tap, or of
+/// a writer's player and its writing side, and no other is taken meanwhile.
 pub(crate) struct Pace {
     round: Mutex<Round>,
     over: Condvar,
@@ -39,14 +41,19 @@ impl Drop for Pace {
 pub(crate) struct KnownLevel(Option<u64>);
 
 impl KnownLevel {
-    /// A player that comes isn't known to keep up.
+    /// Whether it was level since it came, or came back: a publisher may wait for it.
+    pub(crate) fn was_level(self) -> bool {
+        self.0.is_some()
+    }
+
+    /// The state of a new player, which isn't known to keep up.
     pub(crate) fn new() -> KnownLevel {
         KnownLevel(None)
     }
 }
 
 impl Pace {
-    /// Nobody has any of so many seats.
+    /// The pace of a mount with `seats` seats, none of which is taken.
     pub(crate) fn new(alloc: Global, seats: usize) -> Result<Pace, AllocError> {
         let mut cursors = Vec::with_capacity(alloc, seats)?;
         for _ in 0..seats {
@@ -61,14 +68,14 @@ impl Pace {
         })
     }
 
-    /// The player in a seat stands at this cursor.
+    /// Stores the cursor of the player in a seat.
     pub(crate) fn stand(&self, seat: usize, cursor: u64) {
         if let Some(place) = self.cursors.get(seat) {
             place.store(cursor, Ordering::SeqCst);
         }
     }
 
-    /// The cursor of the player in a seat, as it was told last.
+    /// Returns the last stored cursor of the player in a seat.
     pub(crate) fn cursor(&self, seat: usize) -> u64 {
         match self.cursors.get(seat) {
             Some(place) => place.load(Ordering::SeqCst),
@@ -96,7 +103,7 @@ impl Pace {
         }
         let mut round = self.round.lock(rt);
         let was_last = round.level(seat, cursor);
-        // One that is awaited yet goes on telling how far it is.
+        // A player that is still awaited goes on reporting its cursor.
         if round.is_level(seat) {
             known.0 = Some(changes);
         }
@@ -120,20 +127,20 @@ impl Pace {
         self.tell(was_last);
     }
 
-    /// Writes where a player stands, and tells how often rounds were opened or players were given up.
+    /// Stores a player's cursor, and returns how often rounds were opened or players were given up.
     fn follow_me(&self, seat: usize, cursor: u64) -> u64 {
         self.stand(seat, cursor);
         self.changes.load(Ordering::SeqCst)
     }
 
-    /// How many packets the slowest of the players that keep up has taken, or `published`.
+    /// Returns how many packets the slowest of the players that keep up has taken, or `published`.
     pub(crate) fn slowest(&self, rt: &impl Wait, published: u64) -> u64 {
         let mut round = self.round.lock(rt);
         self.follow(&mut round);
         round.slowest(published)
     }
 
-    /// Opens a round in which so many packets are to be taken. Tells how many players are awaited.
+    /// Opens a round in which `target` packets are to be taken. Returns how many players are awaited.
     pub(crate) fn open(&self, rt: &impl Wait, target: u64) -> usize {
         let mut round = self.round.lock(rt);
         self.follow(&mut round);
@@ -143,7 +150,7 @@ impl Pace {
         awaited
     }
 
-    /// Sleeps until nobody is awaited, for at most so long. Tells how many players are awaited yet.
+    /// Sleeps until no player is awaited, for at most `most`. Returns how many players are still awaited.
     pub(crate) fn wait<R: Wait + Clock>(&self, rt: &R, most: Duration) -> usize {
         let (round, _) = self
             .over
@@ -153,21 +160,21 @@ impl Pace {
         round.awaited()
     }
 
-    /// Gives up who is awaited yet.
+    /// Gives up the players that are still awaited.
     pub(crate) fn give_up(&self, rt: &impl Wait) {
         if self.round.lock(rt).give_up() > 0 {
             self.changes.fetch_add(1, Ordering::SeqCst);
         }
     }
 
-    /// Looks how many packets each player that keeps up has taken.
+    /// Reads how many packets each player that keeps up has taken.
     fn follow(&self, round: &mut Round) {
         for (seat, cursor) in self.cursors.iter().enumerate() {
             round.follow(seat, cursor.load(Ordering::SeqCst));
         }
     }
 
-    /// Wakes the publisher where the last player that it waits for has taken all or left.
+    /// Wakes the publisher if the last player that it waits for has taken all or left.
     fn tell(&self, was_last: bool) {
         if was_last {
             self.over.notify_all();

@@ -3,7 +3,7 @@ use pacing::Pause;
 use std::thread;
 use std::time::{Clock, Duration, Instant};
 
-/// How many tries give way to other threads alone, which costs nothing where none waits for a processor.
+/// How many tries only yield to other threads, which costs nothing if none waits for a processor.
 const YIELDS: u32 = 4;
 
 /// How long each of the later pauses takes, in microseconds.
@@ -12,13 +12,13 @@ const PAUSE: u64 = 500;
 /// For how long the tries of one publish may pause, in milliseconds.
 const MOST: u64 = 20;
 
-/// Passes the time between the tries of a publish that was refused as pinned: a player's thread that was put off its
-/// processor in the middle of a copy gets on first, and then moments pass. Once 20 milliseconds have, it pauses no more, and
-/// the tries that are left follow at once. No lock is held meanwhile.
+/// Passes the time between the tries of a publish that was refused as pinned. The first pauses yield to a player's thread
+/// that was preempted in the middle of a copy, and the later ones sleep. After 20 milliseconds it pauses no more, and the
+/// tries that are left follow at once. No lock is held meanwhile.
 #[derive(Drop)]
 pub(crate) struct Pauses<R> {
     rt: R,
-    /// When the first pause of this publish began, where the clock can be read.
+    /// When the first pause of this publish began, if the clock can be read.
     began: Option<Instant>,
 }
 
@@ -29,7 +29,7 @@ impl<R> Pauses<R> {
 }
 
 impl<R: Clock> Pauses<R> {
-    /// Whether the tries of this publish may pause longer.
+    /// Returns whether the tries of this publish may pause longer.
     fn has_time(&self) -> bool {
         match (self.began, Instant::now(&self.rt)) {
             (Some(began), Ok(now)) => now.duration_since(began) < Duration::from_millis(MOST),

@@ -1,17 +1,17 @@
-//! How far the thread is that sends a connection's frames.
+//! The phase of the thread that sends a connection's frames.
 use std::sync::{Condvar, CondvarTimeouts, Mutex, Wait};
 use std::time::{Clock, Duration};
 
-/// How far a frame thread is.
+/// The phase of a frame thread.
 #[derive(Clone, Copy, Debug, PartialEq, Eq, Drop)]
 enum Phase {
     Running,
-    /// It was told to stop, and hasn't ended yet.
+    /// A stop was requested, and it hasn't ended yet.
     Stopping,
     Ended,
 }
 
-/// What the thread that reads a connection and the thread that sends its frames tell each other.
+/// How the thread that reads a connection and the thread that sends its frames signal each other.
 ///
 /// Its lock is held for a look or a change, and no other lock is taken meanwhile.
 #[derive(Drop)]
@@ -33,7 +33,7 @@ impl FramePhase {
         *self.phase.lock(rt) = Phase::Running;
     }
 
-    /// Tells the frame thread to stop. One that has ended stays so.
+    /// Requests the frame thread to stop. It has no effect on one that has ended.
     pub fn stop(&self, rt: &impl Wait) {
         let mut phase = self.phase.lock(rt);
         if *phase == Phase::Running {
@@ -49,12 +49,12 @@ impl FramePhase {
         self.changed.notify_all();
     }
 
-    /// Whether the frame thread may go on.
+    /// Returns whether the frame thread may go on.
     pub(crate) fn is_running(&self, rt: &impl Wait) -> bool {
         *self.phase.lock(rt) == Phase::Running
     }
 
-    /// Sleeps until the frame thread is told to stop, for at most so long. Says whether it was.
+    /// Sleeps until the frame thread is requested to stop, for at most `most`. Returns whether it was.
     pub(crate) fn wait_for_stop<R: Wait + Clock>(&self, rt: &R, most: Duration) -> bool {
         let (phase, _) = self
             .changed
@@ -64,7 +64,7 @@ impl FramePhase {
         *phase != Phase::Running
     }
 
-    /// Sleeps until the frame thread has ended, for at most so long. Says whether it has.
+    /// Sleeps until the frame thread has ended, for at most `most`. Returns whether it has.
     pub fn wait_for_end<R: Wait + Clock>(&self, rt: &R, most: Duration) -> bool {
         let (phase, _) = self
             .changed

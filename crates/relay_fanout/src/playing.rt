@@ -56,6 +56,15 @@ impl SentFrames {
     }
 }
 
+/// How long a writer waits for its players' peers, in milliseconds.
+#[derive(Clone, Copy, Debug, Drop)]
+pub struct Waits {
+    /// A peer that takes no byte for this time is disconnected. `None` leaves that to the system.
+    pub stall: Option<u64>,
+    /// The packets of a mount that has ended are kept for this time for a player that takes them slowly.
+    pub end: u64,
+}
+
 /// A player that takes from a seat: its writer looks at it, and the thread that reads its connection takes it out again.
 #[derive(Drop)]
 pub(crate) struct Playing<T> {
@@ -66,12 +75,13 @@ pub(crate) struct Playing<T> {
     signal: Arc<MountSignal, Global>,
     seat: usize,
     channels: TrackChannels,
-    /// For how many milliseconds the connection may stay once its mount has ended and all was sent. `None` for good.
+    /// For how many milliseconds the connection may stay after its mount has ended and all was sent. `None` for ever.
     after_end: Option<u64>,
     /// Whether it is to be looked at.
     attention: Attention,
     known: KnownLevel,
-    /// Whether its mount's pace knows of it. It doesn't while its socket takes nothing: no publisher waits for that.
+    /// Whether its mount's pace knows of it. It doesn't while its socket takes nothing, after 20 milliseconds if it kept up before: no
+    /// publisher waits for that.
     is_paced: bool,
     /// While bytes wait that its socket didn't take. Then it takes no packet.
     patience: Option<Patience>,
@@ -79,7 +89,7 @@ pub(crate) struct Playing<T> {
     ended_at: Option<u64>,
     /// How its frames ended.
     end: Option<FrameEnd>,
-    /// When the connection is hung up that was told the end of its stream.
+    /// When the connection is disconnected that was sent the end of its stream.
     hung_up_at: Option<u64>,
 }
 
@@ -116,7 +126,7 @@ impl<T> Playing<T> {
         self.number
     }
 
-    /// How its frames ended, and where the tap is: `Stopped` where they hadn't, or where the last of them weren't written.
+    /// How its frames ended, and where the tap is: `Stopped` if they hadn't, or if the last of them weren't written.
     pub(crate) fn stop(mut self, rt: &impl Wait) -> (SentFrames, TapPlace<T>) {
         self.leave_pace(rt);
         let end = match (self.end, &self.patience) {
@@ -140,7 +150,7 @@ impl<T> Playing<T> {
         !matches!(self.end, None | Some(FrameEnd::Ended))
     }
 
-    /// Whether its mount ended so many milliseconds ago.
+    /// Whether its mount ended this many milliseconds ago.
     fn is_late(&mut self, now: u64, most: u64) -> bool {
         if self.ended_at.is_none() && self.signal.has_ended() {
             self.ended_at = Some(now);
@@ -152,7 +162,7 @@ impl<T> Playing<T> {
 
 impl<T: Tap + Leave + Drop> Playing<T> {
     /// Sends what there is to send and the socket takes, without waiting for anything: the rest of an earlier look, and then
-    /// the frames of up to sixteen takes. Moments are in milliseconds; a peer that takes no byte for `most` of them has failed.
+    /// the frames of up to sixteen takes. Moments are in milliseconds.
     pub(crate) fn look<W: TrySink + Drop, H: HangUp>(
         &mut self,
         rt: &impl Wait,
@@ -160,7 +170,7 @@ impl<T: Tap + Leave + Drop> Playing<T> {
         wire: &H,
         buf: &mut Vec<u8>,
         now: u64,
-        most: u64,
+        waits: Waits,
     ) -> Next {
         // Read before the tap is looked at, so that a wake-up for what comes after the look isn't taken for seen.
         let wakes = self.signal.wakes();
@@ -168,7 +178,7 @@ impl<T: Tap + Leave + Drop> Playing<T> {
             return next;
         }
         let Some(mut sink) = writing.try_hold() else {
-            // Who has the writing side raises the writers' word once it has given it back.
+            // The thread that has the writing side raises the writers' word after it has given it back.
             self.attention.look_again();
             return Next::Sleep;
         };
@@ -181,8 +191,8 @@ impl<T: Tap + Leave + Drop> Playing<T> {
                 self.come_back(rt);
                 self.take(rt, &mut sink, buf, wakes)
             }
-            // Its packets aren't kept longer for who takes them so slowly.
-            (Ok(_), None) if self.is_late(now, most) => Some(FrameEnd::Ended),
+            // Its packets aren't kept longer for a player that takes them so slowly.
+            (Ok(_), None) if self.is_late(now, waits.end) => Some(FrameEnd::Ended),
             (Ok(_), end) => end,
         };
         let left = sink.len();
@@ -191,11 +201,13 @@ impl<T: Tap + Leave + Drop> Playing<T> {
         }
         drop(sink);
         self.finish(rt, end);
-        self.wait_for_peer(rt, left, moved, now, most);
+        if self.wait_for_peer(rt, left, moved, now, waits.stall) {
+            wire.note_stall();
+        }
         self.next(wire, now)
     }
 
-    /// What is next where there is nothing to do now. `None` where there is.
+    /// What is next if there is nothing to do now. `None` if there is.
     fn has_time(&self, wakes: u64, now: u64) -> Option<Next> {
         if self.attention.again {
             return None;
@@ -258,8 +270,8 @@ impl<T: Tap + Leave + Drop> Playing<T> {
         None
     }
 
-    /// Where its frames have ended, no publisher waits for it, and at its mount's end its tap is left, so that the mount's packets
-    /// go. What is written last may fail after that.
+    /// If its frames have ended, no publisher waits for it, and at its mount's end its tap is left, so that the mount's packets
+    /// are dropped. What is written last may fail after that.
     fn finish(&mut self, rt: &impl Wait, end: Option<FrameEnd>) {
         if end.is_none() {
             return;
@@ -281,29 +293,46 @@ impl<T: Tap + Leave + Drop> Playing<T> {
         }
     }
 
-    /// While bytes wait that the socket didn't take, the player is tried again after a while. Once it was tried in vain no
-    /// publisher waits for it: until then it may be one that reads, and whose socket was full for a moment.
-    fn wait_for_peer(&mut self, rt: &impl Wait, left: usize, moved: bool, now: u64, most: u64) {
+    /// While bytes wait that the socket didn't take, the player is tried again after a while. A player that kept up stays in its
+    /// mount's pace for 20 milliseconds after its socket took a byte: its network may only be slow to acknowledge. One that was
+    /// behind before leaves it after one try in vain. Returns whether the socket has taken none for so long that the player is
+    /// given up.
+    fn wait_for_peer(
+        &mut self,
+        rt: &impl Wait,
+        left: usize,
+        moved: bool,
+        now: u64,
+        most: Option<u64>,
+    ) -> bool {
         if left == 0 || self.has_failed() {
             self.patience = None;
-            return;
+            return false;
         }
-        match &mut self.patience {
-            Some(patience) if moved => *patience = Patience::new(now),
-            Some(patience) if patience.is_spent(now, most) => {
-                self.end = Some(FrameEnd::WriteFailed);
-                self.patience = None;
-            }
-            Some(patience) => {
-                patience.wait_on(now);
-                self.leave_pace(rt);
-            }
-            None => self.patience = Some(Patience::new(now)),
+        let Some(patience) = &mut self.patience else {
+            self.patience = Some(Patience::new(now));
+            self.attention.hold();
+            return false;
+        };
+        let is_awaited = self.known.was_level();
+        let is_spent = !moved && most.is_some_and(|most| patience.is_spent(now, most));
+        if moved {
+            *patience = Patience::new(now);
+        } else {
+            patience.wait_on(now, is_awaited);
+        }
+        if !moved && !(is_awaited && patience.is_recent(now)) {
+            self.leave_pace(rt);
+        }
+        if is_spent {
+            self.end = Some(FrameEnd::WriteFailed);
+            self.patience = None;
         }
         self.attention.hold();
+        is_spent
     }
 
-    /// Tells the peer the end of its stream, where it is to be hung up after it.
+    /// Sends the peer the end of its stream, if it is to be disconnected after it.
     fn tell_end(&mut self, wire: &impl HangUp, now: u64) {
         if let (Some(after_end), None) = (self.after_end, self.hung_up_at) {
             wire.close_writes();
@@ -312,7 +341,7 @@ impl<T: Tap + Leave + Drop> Playing<T> {
     }
 
     /// What is next after a look. A connection whose frames have failed, or that has stayed long enough after the end of its
-    /// stream, is hung up, so that the thread that reads sees it.
+    /// stream, is disconnected, so that the thread that reads sees it.
     fn next(&mut self, wire: &impl HangUp, now: u64) -> Next {
         if self.attention.again {
             return Next::Again;

@@ -1,4 +1,4 @@
-//! The feed of a mount, with what its players are told beside the packets.
+//! The feed of a mount, which also posts each track's point and wakes the players.
 ghost use Rattle.std.specs.Prelude.{◌≡◌, false};
 ghost use Rattle.pacing.specs.Insisting.{PublishesAtLast};
 
@@ -14,16 +14,16 @@ use std::marker::Model;
 use std::sync::{Arc, Wait};
 use std::time::{Clock, Duration, Instant};
 
-/// The shortest wait for players, in microseconds: in less none that keeps up could be expected to take all.
+/// The shortest wait for players, in microseconds. In less time, even a player that keeps up may not take all.
 const LEAST: u64 = 1_000;
 
-/// When it is looked how many players are awaited yet, in sixteenths of the time that may be waited.
+/// When the players that are still awaited are counted, in sixteenths of the time that the wait may take.
 const LOOKS: [u64; 4] = [8, 10, 12, 14];
 
-/// A feed that tells of each packet that it takes: where its track stands now, and that there is something to take. A
-/// publish that meets a player in the middle of a copy is tried again.
+/// A feed that posts, for each packet that it takes, the point of its track, and signals that there is something to take.
+/// A publish that meets a player in the middle of a copy is retried.
 ///
-/// A contract sees the feed that is tried again.
+/// Its model is the feed that is retried.
 #[derive(Drop)]
 pub struct Posting<R, F> {
     rt: R,
@@ -32,16 +32,17 @@ pub struct Posting<R, F> {
     wake_signal: Arc<WakeSignal, Global>,
     /// Whether the waking thread knows of the mount; else its players are woken at each packet.
     posted: bool,
-    /// After so many packets it is looked where the players are.
+    /// After how many packets the players' positions are read.
     stretch: u64,
-    /// So many packets the slowest of those that keep up may be behind before they are waited for, until it is half as many.
+    /// How many packets behind the slowest player that keeps up may be before it is waited for. The wait ends when it is half
+    /// that many behind.
     most: u64,
-    /// How many packets were published when it was last looked.
+    /// How many packets were published when the positions were last read.
     looked: u64,
     allowance: Allowance,
-    /// For how many microseconds it has waited in all.
+    /// For how many microseconds it has waited in total.
     waited: u64,
-    /// What moments are counted from, where the clock can be read.
+    /// The start that moments are counted from, if the clock can be read.
     began: Option<Instant>,
 }
 
@@ -54,7 +55,7 @@ impl<R, F> Model for Posting<R, F> {
 }
 
 impl<R: Clock + Copy + Drop, F: Drop> Posting<R, F> {
-    /// Over a feed that keeps so many packets for players that are behind.
+    /// A feed over one that keeps `keep` packets for players that are behind.
     pub fn new(
         rt: R,
         feed: F,
@@ -81,7 +82,7 @@ impl<R: Clock + Copy + Drop, F: Drop> Posting<R, F> {
 }
 
 impl<R: Clock + Drop, F: Feed> Posting<R, F> {
-    /// No packet comes any more. The players are woken to see it. Tells for how many milliseconds packets waited for them.
+    /// Ends the feed, and wakes the players to see it. Returns for how many milliseconds packets waited for them.
     pub fn end(self) -> u64 {
         let waited = self.waited / 1000;
         let Posting {
@@ -90,13 +91,13 @@ impl<R: Clock + Drop, F: Feed> Posting<R, F> {
             signal,
             ..
         } = self;
-        // The end into the ring before it is told: who is woken by it finds it there.
+        // The end goes into the ring before it is signalled: a player that is woken by it finds it there.
         feed.close();
         signal.end();
         waited
     }
 
-    /// What tells the players of the mount.
+    /// Returns the signal of the mount's players.
     pub fn signal(&self) -> &Arc<MountSignal, Global> {
         &self.signal
     }
@@ -106,7 +107,7 @@ impl<R: Clock + Drop, F: Feed> Posting<R, F> {
         self.posted
     }
 
-    /// The waking thread knows of the mount, or doesn't.
+    /// Sets whether the waking thread knows of the mount.
     pub fn set_posted(&mut self, posted: bool)
         ensures { self.new ≡ self.old }
     {
@@ -115,10 +116,10 @@ impl<R: Clock + Drop, F: Feed> Posting<R, F> {
 }
 
 impl<R: Wait + Clock + Drop, F> Posting<R, F> {
-    /// Wakes the players where one of those that keep up hasn't taken the last stretch, and waits for them where it is behind by
-    /// most of what the ring keeps: the rest of a burst waits in the publisher's socket meanwhile, and not in the ring, which
-    /// would lose it for them. Those that are behind as far at the end of what may be waited are waited for no more until they have
-    /// taken all.
+    /// Wakes the players if one of those that keep up hasn't taken the last stretch, and waits for them if it is behind by most
+    /// of what the ring keeps. The rest of a burst waits in the publisher's socket meanwhile, and not in the ring, which would
+    /// lose it for them. Players that are still that far behind when the wait's time is over aren't waited for again until they
+    /// have taken all.
     fn keep_pace(&mut self, published: u64)
         ensures { self.new ≡ self.old }
     {
@@ -136,9 +137,9 @@ impl<R: Wait + Clock + Drop, F> Posting<R, F> {
         }
     }
 
-    /// Wakes the players and waits until those that keep up have taken so many packets, for half as long as may be waited, and
-    /// then as long as some of them come to it: a player that reads nothing any more leaves the rest to those that do. Tells
-    /// whether there was anything to wait for.
+    /// Wakes the players and waits until those that keep up have taken `target` packets. It waits for half of the time that it
+    /// may take, and then while some of them get there: a player that stopped reading leaves the rest of the time to those that
+    /// read. Returns whether there was anything to wait for.
     fn give_way(&mut self, target: u64) -> bool
         ensures { self.new ≡ self.old }
     {
@@ -153,7 +154,7 @@ impl<R: Wait + Clock + Drop, F> Posting<R, F> {
         if awaited == 0 {
             return false;
         }
-        // After the opening, so that a player which looked before it doesn't sleep; what waking takes is waited, too.
+        // After the opening, so that a player that looked before it doesn't sleep. The time of waking counts as waited, too.
         self.signal.wake();
         self.wait_while_some_come(awaited, now, most);
         let then = self.now().unwrap_or(now.saturating_add(most));
@@ -163,8 +164,8 @@ impl<R: Wait + Clock + Drop, F> Posting<R, F> {
         true
     }
 
-    /// Waits for players, of whom so many were awaited when the wait began, until none is, or none has come between two looks.
-    /// Who is awaited yet is given up.
+    /// Waits for players, `awaited` of them when the wait began, until none is awaited, or none got there between two looks.
+    /// Players that are still awaited are given up.
     fn wait_while_some_come(&self, awaited: usize, began: u64, most: u64) {
         let mut awaited = awaited;
         for sixteenths in LOOKS {
@@ -179,7 +180,7 @@ impl<R: Wait + Clock + Drop, F> Posting<R, F> {
         self.signal.pace.give_up(&self.rt);
     }
 
-    /// How many microseconds have passed since the feed was made. `None` where the clock can't be read.
+    /// Returns how many microseconds have passed since the feed was made. `None` if the clock can't be read.
     fn now(&self) -> Option<u64> {
         let now = Instant::now(&self.rt).ok()?;
         u64::try_from(now.duration_since(self.began?).as_micros()).ok()

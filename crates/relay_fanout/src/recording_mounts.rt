@@ -5,7 +5,7 @@ use std::alloc::{AllocError, Global};
 use std::sync::{Arc, Mutex, Wait};
 use transport_header::Point;
 
-/// As many mounts may live at a time.
+/// How many mounts may exist at a time.
 const MOST_MOUNTS: usize = 64;
 
 /// A mount that is being recorded.
@@ -15,10 +15,10 @@ struct RecordingMount {
     signal: Arc<MountSignal, Global>,
 }
 
-/// The mounts that are being recorded, each with what tells of its packets.
+/// The mounts that are being recorded, each with the signal of its packets.
 ///
-/// Its lock is held for a walk over the mounts, and no other lock is taken meanwhile. The room for as many as may live is
-/// made beforehand.
+/// Its lock is held for a walk over the mounts, and no other lock is taken meanwhile. The room for the most mounts that may
+/// exist is allocated beforehand.
 pub struct RecordingMounts {
     mounts: Mutex<Vec<RecordingMount>>,
 }
@@ -38,7 +38,8 @@ impl RecordingMounts {
         })
     }
 
-    /// A mount is being recorded. Where memory is refused, its points aren't told and the waking thread doesn't wake its players.
+    /// Adds a mount that is being recorded. If memory is refused, its points aren't reported and the waking thread doesn't wake
+    /// its players.
     pub fn add(
         &self,
         rt: &impl Wait,
@@ -51,18 +52,18 @@ impl RecordingMounts {
         Ok(())
     }
 
-    /// A mount has ended.
+    /// Removes a mount that has ended.
     pub fn remove(&self, rt: &impl Wait, mount: u64) {
         let mut mounts = self.mounts.lock(rt);
         mounts.retain(|posted| posted.mount != mount);
     }
 
-    /// How many mounts are being recorded.
+    /// Returns how many mounts are being recorded.
     pub fn len(&self, rt: &impl Wait) -> usize {
         self.mounts.lock(rt).len()
     }
 
-    /// Where the tracks of a mount stand. Nothing is told of a mount that isn't recorded.
+    /// Returns the points of a mount's tracks. The list is empty if the mount isn't recorded.
     pub fn points(
         &self,
         rt: &impl Wait,
@@ -89,7 +90,7 @@ impl RecordingMounts {
         Ok(None)
     }
 
-    /// Wakes the players of each mount that packets came to, but for those that a writer has. Says whether there was one.
+    /// Wakes the players of each mount that packets came to, except those that a writer has. Returns whether there was one.
     pub(crate) fn wake_marked(&self, rt: &impl Wait) -> bool {
         let mounts = self.mounts.lock(rt);
         let mut is_any = false;

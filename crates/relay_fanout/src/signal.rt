@@ -21,23 +21,24 @@ impl Signal {
 
     /// Wakes all writers, so that each looks at its players.
     ///
-    /// Called once a look sees what there is to be seen: a wake-up was counted, a player came, or a marked writing side was given back.
+    /// Called after the change that a look is to see: a wake-up was counted, a player came, or a marked writing side was given
+    /// back.
     pub(crate) fn raise(&self) {
         let _ = self
             .raised
             .fetch_update(Ordering::SeqCst, Ordering::SeqCst, |word| {
                 Some(next_word(word))
             });
-        // After the change, so that who is about to sleep doesn't, and who sleeps is woken.
+        // After the change, so that a writer that is about to sleep doesn't, and one that sleeps is woken.
         self.raised.wake_all();
     }
 
-    /// How often it was raised: read before a look, it lets no wake be missed.
+    /// Returns how often it was raised. If it is read before a look, no wake-up is missed.
     pub(crate) fn raised(&self) -> u64 {
         self.raised.load(Ordering::SeqCst)
     }
 
-    /// Sleeps until it is raised once more than `raised` times, or for so many milliseconds. It may also return for no reason.
+    /// Sleeps until it is raised once more than `raised` times, or for `most` milliseconds. It may also return for no reason.
     pub(crate) fn sleep(&self, rt: &impl Wait, raised: u64, most: Option<u64>) {
         match most {
             None => self.raised.park(rt, low_half(raised)),

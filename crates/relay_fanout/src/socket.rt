@@ -1,10 +1,11 @@
 //! Sockets that several threads have.
 use interleaved::TryWrite;
 use libc::net;
+use relay_accounts::WireFailure;
 use std::alloc::{AllocError, Global};
 use std::io;
 use std::io::{ErrorKind, Read, Write};
-use std::net::{Shutdown, TcpListener, TcpStream};
+use std::net::{Shutdown, TcpStream};
 use std::os::fd::AsRawFd;
 use std::sync::Arc;
 use std::sync::atomic::{AtomicBool, Ordering};
@@ -18,12 +19,15 @@ pub trait HangUp {
     /// Nothing more is written: the peer reads what was written, and then the end. A write that waits returns.
     fn close_writes(&self);
 
-    /// A read or a write that begins from now on fails where it has waited for so many milliseconds, at least 1.
+    /// A read or a write that begins from now on fails once it has waited for this many milliseconds, at least 1.
     fn limit_waits(&self, wait: u64);
 
-    /// Whether a read or a write has failed by the peer's reset.
-    fn was_reset(&self) -> bool {
-        false
+    /// Notes that the peer takes no byte, for which it is about to be disconnected.
+    fn note_stall(&self) {}
+
+    /// How the system has ended the connection, if a read or a write has failed by that.
+    fn failure(&self) -> Option<WireFailure> {
+        None
     }
 }
 
@@ -44,11 +48,12 @@ impl HangUp for TcpStream {
     }
 }
 
-/// A socket, and whether its peer has reset it.
+/// A socket, and how the system has ended it.
 #[derive(Drop)]
 pub struct Wire {
     stream: TcpStream,
     was_reset: AtomicBool,
+    is_unacknowledged: AtomicBool,
 }
 
 impl Wire {
@@ -56,6 +61,7 @@ impl Wire {
         Wire {
             stream,
             was_reset: AtomicBool::new(false),
+            is_unacknowledged: AtomicBool::new(false),
         }
     }
 
@@ -63,7 +69,7 @@ impl Wire {
         &self.stream
     }
 
-    /// Notes a reset by which a read or a write failed.
+    /// Notes how the system has ended the connection, if a read or a write failed by that.
     fn note<T>(&self, moved: &io::Result<T>) {
         if let Err(error) = moved {
             self.note_error(error);
@@ -74,6 +80,30 @@ impl Wire {
         if is_reset(error) {
             self.was_reset.store(true, Ordering::SeqCst);
         }
+        if is_unanswered(error) {
+            self.note_stall();
+        }
+    }
+
+    /// Notes a write that failed, which one does that took no byte for as long as the socket says, too.
+    fn note_write(&self, written: &io::Result<usize>) {
+        match written {
+            Err(error) if error.kind() == ErrorKind::WouldBlock => self.note_stall(),
+            _ => self.note(written),
+        }
+    }
+
+    fn note_stall(&self) {
+        self.is_unacknowledged.store(true, Ordering::SeqCst);
+    }
+
+    /// What fails after the system has given the peer up fails as after a reset, so that comes second.
+    fn failure(&self) -> Option<WireFailure> {
+        if self.is_unacknowledged.load(Ordering::SeqCst) {
+            return Some(WireFailure::NoAcknowledgement);
+        }
+        let was_reset = self.was_reset.load(Ordering::SeqCst);
+        was_reset.then_some(WireFailure::Reset)
     }
 }
 
@@ -82,6 +112,15 @@ fn is_reset(error: &io::Error) -> bool {
     matches!(
         error.kind(),
         ErrorKind::ConnectionReset | ErrorKind::BrokenPipe
+    )
+}
+
+/// Whether a read or a write failed because the system has given the peer up, which acknowledges nothing. If its link is cut, the
+/// system may say that it can't be reached in place of how long it has waited.
+fn is_unanswered(error: &io::Error) -> bool {
+    matches!(
+        error.kind(),
+        ErrorKind::TimedOut | ErrorKind::HostUnreachable | ErrorKind::NetworkUnreachable
     )
 }
 
@@ -124,13 +163,13 @@ impl Write for Socket {
             match stream.write(buf) {
                 Err(error) if error.kind() == ErrorKind::Interrupted => {}
                 written => {
-                    self.wire.note(&written);
+                    self.wire.note_write(&written);
                     return written;
                 }
             }
         }
         let written = stream.write(buf);
-        self.wire.note(&written);
+        self.wire.note_write(&written);
         written
     }
 
@@ -152,8 +191,12 @@ impl HangUp for Socket {
         self.stream().limit_waits(wait);
     }
 
-    fn was_reset(&self) -> bool {
-        self.wire.was_reset.load(Ordering::SeqCst)
+    fn note_stall(&self) {
+        self.wire.note_stall();
+    }
+
+    fn failure(&self) -> Option<WireFailure> {
+        self.wire.failure()
     }
 }
 
@@ -173,31 +216,6 @@ impl TryWrite for Socket {
             }
         }
     }
-}
-
-/// Asks for a send buffer of so many bytes for each socket that this listener will accept, and tells how many of them the system
-/// grants (Linux: `net.core.wmem_max` at most). Linux makes it twice as long, for its own bookkeeping, most of which it doesn't
-/// need for large writes: so it may hold nearly twice as many bytes.
-pub fn set_send_buffer(listener: &TcpListener, bytes: u32) -> io::Result<u32> {
-    let fd = listener.as_raw_fd();
-    let mut value = [0; 16];
-    value[..4].copy_from_slice(&bytes.to_ne_bytes());
-    let set = unsafe { net::setsockopt(fd, net::SOL_SOCKET, net::SO_SNDBUF, &value, 4) };
-    if set != 0 {
-        return Err(io::Error::from_raw_os_error(os::errno()));
-    }
-    let mut len = 4;
-    let got = unsafe { net::getsockopt(fd, net::SOL_SOCKET, net::SO_SNDBUF, &mut value, &mut len) };
-    if got != 0 {
-        return Err(io::Error::from_raw_os_error(os::errno()));
-    }
-    let [a, b, c, d, ..] = value;
-    Ok(u32::from_ne_bytes([a, b, c, d]) / 2)
-}
-
-/// Ends the accepting of a listener, from any thread: an `accept` that waits returns with an error, and its port refuses peers.
-pub fn stop_listening(listener: &TcpListener) {
-    let _ = net::shutdown(listener.as_raw_fd(), net::SHUT_RDWR);
 }
 
 /// How often a write is tried that signals interrupt.

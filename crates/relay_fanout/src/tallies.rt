@@ -1,14 +1,14 @@
-//! What a mount has come to, for whoever looks at it meanwhile.
+//! The figures of a mount, for any thread that reads them meanwhile.
 use publisher::Fate;
 use relay_accounts::MountTally;
 use std::alloc::{AllocError, Global};
 use std::sync::atomic::{AtomicU64, Ordering};
 use std::sync::{Mutex, Wait};
 
-/// What a mount's publisher and the players in its seats have come to.
+/// The figures of a mount's publisher and of the players in its seats.
 ///
-/// The lock is held for a look or a change, and no other is taken meanwhile. Each number of a player is written by one thread at a
-/// time, and any thread may read it, by itself.
+/// The lock is held for a look or a change, and no other is taken meanwhile. Each number of a player is written by one
+/// thread at a time, and any thread may read it, by itself.
 pub(crate) struct Tallies {
     came: Mutex<Came>,
     players: Vec<PlayerTally>,
@@ -38,7 +38,7 @@ struct PlayerTally {
 }
 
 impl Tallies {
-    /// Of a mount with so many seats to which nothing came.
+    /// The figures of a mount with `seats` seats to which nothing came.
     pub(crate) fn new(alloc: Global, seats: usize) -> Result<Tallies, AllocError> {
         let mut players = Vec::with_capacity(alloc, seats)?;
         for _ in 0..seats {
@@ -56,7 +56,7 @@ impl Tallies {
         })
     }
 
-    /// A frame with so many bytes of data came at this moment and met this fate.
+    /// Counts a frame with `bytes` bytes of data that came at this moment and met this fate.
     pub(crate) fn add(&self, rt: &impl Wait, fate: Fate, bytes: usize, now: u64) {
         let mut came = self.came.lock(rt);
         came.tally.add(fate, bytes as u64);
@@ -70,22 +70,22 @@ impl Tallies {
         self.came.lock(rt).last = now;
     }
 
-    /// Packets have waited for players for so many milliseconds in all.
+    /// Sets for how many milliseconds in total packets have waited for players.
     pub(crate) fn set_slowed(&self, rt: &impl Wait, milliseconds: u64) {
         self.came.lock(rt).tally.slowed = milliseconds;
     }
 
-    /// What became of the frames that came to the mount.
+    /// Returns what became of the frames that came to the mount.
     pub(crate) fn of_mount(&self, rt: &impl Wait) -> MountTally {
         self.came.lock(rt).tally
     }
 
-    /// The moment of its last packet, or of its first RECORD where none came.
+    /// Returns the moment of its last packet, or of its first RECORD if no packet came.
     pub(crate) fn last(&self, rt: &impl Wait) -> u64 {
         self.came.lock(rt).last
     }
 
-    /// The player in a seat was sent so many packets, and told so many lost, in all.
+    /// Sets how many packets the player in a seat was sent, and how many were reported lost to it, in total.
     pub(crate) fn set_player(&self, seat: usize, sent: u64, lost: u64) {
         if let Some(player) = self.players.get(seat) {
             player.sent.store(sent, Ordering::SeqCst);
@@ -93,7 +93,7 @@ impl Tallies {
         }
     }
 
-    /// How many packets the player in a seat was sent.
+    /// Returns how many packets the player in a seat was sent.
     pub(crate) fn sent(&self, seat: usize) -> u64 {
         match self.players.get(seat) {
             Some(player) => player.sent.load(Ordering::SeqCst),
@@ -101,7 +101,7 @@ impl Tallies {
         }
     }
 
-    /// How many packets the player in a seat was told lost.
+    /// Returns how many packets were reported lost to the player in a seat.
     pub(crate) fn lost(&self, seat: usize) -> u64 {
         match self.players.get(seat) {
             Some(player) => player.lost.load(Ordering::SeqCst),

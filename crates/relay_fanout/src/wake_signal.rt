@@ -12,13 +12,13 @@ const QUIET: u64 = 0;
 /// Packets gather.
 const NOTIFIED: u64 = 1;
 
-/// A mount has gathered as many packets as leave at once.
+/// A mount has gathered a full batch (16 packets).
 const URGENT: u64 = 2;
 
-/// For how long packets gather yet where a mount has many, in milliseconds, so that the rest of a burst comes with them.
+/// For how long packets still gather if a mount has a full batch, in milliseconds, so that the rest of a burst comes with them.
 const BURST: u64 = 1;
 
-/// What a publisher notifies when it has published, and the waking thread sleeps on while nobody does.
+/// What a publisher notifies when it has published, and what the waking thread sleeps on while none does.
 #[derive(Drop)]
 pub struct WakeSignal {
     /// `QUIET`, `NOTIFIED` or `URGENT`.
@@ -29,7 +29,7 @@ pub struct WakeSignal {
 }
 
 impl WakeSignal {
-    /// Nobody has notified it.
+    /// It isn't notified yet.
     pub fn new() -> WakeSignal {
         WakeSignal {
             state: AtomicU64::new(QUIET),
@@ -38,7 +38,7 @@ impl WakeSignal {
         }
     }
 
-    /// Some mount was marked. Costs a load unless the waking thread sleeps.
+    /// Notifies that some mount was marked. Costs a load unless the waking thread sleeps.
     pub(crate) fn notify(&self) {
         if self.state.load(Ordering::SeqCst) == QUIET
             && self
@@ -50,7 +50,7 @@ impl WakeSignal {
         }
     }
 
-    /// Some mount was marked so often that its packets needn't gather longer.
+    /// Notifies that some mount has a full batch, which needn't gather longer.
     pub(crate) fn hurry(&self) {
         if self.state.swap(URGENT, Ordering::SeqCst) != URGENT {
             self.state.wake_one();
@@ -73,7 +73,7 @@ impl WakeSignal {
         }
     }
 
-    /// Lets packets gather for so long, or until a mount has many.
+    /// Lets packets gather for `time`, or until a mount has a full batch and the rest of its burst has come.
     fn gather<R: Wait + Clock>(&self, rt: &R, time: Duration) {
         if time.is_zero() {
             return;
@@ -88,10 +88,10 @@ impl WakeSignal {
 }
 
 /// Wakes the players of mounts that packets came to, until it is stopped. Packets gather before that, so that a burst
-/// is one wake-up and few writes for each player; where as many have gathered as leave at once, they gather no longer
-/// than the rest of their burst takes.
+/// is one wake-up and few writes for each player. If a full batch has gathered, they gather no longer than the rest of
+/// their burst takes.
 ///
-/// Runs on a thread of its own, and takes the lock of the recording mounts alone.
+/// Runs on a thread of its own, and takes only the lock of the recording mounts.
 pub fn wake_players<R: Wait + Clock>(
     rt: &R,
     wake_signal: &WakeSignal,
@@ -107,7 +107,7 @@ pub fn wake_players<R: Wait + Clock>(
             // After the wake-ups are counted, once for all mounts.
             wake_signal.writers.raise();
         }
-        // Looked at after the clearing: a stop before it is seen here, and one after it notifies.
+        // Read after the state is cleared: a stop before that is seen here, and one after it notifies.
         if wake_signal.stopped.load(Ordering::SeqCst) {
             return;
         }

@@ -14,7 +14,7 @@ pub enum Way {
 }
 
 impl Way {
-    /// For packets of at most so many bytes.
+    /// The way for packets of at most `packet_bytes` bytes.
     pub(crate) fn new(
         alloc: Global,
         is_direct: bool,

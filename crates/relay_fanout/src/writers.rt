@@ -3,6 +3,7 @@ ghost use Rattle.std.specs.Prelude.{◌≤◌};
 
 use crate::frames::SharedPlayer;
 use crate::maker::Leave;
+use crate::playing::Waits;
 use crate::socket::HangUp;
 use crate::wake_signal::WakeSignal;
 use cursor::Tap;
@@ -21,8 +22,7 @@ pub struct Writers<T, W: Sink, H> {
     lists: Vec<Mutex<List<T, W, H>>>,
     wake_signal: Arc<WakeSignal, Global>,
     stopped: AtomicBool,
-    /// For how many milliseconds a peer may take no byte while some wait for it.
-    most: u64,
+    waits: Waits,
 }
 
 impl<T: Drop, W: Sink + Drop, H: Drop> Drop for Writers<T, W, H> {
@@ -31,7 +31,7 @@ impl<T: Drop, W: Sink + Drop, H: Drop> Drop for Writers<T, W, H> {
             lists: _,
             wake_signal: _,
             stopped: _,
-            most: _,
+            waits: _,
         } = self;
     }
 }
@@ -80,12 +80,12 @@ impl<T: Drop, W: Sink + Drop, H: Drop> Drop for List<T, W, H> {
 }
 
 impl<T: Drop, W: Sink + Drop, H: Drop> Writers<T, W, H> {
-    /// So many writers, at least one, without players.
+    /// `count` writers, at least one, without players.
     pub fn new(
         alloc: Global,
         count: usize,
         wake_signal: Arc<WakeSignal, Global>,
-        most: u64,
+        waits: Waits,
     ) -> Result<Writers<T, W, H>, AllocError> {
         let mut lists = Vec::with_capacity(alloc, count)?;
         for _ in 0..count {
@@ -98,7 +98,7 @@ impl<T: Drop, W: Sink + Drop, H: Drop> Writers<T, W, H> {
             lists,
             wake_signal,
             stopped: AtomicBool::new(false),
-            most,
+            waits,
         })
     }
 
@@ -116,7 +116,7 @@ impl<T: Drop, W: Sink + Drop, H: Drop> Writers<T, W, H> {
         count
     }
 
-    /// Gives a connection's player of this number to the writer with the fewest, and wakes it. Says where it is.
+    /// Gives a connection's player of this number to the writer with the fewest, and wakes it. Returns its place.
     pub(crate) fn add(
         &self,
         rt: &impl Wait,
@@ -205,7 +205,7 @@ impl<T: Tap + Leave + Drop, W: TrySink + Drop, H: HangUp + Drop> Writers<T, W, H
         }
     }
 
-    /// Looks at each player once, and tells how often the list has changed after that. Where it has changed meanwhile, one that came,
+    /// Looks at each player once, and returns how often the list had changed after that. If it has changed meanwhile, one that came,
     /// or was moved by one that left, may have been passed over.
     fn look_at_all(
         &self,
@@ -228,7 +228,7 @@ impl<T: Tap + Leave + Drop, W: TrySink + Drop, H: HangUp + Drop> Writers<T, W, H
             else {
                 break;
             };
-            let next = shared.look(rt, number, buf, now, self.most);
+            let next = shared.look(rt, number, buf, now, self.waits);
             sweep.add(next);
             if next == Next::Over {
                 // It may have come anew meanwhile, which is another turn.
@@ -258,7 +258,7 @@ fn player_at<T, W: Sink, H>(
     })
 }
 
-/// How many milliseconds have passed since then. Where the clock can't be read each moment has come.
+/// How many milliseconds have passed since then. If the clock can't be read each moment has come.
 fn now<R: Clock>(rt: &R, began: Option<Instant>) -> u64 {
     match (began, Instant::now(rt)) {
         (Some(began), Ok(now)) => {

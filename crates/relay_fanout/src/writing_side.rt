@@ -15,18 +15,18 @@ use std::sync::atomic::{AtomicBool, Ordering};
 use std::sync::{Mutex, MutexGuard, Wait};
 use transport_header::TrackChannels;
 
-/// So many bytes of frames leave in one write, where there are so many.
+/// How many bytes of frames are gathered for one write, if there are that many.
 pub(crate) const GATHERED: usize = 32 * 1024;
 
 /// How many takes are made before a reply may be written between frames.
 pub(crate) const TAKES: u64 = 16;
 
 /// The sink of a connection. A reply, or the frames of up to sixteen takes, are written while its lock is held, so that
-/// each stays whole. Its lock may be held as long as the peer reads nothing. The only lock that is taken meanwhile is that of
+/// each stays whole. Its lock may be held while the peer reads nothing. The only lock that is taken meanwhile is that of
 /// the mount's pace, which is held for a few words.
 ///
-/// A writer, which waits for nothing, passes one whose lock is taken over, and marks it: who gives the lock back looks for
-/// the mark afterwards.
+/// A writer never waits. If the lock is taken, the writer skips the connection and marks it; the thread that gives the lock
+/// back checks the mark afterwards.
 #[derive(Drop)]
 pub struct WritingSide<W: Sink> {
     sink: Mutex<Line<W>>,
@@ -35,7 +35,8 @@ pub struct WritingSide<W: Sink> {
 }
 
 impl<W: Sink + Drop> WritingSide<W> {
-    /// For frames of at most so many bytes of data. Without memory for a buffer each frame is written by itself.
+    /// The writing side for frames of at most `longest` bytes of data. Without memory for a buffer each frame is written by
+    /// itself.
     pub fn new(alloc: Global, sink: W, longest: usize) -> WritingSide<W> {
         let room = longest.saturating_add(FRAME_HEAD).saturating_add(GATHERED);
         let (buffer, gathers) = match Vec::from_elem(alloc, 0, room) {
@@ -49,23 +50,24 @@ impl<W: Sink + Drop> WritingSide<W> {
         }
     }
 
-    /// Whether there is a buffer, without which no writer sends frames.
+    /// Returns whether there is a buffer, without which no writer sends frames.
     pub fn gathers(&self) -> bool {
         self.gathers
     }
 
-    /// The sink, where nobody has it. `None` marks it: who has the sink tells the writers when it gives it back.
+    /// Returns the sink, if no thread has it. Else marks it and returns `None`: the thread that has the sink wakes the writers
+    /// after it gives it back.
     pub(crate) fn try_hold(&self) -> Option<MutexGuard<'_, Line<W>>> {
         if let Some(sink) = self.sink.try_lock() {
             return Some(sink);
         }
         self.skipped.store(true, Ordering::SeqCst);
-        // Once more after the mark, so that who gave it back before doesn't keep it to itself.
+        // Once more after the mark: a thread that gave the sink back before the mark wakes no writer.
         self.sink.try_lock()
     }
 
-    /// Whether a writer has passed it over since it was last asked. Asked after the sink was given back, and by a swap, which no
-    /// processor makes before that is seen.
+    /// Returns whether a writer has skipped it since the last call. Called after the sink was given back; the swap isn't
+    /// reordered before that.
     pub(crate) fn was_skipped(&self) -> bool {
         self.skipped.swap(false, Ordering::SeqCst)
     }
@@ -79,18 +81,18 @@ impl<W: Sink + Drop> WritingSide<W> {
         sink.flush()
     }
 
-    /// How many bytes the socket has taken.
+    /// Returns how many bytes the socket has taken.
     pub fn taken(&self, rt: &impl Wait) -> u64 {
         self.sink.lock(rt).inner().taken()
     }
 
-    /// Tells the peer the end of its stream, after what is being written.
+    /// Sends the peer the end of its stream, after what is being written.
     pub(crate) fn close_writes(&self, rt: &impl Wait, wire: &impl HangUp) {
         let _sink = self.sink.lock(rt);
         wire.close_writes();
     }
 
-    /// Writes the frames of the next packets of a tap, and says why no more came.
+    /// Writes the frames of the next packets of a tap, and returns why no more came.
     pub(crate) fn relay<T: Lend>(
         &self,
         rt: &impl Wait,

@@ -24,10 +24,12 @@ fn main(rt: HostRuntime) -> anyhow::Result<ExitCode> {
     match read_words(alloc, words.as_slice()) {
         Ok(Asked::Talk(text)) => talk_on_standard_streams(&rt, text.as_deref()),
         Ok(Asked::Steps(stopped)) => steps_on_standard_streams(&rt, stopped),
-        Ok(Asked::Serve(addr, settings)) => match serve(rt, alloc, &addr, settings, rt.stdin()) {
-            Ok(()) => Ok(exit_code(0)),
-            Err(line) => Ok(fails(&rt, FAILED, line)),
-        },
+        Ok(Asked::Serve(addr, settings, origins)) => {
+            match serve(rt, alloc, &addr, settings, origins, rt.stdin()) {
+                Ok(()) => Ok(exit_code(0)),
+                Err(line) => Ok(fails(&rt, FAILED, line)),
+            }
+        }
         Ok(Asked::Nothing) => Ok(exit_code(COMMAND_LINE_FAULT)),
         Err(error) => {
             // The status tells it, wherever the text goes.
@@ -76,7 +78,7 @@ fn has_no_words(rt: &HostRuntime, why: NoWords) -> ExitCode {
     fails(rt, why.status(), why.line())
 }
 
-/// Runs a ring's schedule over the standard streams, behind which this actor stops, if one does.
+/// Runs a ring's schedule over the standard streams, after which this actor stops, if one does.
 fn steps_on_standard_streams(rt: &HostRuntime, stopped: Option<Actor>) -> anyhow::Result<ExitCode> {
     let reader = Reading::new(rt.stdin());
     let mut writer = Writing::new(rt.stdout());

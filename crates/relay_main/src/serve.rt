@@ -6,10 +6,10 @@ ghost use Rattle.relay_main.specs.Served.{milliseconds_of, told_to};
 use log::{Log, warn};
 use rand::make_rng;
 use rand::rngs::StdRng;
-use relay_command::{SendBuffer, Settings};
+use relay_command::{Origins, SendBuffer, Settings};
 use relay_server::{
-    ClockMoments, OpenGate, Options, RingMaker, Stopping, run_server, set_send_buffer, shared_book,
-    stop_listening,
+    Access, ClockMoments, OpenGate, Options, RingMaker, Stopping, limit_peers, run_server,
+    set_send_buffer, shared_book, stop_listening,
 };
 use relay_talk::{DrawnWords, NoWords};
 use std::alloc::{AllocError, Global};
@@ -22,7 +22,7 @@ use std::thread::Threads;
 use std::time::Clock;
 use std::{io, thread};
 
-/// How a server that can't go on is told of on standard error.
+/// The line on standard error of a server that can't go on.
 const CANNOT_LISTEN: &str = "relay: cannot listen";
 
 const OUT_OF_MEMORY: &str = "relay: out of memory";
@@ -30,13 +30,16 @@ const OUT_OF_MEMORY: &str = "relay: out of memory";
 /// With `--hang-up-ended`, for how many milliseconds a player may stay after the last packet of its mount.
 const AFTER_END: u64 = 10_000;
 
-/// For how many milliseconds a write to a peer that reads nothing may move no byte.
+/// For how many milliseconds a write may move no byte, if the system doesn't disconnect peers that acknowledge nothing.
 const WRITE_WAIT: u64 = 20_000;
 
-/// How often a silent peer is looked at, in milliseconds: its session ends so long after its time at most.
+/// For how many milliseconds after a mount's end its packets are kept for a player that takes them slowly.
+const END_WAIT: u64 = 20_000;
+
+/// After how many milliseconds of silence a peer is looked at: its session ends at most this much after its time.
 const READ_WAIT: u64 = 2_000;
 
-/// A writer for each processor that the process may use, as far as the system tells how many, and at most 64.
+/// A writer for each processor that the process may use, if the system says how many, and at most 64.
 fn one_a_processor(rt: &impl Threads) -> usize {
     match thread::available_parallelism(rt) {
         Ok(count) => count.get().min(64),
@@ -44,18 +47,21 @@ fn one_a_processor(rt: &impl Threads) -> usize {
     }
 }
 
-/// What a server with these settings is told to do, on so many processors.
-fn options_of(settings: Settings, processors: usize) -> Options
-    ensures { result ≡ told_to settings processors }
+/// What a server with these settings does, with this number of processors, on a system that disconnects peers that acknowledge nothing, or
+/// doesn't.
+fn options_of(settings: Settings, processors: usize, is_limited: bool) -> Options
+    ensures { result ≡ told_to settings processors is_limited }
 {
     Options {
         accept: settings.accept,
         gather: settings.gather,
         back: settings.back,
         after_end: settings.hang_up_ended.then_some(AFTER_END),
-        write_wait: WRITE_WAIT,
+        write_wait: if is_limited { None } else { Some(WRITE_WAIT) },
+        end_wait: END_WAIT,
         read_wait: READ_WAIT,
         idle: in_milliseconds(settings.idle),
+        silent: in_milliseconds(settings.silent),
         writers: if settings.is_direct {
             0
         } else {
@@ -77,11 +83,11 @@ fn in_milliseconds(seconds: Option<u64>) -> Option<u64>
     }
 }
 
-/// The send buffer of a connection where no other is asked for, in bytes: a burst of a camera's key frame fits in it.
+/// The send buffer of a connection if no other is asked for, in bytes: a burst of a camera's key frame fits in it.
 const SEND_BUFFER: u32 = 524_288;
 
-/// Bounds the send buffer of each connection that the listener accepts. The default is set where the system grants all of it: of
-/// less a burst loses more than of what the system does by itself. Tells how many bytes the system grants, where these are fewer.
+/// Bounds the send buffer of each connection that the listener accepts. The default is set if the system grants all of it: with
+/// less a burst loses more than with what the system does by itself. Returns how many bytes the system grants, if these are fewer.
 fn bound_send_buffers<R>(rt: &R, listener: &TcpListener, buffer: SendBuffer) -> Option<u32>
 where
     R: Net<Listener = TcpListener, Stream = TcpStream>,
@@ -102,7 +108,7 @@ where
     }
 }
 
-/// Sets a listener's send buffer. How many bytes the system grants, where these are fewer.
+/// Sets a listener's send buffer. Returns how many bytes the system grants, if these are fewer.
 fn fewer_than(listener: &TcpListener, bytes: u32) -> Option<u32> {
     let granted = set_send_buffer(listener, bytes).unwrap_or(0);
     (granted < bytes).then_some(granted)
@@ -119,6 +125,22 @@ fn warn_of_buffers<R: Log>(rt: &R, buffer: SendBuffer, granted: u32) {
             warn!(rt; "send buffers are the system's own, since it grants {granted} bytes, fewer than {SEND_BUFFER}: net.core.wmem_max is too small")
         }
     }
+}
+
+/// What peers may do by their addresses, as the command line says.
+fn access_of(settings: Settings, origins: Origins) -> Access {
+    Access {
+        publish_from: origins.publish,
+        play_from: origins.play,
+        connections: settings.per_address,
+        mounts: settings.mounts_per_address,
+        exempt: origins.exempt,
+    }
+}
+
+/// Warns that the system has no limit for peers that acknowledge nothing.
+fn warn_of_peers<R: Log>(rt: &R) {
+    warn!(rt; "the system disconnects no peer that acknowledges nothing: such a player is disconnected once its send buffer has been full for 20 s, such a publisher when its session expires")
 }
 
 /// Starts a thread that reads this input to its end, and then has the server stop.
@@ -154,12 +176,13 @@ fn read_to_end<I: Read + Drop>(mut input: I) {
     }
 }
 
-/// Listens and serves, if the settings say so until the end of an input. Answers the line that tells why it can't go on.
+/// Listens and serves, if the settings say so until the end of an input. Returns the line that says why it can't go on.
 pub fn serve<R, I>(
     rt: R,
     alloc: Global,
     addr: &str,
     settings: Settings,
+    origins: Origins,
     input: I,
 ) -> Result<(), &'static str>
 where
@@ -188,6 +211,7 @@ where
         return Err(OUT_OF_MEMORY);
     };
     let granted = bound_send_buffers(&rt, &listener, settings.send_buffer);
+    let is_limited = limit_peers(&listener).is_ok();
     let Ok(stopping) = Arc::new(alloc, Stopping::new()) else {
         return Err(OUT_OF_MEMORY);
     };
@@ -205,12 +229,15 @@ where
     let Ok(book) = shared_book(alloc, settings.seats, hasher) else {
         return Err(OUT_OF_MEMORY);
     };
-    let options = options_of(settings, one_a_processor(&rt));
+    let options = options_of(settings, one_a_processor(&rt), is_limited);
     if let Ok(bound) = listener.local_addr() {
         let _ = eprintln!(rt; "relay: listening on {bound}");
     }
     if let Some(granted) = granted {
         warn_of_buffers(&rt, settings.send_buffer, granted);
+    }
+    if !is_limited {
+        warn_of_peers(&rt);
     }
     match run_server(
         rt,
@@ -223,6 +250,7 @@ where
         OpenGate,
         ClockMoments::new(rt),
         stopping,
+        access_of(settings, origins),
     ) {
         Ok(()) => Ok(()),
         Err(_) => Err(OUT_OF_MEMORY),

@@ -2,9 +2,9 @@
 use std::io;
 use std::net::{SocketAddr, TcpListener, TcpStream};
 
-/// Where a server's connections come from: a listener, or what a test hands in, which fails.
+/// Where a server's connections come from: a listener, or a test's own type, which fails.
 pub trait Accepts {
-    /// The next connection and its peer's address. Waits for it. After an error it may be asked again.
+    /// Waits for the next connection, and returns it with its peer's address. After an error it may be called again.
     fn accept(&self) -> io::Result<(TcpStream, SocketAddr)>;
 }
 

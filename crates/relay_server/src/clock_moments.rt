@@ -4,7 +4,7 @@ ghost use Rattle.std.specs.Prelude.{◌≡◌, ◌≤◌};
 use session_state::Moments;
 use std::time::{Clock, Instant};
 
-/// Milliseconds since these moments were made. Where the clock can't be read the last one is told again.
+/// Milliseconds since these moments were made. If the clock can't be read, the last moment is returned again.
 #[derive(Clone, Copy, Drop)]
 pub struct ClockMoments<R> {
     rt: R,

@@ -1,20 +1,23 @@
 //! One connection, from its coming to its hang-up.
 mod asking;
+mod barring;
 mod carrying_out;
 mod expiring;
 mod incoming;
 mod session_snapshot;
 
+use crate::access::Rights;
 use crate::events::Events;
 use crate::frame_notes::Publishing;
 use crate::gate::Gate;
 use crate::hearing::{Hearing, Watch};
 use crate::shared::Shared;
+use crate::watched::SETUP_WAIT;
 use cursor::Left;
 use interleaved::{Sink, Source};
 use publisher::InStop;
 use relay_accounts::{
-    ConnectionEnd, Counts, Handover, Outcome, Part, end_by_reset, end_of, status_of,
+    ConnectionEnd, Counts, Handover, Outcome, Part, WireFailure, end_by, end_of, status_of,
 };
 use relay_fanout::{
     Frames, HangUp, Maker, Posting, SharedPlayer, Writers, WritingSide, close_behind_text,
@@ -33,7 +36,7 @@ pub(crate) struct Connection<R, M: Maker, V, G, W: Sink, H, N> {
     alloc: Global,
     shared: Arc<Shared<M, V, G>, Global>,
     player: Arc<SharedPlayer<M::Out, W, H>, Global>,
-    /// Who sends its frames; `None` where a thread of its own does.
+    /// What sends its frames; `None` if a thread of its own does.
     writers: Option<Arc<Writers<M::Out, W, H>, Global>>,
     conn: u64,
     /// How many requests have passed the gate.
@@ -42,7 +45,7 @@ pub(crate) struct Connection<R, M: Maker, V, G, W: Sink, H, N> {
     session: Option<SessionSnapshot>,
     /// Its part in the mount of its last session.
     part: Option<Part>,
-    /// Whether that session's account isn't told yet.
+    /// Whether that session's account isn't logged yet.
     has_account: bool,
     /// Whether that session expired while it played.
     is_stranded: bool,
@@ -54,13 +57,14 @@ pub(crate) struct Connection<R, M: Maker, V, G, W: Sink, H, N> {
     frames: Option<Frames>,
     /// The seat that was left, while frames of it wait for the socket.
     left: Option<LeftSeat>,
-    /// Whether the last packet of the mount was written, and the peer told the end for that.
+    /// Whether the last packet of the mount was written, and the peer was sent the end for that.
     is_over: bool,
     /// Whether the last request ended the session.
     torn_down: bool,
     counts: Counts,
     events: Events<R>,
     hearing: Hearing<N>,
+    rights: Rights,
 }
 
 impl<R: Drop, M: Maker + Drop, V: Drop, G: Drop, W: Sink + Drop, H: Drop, N: Drop> Drop
@@ -87,6 +91,7 @@ impl<R: Drop, M: Maker + Drop, V: Drop, G: Drop, W: Sink + Drop, H: Drop, N: Dro
             counts: _,
             events: _,
             hearing: _,
+            rights: _,
         } = self;
     }
 }
@@ -102,6 +107,7 @@ impl<R, M: Maker, V, G, W: Sink, H, N> Connection<R, M, V, G, W, H, N> {
         conn: u64,
         events: Events<R>,
         hearing: Hearing<N>,
+        rights: Rights,
     ) -> Connection<R, M, V, G, W, H, N> {
         Connection {
             rt,
@@ -124,6 +130,7 @@ impl<R, M: Maker, V, G, W: Sink, H, N> Connection<R, M, V, G, W, H, N> {
             counts: Counts::new(),
             events,
             hearing,
+            rights,
         }
     }
 }
@@ -136,7 +143,7 @@ struct LeftSeat {
     handover: Handover,
 }
 
-/// Where a connection's replies and frames go: its writing side, what ends it, and the writers that send its frames, or `None` where a
+/// Where a connection's replies and frames go: its writing side, what ends it, and the writers that send its frames, or `None` if a
 /// thread of its own does.
 #[derive(Drop)]
 pub struct Outgoing<T, W: Sink, H> {
@@ -145,9 +152,9 @@ pub struct Outgoing<T, W: Sink, H> {
     pub writers: Option<Arc<Writers<T, W, H>, Global>>,
 }
 
-/// Serves an open connection: answers its requests in order, publishes what comes in while it records, and sends what
-/// its seat takes while it plays. Ends when the peer says nothing more, at a fault, at a failed read or write or where it is
-/// out of memory, and hangs the connection up in the book. Its session expires where the connection wasn't heard for 60 seconds.
+/// Serves an open connection, which has these rights: answers its requests in order, publishes what comes in while it records, and
+/// sends what its seat takes while it plays. Ends when the peer sends nothing more, at a fault, at a failed read or write or if it
+/// is out of memory, and hangs the connection up in the book. Its session expires if the connection wasn't heard for 60 seconds.
 pub fn run_connection<R, M, V, G, S, W, H, N>(
     rt: R,
     alloc: Global,
@@ -157,6 +164,7 @@ pub fn run_connection<R, M, V, G, S, W, H, N>(
     outgoing: Outgoing<M::Out, W, H>,
     events: Events<R>,
     hearing: Hearing<N>,
+    rights: Rights,
 ) -> Outcome
 where
     R: Threads + Wait + Clock + Copy + Send + 'static,
@@ -187,7 +195,9 @@ where
             };
         }
     };
-    let mut connection = Connection::new(rt, alloc, shared, player, writers, conn, events, hearing);
+    let mut connection = Connection::new(
+        rt, alloc, shared, player, writers, conn, events, hearing, rights,
+    );
     let end = connection.run(reader);
     Outcome {
         end,
@@ -197,7 +207,7 @@ where
     }
 }
 
-/// Tells a connection that there is no memory for it, and hangs it up in the book.
+/// Writes 503 to a connection for which there is no memory, and hangs it up in the book.
 fn turn_away<R, M, V, G, S, W, H>(
     rt: &R,
     shared: &Shared<M, V, G>,
@@ -255,7 +265,7 @@ where
         unreachable!()
     }
 
-    /// Answers the next request, or says how the connection ends where there is none.
+    /// Answers the next request, or returns how the connection ends if there is none.
     fn serve_next<S: Source + Drop>(
         &mut self,
         intake: &mut Intake<S>,
@@ -275,34 +285,49 @@ where
         }
     }
 
-    /// Answers a request, and does what the answer asks for. A player whose session expired while it played is told so by 454,
-    /// and its connection ends: it would wait for frames for good.
+    /// Answers a request, and does what the answer asks for. A player whose session expired while it played gets 454, and its
+    /// connection ends: it would wait for frames for ever.
     fn answer(&mut self, request: &Request) -> Result<(), ConnectionEnd> {
         self.torn_down = false;
         let now = self.hearing.now();
         self.expire(now)?;
+        // Between reads, too: one read may bring more requests than are answered in a minute.
+        if self.hearing.watch().is_unset(now, SETUP_WAIT) {
+            return Err(ConnectionEnd::NotSetUp);
+        }
         self.hearing.watch().heard.note();
-        let status = match self.ask(request, now) {
-            Ok((answer, publishing)) => {
-                let status = answer.reply.status;
-                self.note_answer(request, answer.act, &answer.reply);
-                self.carry_out(answer, publishing)?;
-                status
-            }
-            Err(_) => {
-                self.events
-                    .refused(&self.rt, self.alloc, request, Status::ServiceUnavailable);
-                self.write_plain(Status::ServiceUnavailable, request.cseq)?;
-                Status::ServiceUnavailable
-            }
-        };
+        let status = self.answer_at(request, now)?;
+        self.note_session();
         if self.is_stranded && status == Status::SessionNotFound {
             return Err(ConnectionEnd::Expired);
         }
         Ok(())
     }
 
-    /// Notes what an answer says of the connection, and tells of what it refuses.
+    /// Answers a request that came at this moment. Returns the status of its reply.
+    fn answer_at(&mut self, request: &Request, now: u64) -> Result<Status, ConnectionEnd> {
+        if let Some(status) = self.barred(request) {
+            return self.refuse(request, status);
+        }
+        match self.ask(request, now) {
+            Ok((answer, publishing)) => {
+                let status = answer.reply.status;
+                self.note_answer(request, answer.act, &answer.reply);
+                self.carry_out(answer, publishing)?;
+                Ok(status)
+            }
+            Err(_) => self.refuse(request, Status::ServiceUnavailable),
+        }
+    }
+
+    /// Refuses a request that the book wasn't asked, or had no memory to answer.
+    fn refuse(&mut self, request: &Request, status: Status) -> Result<Status, ConnectionEnd> {
+        self.events.refused(&self.rt, self.alloc, request, status);
+        self.write_plain(status, request.cseq)?;
+        Ok(status)
+    }
+
+    /// Notes what an answer says of the connection, and reports what it refuses.
     fn note_answer(&mut self, request: &Request, act: Act, reply: &Reply) {
         self.torn_down = reply.status == Status::Ok
             && read_method(request.method.as_slice()) == Some(Method::Teardown);
@@ -332,10 +357,11 @@ where
             .is_some_and(|frames| frames.has_thread())
     }
 
-    /// Hangs up in the book, and does what is left to do. Says how the connection ended, which may be by its frames. After
+    /// Hangs up in the book, and does what is left to do. Returns how the connection ended, which may be by its frames. After
     /// a last text the peer is given a moment to read it.
     fn hang_up<S: Source>(&mut self, end: ConnectionEnd, source: &mut S) -> ConnectionEnd {
         let act = self.shared.book.lock(&self.rt).hangup(self.conn);
+        self.rights.leave_mount(&self.rt);
         let has_last_text = self.is_stranded && end == ConnectionEnd::Expired
             || matches!(
                 end,
@@ -343,7 +369,7 @@ where
             );
         let was_sent_frames = self.frames.is_some();
         self.player.phase.stop(&self.rt);
-        // A frame thread may wait for a peer that reads nothing; a writer waits for nobody, and mustn't find it hung up.
+        // A frame thread may wait for a peer that stops reading; a writer waits for none, and mustn't find it disconnected.
         if !has_last_text && self.has_frame_thread() {
             self.player.wire.hang_up();
         }
@@ -360,8 +386,11 @@ where
             self.hearing.watch().close();
             close_behind_text(&self.player.wire, source, LAST_READS, AFTER_TEXT);
         }
-        let was_reset = was_sent_frames && self.player.wire.was_reset();
-        end_by_reset(end_of(end, sent, self.is_over), was_reset)
+        let failure = match self.player.wire.failure() {
+            Some(WireFailure::Reset) if !was_sent_frames => None,
+            failure => failure,
+        };
+        end_by(end_of(end, sent, self.is_over), failure)
     }
 }
 

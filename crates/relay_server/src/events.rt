@@ -1,4 +1,4 @@
-//! Lines that tell of mounts and players as they come and go.
+//! Lines that report mounts and players as they come and leave.
 use crate::lines::Lines;
 use crate::published::PublishedMounts;
 use crate::refusing::Refusing;
@@ -15,14 +15,14 @@ use std::net::SocketAddr;
 use std::sync::{Arc, Wait};
 use std::time::{Clock, Instant};
 
-/// What a connection tells of the mount that it announced, of the seat that it plays from, of its sessions' accounts and of its
-/// requests that are refused. What there is no memory for counts as a dropped line.
+/// What a connection reports: the mount that it announced, the seat that it plays from, its sessions' accounts and its requests that
+/// are refused. What there is no memory for counts as a dropped line.
 pub struct Events<R> {
-    /// `None` where nothing is told.
+    /// `None` if nothing is reported.
     teller: Option<Teller<R>>,
-    /// The mount that it has announced, until that ends, where lines tell of it.
+    /// The mount that it has announced, until that ends, if lines report it.
     mount: Option<Announced>,
-    /// How many accounts of its sessions were told in a second.
+    /// How many accounts of its sessions were logged in a second.
     accounts: LineRate,
 }
 
@@ -36,14 +36,14 @@ impl<R: Drop> Drop for Events<R> {
     }
 }
 
-/// Whom lines tell of, and where they go.
+/// What lines report of a connection, and where they are written.
 pub(crate) struct Teller<R> {
     pub(crate) lines: Arc<Lines<R>, Global>,
     pub(crate) peer: SocketAddr,
     pub(crate) conn: u64,
-    /// Whether a line tells of each mount, each player, each session's account and each refusal.
+    /// Whether a line reports each mount, each player, each session's account and each refusal.
     pub(crate) is_verbose: bool,
-    /// What is told of mounts and players while they go on. `None` for nothing.
+    /// What is reported of mounts and players while they go on. `None` for nothing.
     pub(crate) reports: Option<Arc<Reports, Global>>,
     pub(crate) published: Arc<PublishedMounts, Global>,
     pub(crate) refusing: Arc<Refusing, Global>,
@@ -67,14 +67,14 @@ impl<R: Drop> Drop for Teller<R> {
 #[derive(Drop)]
 struct Announced {
     name: Bytes,
-    /// When it was first recorded. `None` where it wasn't, or the clock can't be read.
+    /// When it was first recorded. `None` if it wasn't, or the clock can't be read.
     recorded: Option<Instant>,
     /// The connection's counts when it was announced.
     earlier: Counts,
 }
 
 impl<R> Events<R> {
-    /// Nothing is told.
+    /// Nothing is reported.
     pub fn none() -> Events<R> {
         Events {
             teller: None,
@@ -83,7 +83,7 @@ impl<R> Events<R> {
         }
     }
 
-    /// What a connection tells.
+    /// What a connection reports.
     pub(crate) fn new(teller: Teller<R>) -> Events<R> {
         Events {
             teller: Some(teller),
@@ -92,7 +92,7 @@ impl<R> Events<R> {
         }
     }
 
-    /// All that a connection tells, in these lines, of a server that has no other.
+    /// All that a connection reports, in these lines, of a server that has no other.
     pub fn alone(
         clock: &impl Clock,
         alloc: Global,
@@ -114,7 +114,7 @@ impl<R> Events<R> {
         }))
     }
 
-    /// Where lines tell of what comes and goes.
+    /// The teller, if lines report what comes and leaves.
     fn verbose(&self) -> Option<&Teller<R>> {
         self.teller.as_ref().filter(|teller| teller.is_verbose)
     }
@@ -145,7 +145,7 @@ impl<R: Wait + Clock> Events<R> {
         });
     }
 
-    /// A request was refused with this status. It is counted by mount and status, of which a line is told once in a while.
+    /// A request was refused with this status. It is counted by mount and status, which a line reports once in a while.
     pub(crate) fn refused(&self, rt: &R, alloc: Global, request: &Request, status: Status) {
         let Some(teller) = &self.teller else {
             return;
@@ -164,33 +164,33 @@ impl<R: Wait + Clock> Events<R> {
             return;
         }
         let code = status.code();
-        let method = told(request.method.as_slice()).escape_ascii();
+        let method = shortened(request.method.as_slice()).escape_ascii();
         match (&found, &path) {
             (Some(mount), _) => {
                 let publisher = mount.peer;
                 info!(teller.lines; "{peer}: {method} of {} refused {code}, published by {publisher}", mount.name.as_slice().escape_ascii())
             }
             (None, Some(path)) => {
-                info!(teller.lines; "{peer}: {method} of {} refused {code}", told(path.as_slice()).escape_ascii())
+                info!(teller.lines; "{peer}: {method} of {} refused {code}", shortened(path.as_slice()).escape_ascii())
             }
             (None, None) => {
-                info!(teller.lines; "{peer}: {method} of {} refused {code}", told(request.uri.as_slice()).escape_ascii())
+                info!(teller.lines; "{peer}: {method} of {} refused {code}", shortened(request.uri.as_slice()).escape_ascii())
             }
         }
     }
 
     /// A session of the connection has ended, which had this part in its mount: its account. One of more than ten in a second is
-    /// counted instead, unless each is to be told.
+    /// counted instead, unless each is to be logged.
     pub(crate) fn account(&mut self, rt: &R, part: Option<&Part>, counts: &Counts) {
         let Some(teller) = &self.teller else {
             return;
         };
         let is_verbose = teller.is_verbose;
-        if !is_verbose && !has_to_be_told(counts) {
+        if !is_verbose && !has_to_be_logged(counts) {
             return;
         }
-        if is_verbose || teller.refusing.may_tell_account(rt, &mut self.accounts) {
-            tell_account(&*teller.lines, teller.peer, part, counts);
+        if is_verbose || teller.refusing.may_report_account(rt, &mut self.accounts) {
+            log_account(&*teller.lines, teller.peer, part, counts);
         }
     }
 
@@ -215,7 +215,7 @@ impl<R: Wait + Clock> Events<R> {
         announced.recorded = Instant::now(rt).ok();
     }
 
-    /// Its mount has ended, and it has these counts. Tells those since the ANNOUNCE, and the whole seconds since the first
+    /// Its mount has ended, and it has these counts. Logs those since the ANNOUNCE, and the whole seconds since the first
     /// RECORD.
     pub(crate) fn ended(&mut self, rt: &R, counts: &Counts) {
         let Some(teller) = &self.teller else {
@@ -276,17 +276,17 @@ impl<R: Wait + Clock> Events<R> {
         }
     }
 
-    /// The connection gives up its seat: reports tell of it no more but for what it has lost by now.
+    /// The connection gives up its seat: the next report has what it has lost by now, and no later one has it.
     pub(crate) fn gives_up_seat(&self, rt: &R, account: &SeatAccount) {
         let Some(teller) = &self.teller else {
             return;
         };
         if let Some(reports) = &teller.reports {
-            let told = PlayerTold {
+            let figures = PlayerTold {
                 sent: account.sent,
                 lost: account.lost,
             };
-            reports.player_leaves(rt, teller.conn, told);
+            reports.player_leaves(rt, teller.conn, figures);
         }
     }
 
@@ -306,21 +306,21 @@ impl<R: Wait + Clock> Events<R> {
     }
 }
 
-/// Whether an account is told unasked: packets were lost or refused, or waited for players.
-pub(crate) fn has_to_be_told(counts: &Counts) -> bool {
+/// Whether an account is logged without `--verbose`: packets were lost or refused, or waited for players.
+pub(crate) fn has_to_be_logged(counts: &Counts) -> bool {
     counts.has_losses() || counts.slowed > 0
 }
 
 /// A line with a connection's part in a mount and what its packets came to there.
-pub(crate) fn tell_account<R: Log>(rt: &R, peer: SocketAddr, part: Option<&Part>, counts: &Counts) {
+pub(crate) fn log_account<R: Log>(rt: &R, peer: SocketAddr, part: Option<&Part>, counts: &Counts) {
     match part {
         Some(part) => info!(rt; "{peer}: {part}: {counts}"),
         None => info!(rt; "{peer}: {counts}"),
     }
 }
 
-/// What is told of a text that a peer chose: as much of it as a mount's name may have.
-fn told(text: &[u8]) -> &[u8] {
+/// What is logged of a text that a peer chose: as many bytes of it as a mount's name may have.
+fn shortened(text: &[u8]) -> &[u8] {
     let length = text.len().min(LONGEST_NAME);
     if length == 0 { b"-" } else { &text[..length] }
 }
@@ -328,8 +328,8 @@ fn told(text: &[u8]) -> &[u8] {
 /// How many bytes a mount's name has at most.
 const LONGEST_NAME: usize = 128;
 
-/// Whether requests that are refused so are counted by mount, and told of without `--verbose`: a name that another has, no
-/// seat, no place for a mount, a name that no mount has, and a transport that isn't interleaved.
+/// Whether requests that are refused so are counted by mount, and reported without `--verbose`: a name that another has or a network
+/// that isn't allowed, no seat, no place for a mount, a name that no mount has, and a transport that isn't interleaved.
 fn is_counted(status: Status) -> bool {
     matches!(
         status,
@@ -342,7 +342,7 @@ fn is_counted(status: Status) -> bool {
 }
 
 impl<R: Wait> Teller<R> {
-    /// Reports tell of the mount from now on.
+    /// Reports have the mount from now on.
     fn report_mount(
         &self,
         rt: &R,
@@ -354,7 +354,7 @@ impl<R: Wait> Teller<R> {
         let Some(reports) = &self.reports else {
             return;
         };
-        let is_told = part.as_ref().is_some_and(|part| {
+        let is_reported = part.as_ref().is_some_and(|part| {
             let mount = ReportedMount {
                 number: mount,
                 name: part.name.as_slice(),
@@ -363,7 +363,7 @@ impl<R: Wait> Teller<R> {
             };
             reports.mount_begins(rt, alloc, self.conn, mount).is_ok()
         });
-        if !is_told {
+        if !is_reported {
             self.lines.miss();
         }
     }

@@ -5,8 +5,8 @@ use relay_fanout::MountSignal;
 use std::alloc::Global;
 use std::sync::{Arc, Wait};
 
-/// Notes each frame of a recording connection: the connection was heard, and the frame's fate is in its mount's tally. While a
-/// session records no one else sees a frame before the next message.
+/// Notes each frame of a recording connection: the connection was heard, and the frame's fate is in its mount's tally. While
+/// a session records, nothing else sees a frame before the next message.
 #[derive(Drop)]
 pub(crate) struct FrameNotes<R> {
     pub(crate) rt: R,

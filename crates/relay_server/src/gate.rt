@@ -1,13 +1,13 @@
-//! What stands between a server and each of its connections.
+//! The gate between a server and each of its connections.
 
-/// What a connection passes before each call of the book, so that a test can hold one back, and what is asked before each thread
-/// of it and of the server, so that a test can refuse one: a handle of a test's own can't, since `Threads` only says that threads
-/// may be started.
+/// A connection passes it before each call of the book, so that a test can hold one back. It is also called before each
+/// thread of a connection and of the server is started, so that a test can refuse one. A test's own runtime handle can't
+/// refuse a thread, because `Threads` only states that threads may be started.
 pub trait Gate {
     /// `turn` counts the connection's calls from 0.
     fn pass(&self, conn: u64, turn: u64);
 
-    /// Whether a thread of a connection may be started. Where not, it counts as one that the system refuses.
+    /// Returns whether a thread of a connection may be started. If not, it counts as one that the system refuses.
     fn may_start(&self) -> bool {
         true
     }
@@ -18,7 +18,7 @@ pub trait Gate {
     }
 }
 
-/// Holds nobody back.
+/// A gate that holds no connection back.
 #[derive(Clone, Copy, Drop)]
 pub struct OpenGate;
 

@@ -1,4 +1,4 @@
-//! The threads of a server that no connection has.
+//! The threads that all connections of a server share.
 use crate::gate::Gate;
 use crate::options::Options;
 use crate::server::Server;
@@ -14,9 +14,9 @@ use std::time::{Clock, Duration};
 /// How long the end of a server waits for its last lines to be written, in milliseconds.
 const LAST_LINES: u64 = 1_000;
 
-/// The threads of a server that no connection has: one wakes players, one closes the peers that are refused, one tells of mounts
-/// and players where that is asked for, writers send frames, and one, which isn't joined since nobody may read what it writes,
-/// writes lines.
+/// The threads that all connections of a server share. One wakes players, one closes the connections of refused peers, and one
+/// reports mounts and players if that is set. Writers send frames. One writes lines; it isn't joined, because standard error
+/// may have no reader.
 #[derive(Drop)]
 pub(crate) struct Helpers {
     waking: Option<JoinHandle<()>>,
@@ -26,7 +26,7 @@ pub(crate) struct Helpers {
 }
 
 impl Helpers {
-    /// Starts them. Where one can't be started that is told, and those that were are ended again.
+    /// Starts them. If one can't be started, that is logged, and those that were started are ended again.
     pub(crate) fn start<R, V, G, N>(
         rt: R,
         alloc: Global,
@@ -139,7 +139,7 @@ fn join<R: Threads + Wait>(rt: &R, thread: Option<JoinHandle<()>>) {
     }
 }
 
-/// Where the gate refuses a thread there is none, as where the system does.
+/// Fails if the gate refuses a thread, as if the system did.
 fn ask(gate: &impl Gate) -> Result<(), AllocError> {
     if gate.may_help() {
         Ok(())

@@ -2,6 +2,7 @@
 #![tactic(auto)]
 
 mod accepts;
+mod access;
 mod clock_moments;
 mod connection;
 mod events;
@@ -11,6 +12,7 @@ mod hearing;
 mod helpers;
 mod lines;
 mod options;
+mod peers;
 mod published;
 mod refusal;
 mod refusing;
@@ -21,6 +23,7 @@ mod stopping;
 mod watched;
 
 pub use accepts::Accepts;
+pub use access::{Access, Rights};
 pub use clock_moments::ClockMoments;
 pub use connection::{Outgoing, run_connection};
 pub use events::Events;
@@ -31,7 +34,8 @@ pub use options::Options;
 pub use refusal::Refusal;
 pub use relay_accounts::{ConnectionEnd, Counts, Outcome, Part};
 pub use relay_fanout::{
-    HangUp, Maker, RingMaker, Seat, Socket, Writers, WritingSide, set_send_buffer, stop_listening,
+    HangUp, Maker, RingMaker, Seat, Socket, Writers, WritingSide, limit_peers, set_send_buffer,
+    stop_listening,
 };
 pub use reports::Reports;
 pub use server::{run_server, tell_end, tell_last_account};

@@ -9,8 +9,8 @@ use std::io::Eprint;
 use std::sync::{Condvar, CondvarTimeouts, Mutex, Wait};
 use std::time::{Clock, Duration, Instant};
 
-/// Lines of a server that wait to be written, by one thread, so that nobody else waits for whoever reads standard error. A
-/// line that finds 1,024 waiting is dropped, and a later line tells how many were.
+/// Lines of a server that wait to be written by one thread, so that no other thread waits for the reader of standard error. A
+/// line that finds 1,024 waiting is dropped, and a later line reports how many were dropped.
 ///
 /// Any thread may log to it. Its lock is held for a change of the list; no other is taken meanwhile.
 pub struct Lines<R> {
@@ -36,11 +36,11 @@ impl<R: Drop> Drop for Lines<R> {
 
 struct List {
     lines: Backlog<String>,
-    /// Until when threads wait for room: none does before the server stops.
+    /// Until when threads wait for room. No thread waits before the server stops.
     room_until: Option<Instant>,
     /// No line comes any more.
     is_closed: bool,
-    /// After the last line nothing is left to write.
+    /// All lines are written.
     is_written: bool,
 }
 
@@ -59,7 +59,7 @@ impl Drop for List {
 #[derive(Drop)]
 enum Next {
     Write(Waiting<String>),
-    /// Tells how many lines were dropped.
+    /// Logs how many lines were dropped.
     Missed(u64),
     End,
 }
@@ -84,13 +84,13 @@ impl<R: Drop> Lines<R> {
 }
 
 impl<R: Wait> Lines<R> {
-    /// A line couldn't be made: it counts as dropped.
+    /// Counts a line that couldn't be made as dropped.
     pub(crate) fn miss(&self) {
         self.list.lock(&self.rt).lines.miss();
         self.changed.notify_one();
     }
 
-    /// What is to be done next, once there is anything.
+    /// Waits until there is something to do, and returns it.
     fn next(&self) -> Next {
         let mut list = self
             .changed
@@ -120,7 +120,7 @@ impl<R: Wait + Log + Eprint> Lines<R> {
             match self.next() {
                 Next::Write(Waiting { missed, item }) => {
                     self.tell_missed(missed);
-                    // A standard error that is closed tells nobody.
+                    // If standard error is closed, the line is lost.
                     let _ = self.rt.eprintln(item.as_str());
                 }
                 Next::Missed(missed) => self.tell_missed(missed),
@@ -132,7 +132,7 @@ impl<R: Wait + Log + Eprint> Lines<R> {
         }
     }
 
-    /// Tells that lines were dropped here.
+    /// Logs that lines were dropped here.
     fn tell_missed(&self, missed: u64) {
         if missed > 0 {
             warn!(self.rt; "{missed} lines were dropped, since nobody read them");
@@ -141,7 +141,8 @@ impl<R: Wait + Log + Eprint> Lines<R> {
 }
 
 impl<R: Wait + Clock> Lines<R> {
-    /// The server stops: for so long who tells something waits for room, so that it isn't dropped while lines are read.
+    /// The server stops. For the next `most`, a thread that logs waits for room, so that its line isn't dropped while lines are
+    /// read.
     pub(crate) fn wait_for_room(&self, most: Duration) {
         let until = match Instant::now(&self.rt) {
             Ok(now) => now.checked_add(most),
@@ -150,7 +151,7 @@ impl<R: Wait + Clock> Lines<R> {
         self.list.lock(&self.rt).room_until = until;
     }
 
-    /// So many lines couldn't be made, since who would have told them hasn't ended.
+    /// Counts `count` lines as dropped, because the threads that would have logged them haven't ended.
     pub(crate) fn miss_all(&self, count: u64) {
         self.list.lock(&self.rt).lines.miss_all(count);
     }
@@ -161,7 +162,7 @@ impl<R: Wait + Clock> Lines<R> {
         self.changed.notify_all();
     }
 
-    /// No line comes any more. Waits for at most so long until all are written; those that aren't by then are dropped and counted.
+    /// No line comes any more. Waits at most `most` until all are written. Those that aren't by then are dropped and counted.
     pub fn close(&self, most: Duration) {
         self.end();
         let (mut list, _) = self
@@ -179,7 +180,7 @@ impl<R: Wait + Clock> Lines<R> {
             .wait_timeout_while(&self.rt, list, last, |list| !list.is_written);
     }
 
-    /// How long who tells something may wait for room yet. `None` where it doesn't wait.
+    /// Returns how long a thread that logs may still wait for room. `None` if it doesn't wait.
     fn time_for_room(&self, list: &List) -> Option<Duration> {
         let until = list.room_until?;
         let now = Instant::now(&self.rt).ok()?;
@@ -188,7 +189,7 @@ impl<R: Wait + Clock> Lines<R> {
     }
 }
 
-/// How long the line that tells how many were dropped may take at last, in milliseconds.
+/// How long the last line, which reports how many were dropped, may take, in milliseconds.
 const LAST_LINE: u64 = 200;
 
 impl List {
@@ -203,10 +204,10 @@ impl List {
     }
 }
 
-/// As many lines as may wait.
+/// How many lines may wait.
 const MOST_LINES: usize = 1024;
 
-/// Logs what a program's runtime does, informations and what weighs more.
+/// Logs the same levels as a program's runtime: info and above.
 impl<R: Wait + Clock> Log for Lines<R> {
     ghost use Rattle.std.specs.Prelude.{[], Some};
     ghost use Rattle.log.specs.declared.level.LevelFilter.TheVariants.{Info};

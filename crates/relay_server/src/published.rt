@@ -1,13 +1,13 @@
-//! The mounts that live, for the lines that tell of them.
+//! The mounts that exist, for log lines.
 use base_syntax::Bytes;
 use std::alloc::{AllocError, Global};
 use std::net::SocketAddr;
 use std::sync::{Mutex, Wait};
 
-/// As many mounts may live at a time.
+/// How many mounts may exist at a time.
 const MOST_MOUNTS: usize = 64;
 
-/// A mount that lives, and who publishes it.
+/// A mount that exists, and the peer that publishes it.
 #[derive(Drop)]
 pub(crate) struct PublishedMount {
     conn: u64,
@@ -24,7 +24,7 @@ impl PublishedMount {
         })
     }
 
-    /// Whether a path is the mount's name, or begins with it before a slash.
+    /// Returns whether a path is the mount's name, or begins with it and a slash.
     fn is_named_by(&self, path: &[u8]) -> bool {
         let name = self.name.as_slice();
         match path.strip_prefix(name) {
@@ -34,8 +34,8 @@ impl PublishedMount {
     }
 }
 
-/// The mounts that live, with the addresses of their publishers: what is told with a refusal. What the book decides by is its
-/// own. The lock is held for a walk over the mounts, and no other is taken meanwhile.
+/// The mounts that exist, with the addresses of their publishers, for the log lines of refusals. The book decides by its own
+/// state. The lock is held for a walk over the mounts, and no other is taken meanwhile.
 pub(crate) struct PublishedMounts {
     alloc: Global,
     mounts: Mutex<Vec<PublishedMount>>,
@@ -51,7 +51,7 @@ impl Drop for PublishedMounts {
 }
 
 impl PublishedMounts {
-    /// No mount lives.
+    /// No mount exists.
     pub(crate) fn new(alloc: Global) -> Result<PublishedMounts, AllocError> {
         Ok(PublishedMounts {
             alloc,
@@ -59,7 +59,7 @@ impl PublishedMounts {
         })
     }
 
-    /// A connection of this peer has announced a mount. Without memory for it nothing is told of it.
+    /// A connection of this peer has announced a mount. Without memory for it, log lines don't have it.
     pub(crate) fn add(&self, rt: &impl Wait, conn: u64, name: &[u8], peer: SocketAddr) {
         if let Ok(name) = Bytes::from_slice(self.alloc, name) {
             let _ = self
@@ -74,7 +74,7 @@ impl PublishedMounts {
         self.mounts.lock(rt).retain(|mount| mount.conn != conn);
     }
 
-    /// The mount that a path names: the whole path is its name, or else the longest beginning before a slash that is one.
+    /// Returns the mount that a path names: the whole path is its name, or else the longest prefix before a slash that is one.
     pub(crate) fn find(&self, rt: &impl Wait, path: &[u8]) -> Option<PublishedMount> {
         let mounts = self.mounts.lock(rt);
         let mut found = None;

@@ -1,5 +1,5 @@
 //! Why a connection isn't served.
-ghost use Rattle.std.specs.Prelude.{◌<◌};
+ghost use Rattle.std.specs.Prelude.{◌<◌, IfSome};
 
 use session_state::ConnectFault;
 use std::alloc::AllocError;
@@ -10,6 +10,8 @@ use std::fmt;
 pub enum Refusal {
     /// As many connections are open as a book may have.
     Full,
+    /// Its address has as many connections as it may have.
+    AddressFull,
     OutOfMemory,
     /// No thread could be started that reads it.
     NoThread,
@@ -18,10 +20,10 @@ pub enum Refusal {
 }
 
 impl Refusal {
-    /// How many reasons there are.
+    /// How many reasons are counted by themselves.
     pub(crate) const COUNT: usize = 4;
 
-    /// All reasons, each at its place.
+    /// These reasons, each at its place.
     pub(crate) const ALL: [Refusal; Refusal::COUNT] = [
         Refusal::Full,
         Refusal::OutOfMemory,
@@ -29,15 +31,16 @@ impl Refusal {
         Refusal::NotAccepted,
     ];
 
-    /// Its place among all reasons.
-    pub(crate) fn place(self) -> usize
-        ensures { result < 4 }
+    /// Its place among them. `None` if it is counted with its peer's address.
+    pub(crate) fn place(self) -> Option<usize>
+        ensures { IfSome result (λ place. place < 4) }
     {
         match self {
-            Refusal::Full => 0,
-            Refusal::OutOfMemory => 1,
-            Refusal::NoThread => 2,
-            Refusal::NotAccepted => 3,
+            Refusal::Full => Some(0),
+            Refusal::OutOfMemory => Some(1),
+            Refusal::NoThread => Some(2),
+            Refusal::NotAccepted => Some(3),
+            Refusal::AddressFull => None,
         }
     }
 }
@@ -61,6 +64,7 @@ impl fmt::Display for Refusal {
     fn fmt<W: fmt::Write>(&self, f: &mut fmt::Formatter<W>) -> fmt::Result {
         match self {
             Refusal::Full => write!(f, "refused: too many connections"),
+            Refusal::AddressFull => write!(f, "refused: too many connections of one address"),
             Refusal::OutOfMemory => write!(f, "refused: out of memory"),
             Refusal::NoThread => write!(f, "refused: no thread"),
             Refusal::NotAccepted => write!(f, "not accepted: no descriptor or no memory"),

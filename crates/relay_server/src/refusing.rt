@@ -1,15 +1,18 @@
-//! Peers and requests that are refused, and what is told of them once in a while.
+//! Peers and requests that are refused, and the lines that report them once in a while.
 ghost use Rattle.std.specs.Prelude.{◌<◌, IfSome};
 
 use crate::refusal::Refusal;
 use interleaved::{Reading, Source, Writing, write_all};
 use log::{Log, warn};
-use relay_accounts::{ConnectionEnd, LineRate, LineRates, RefusedLine, RefusedRequests, Tally};
+use networks::Address;
+use relay_accounts::{
+    ConnectionEnd, LineRate, LineRates, RefusedLine, RefusedRequests, Subject, Tally,
+};
 use relay_fanout::{HangUp, Socket};
 use rtsp_message::{Status, put_plain};
 use std::alloc::{AllocError, Global};
 use std::collections::VecDeque;
-use std::net::{SocketAddr, TcpStream};
+use std::net::{IpAddr, Ipv4Addr, Ipv6Addr, SocketAddr, TcpStream};
 use std::sync::{Condvar, CondvarTimeouts, Mutex, Wait};
 use std::time::{Clock, Duration, Instant};
 
@@ -19,10 +22,10 @@ const MOST: usize = 64;
 /// For how many milliseconds a refused peer's connection stays, so that it reads why.
 const STAYS: u64 = 100;
 
-/// How often a refused peer is read before it is closed: what it has sent and nobody reads would reset the connection.
+/// How often a refused peer is read before it is closed: what it has sent and is never read would reset the connection.
 const READS: u32 = 4;
 
-/// The peers that were refused and stay a moment, and how many peers and requests were refused since that was told.
+/// The peers that were refused and stay a moment, and how many peers and requests were refused since that was logged.
 ///
 /// The thread that accepts puts them in, and one thread closes them. The lock is held for a change of the list alone.
 pub(crate) struct Refusing {
@@ -45,16 +48,16 @@ impl Drop for Refusing {
 struct List {
     /// Each with the moment at which it is closed.
     leaving: VecDeque<(Socket, u64)>,
-    /// By `Refusal::place`.
+    /// Peers that were refused, by `Refusal::place`.
     tallies: [Tally; Refusal::COUNT],
     /// Requests that were refused, by mount and status.
     requests: RefusedRequests,
-    /// How many ends of connections were told of each address.
+    /// How many ends of connections were logged of each address.
     rates: LineRates,
-    /// Those that weren't told, by `place_of`.
-    untold: [Tally; 8],
-    /// Accounts that weren't told.
-    untold_accounts: Tally,
+    /// Those that weren't logged, by `place_of`.
+    unlogged: [Tally; 11],
+    /// Accounts that weren't logged.
+    unlogged_accounts: Tally,
     is_closed: bool,
 }
 
@@ -65,8 +68,8 @@ impl Drop for List {
             tallies: _,
             requests: _,
             rates: _,
-            untold: _,
-            untold_accounts: _,
+            unlogged: _,
+            unlogged_accounts: _,
             is_closed: _,
         } = self;
     }
@@ -76,17 +79,17 @@ impl Drop for List {
 #[derive(Drop)]
 enum Next {
     Close(Socket),
-    Tell(Refusal, u64),
-    TellRequests(RefusedLine),
-    /// So many ends of this kind weren't told.
-    TellUntold(&'static str, u64),
-    /// So many accounts weren't told.
-    TellAccounts(u64),
+    Report(Refusal, u64),
+    ReportRequests(RefusedLine),
+    /// This many ends of this kind weren't logged.
+    ReportEnds(&'static str, u64),
+    /// This many accounts weren't logged.
+    ReportAccounts(u64),
     End,
 }
 
-/// The kinds of ends that a warning tells of, each at its place.
-const ENDS: [&str; 8] = [
+/// The kinds of ends that a warning reports, each at its place.
+const ENDS: [&str; 11] = [
     "stream fault",
     "read failed",
     "write failed",
@@ -95,11 +98,14 @@ const ENDS: [&str; 8] = [
     "session expired",
     "silent without a session",
     "left by a reset",
+    "no acknowledgement",
+    "silent while recording",
+    "no SETUP",
 ];
 
 /// The place of an end among them. `None` for a good one.
 fn place_of(end: ConnectionEnd) -> Option<usize>
-    ensures { IfSome result (λ place. place < 8) }
+    ensures { IfSome result (λ place. place < 11) }
 {
     match end {
         ConnectionEnd::Done => None,
@@ -111,19 +117,22 @@ fn place_of(end: ConnectionEnd) -> Option<usize>
         ConnectionEnd::Expired => Some(5),
         ConnectionEnd::Idle => Some(6),
         ConnectionEnd::Reset => Some(7),
+        ConnectionEnd::NoAcknowledgement => Some(8),
+        ConnectionEnd::Silent => Some(9),
+        ConnectionEnd::NotSetUp => Some(10),
     }
 }
 
 impl Refusing {
-    /// Nobody was refused.
+    /// None was refused.
     pub(crate) fn new<R: Clock>(rt: &R, alloc: Global) -> Result<Refusing, AllocError> {
         let list = List {
             leaving: VecDeque::with_capacity(alloc, MOST)?,
             tallies: [Tally::new(); Refusal::COUNT],
             requests: RefusedRequests::new(alloc)?,
             rates: LineRates::new(alloc)?,
-            untold: [Tally::new(); 8],
-            untold_accounts: Tally::new(),
+            unlogged: [Tally::new(); 11],
+            unlogged_accounts: Tally::new(),
             is_closed: false,
         };
         Ok(Refusing {
@@ -133,7 +142,7 @@ impl Refusing {
         })
     }
 
-    /// How many milliseconds have passed since it was made. Where the clock can't be read each moment has come.
+    /// How many milliseconds have passed since it was made. If the clock can't be read each moment has come.
     fn now<R: Clock>(&self, rt: &R) -> u64 {
         match (self.began, Instant::now(rt)) {
             (Some(began), Ok(now)) => {
@@ -145,8 +154,10 @@ impl Refusing {
 
     /// Counts a refusal.
     pub(crate) fn count(&self, rt: &impl Wait, why: Refusal) {
-        self.list.lock(rt).tallies[why.place()].add();
-        self.changed.notify_one();
+        if let Some(place) = why.place() {
+            self.list.lock(rt).tallies[place].add();
+            self.changed.notify_one();
+        }
     }
 
     /// Counts a request of this peer that was refused with this status, on a mount of this name or on a name that none has.
@@ -157,12 +168,16 @@ impl Refusing {
         status: Status,
         peer: SocketAddr,
     ) {
-        self.list.lock(rt).requests.add(name, status, peer);
+        let subject = match name {
+            Some(name) => Subject::Mount(name),
+            None => Subject::Others,
+        };
+        self.list.lock(rt).requests.add(subject, status, peer);
         self.changed.notify_one();
     }
 
-    /// Whether a line may tell how a connection of this peer ended. One of more than ten in a second is counted instead.
-    pub(crate) fn may_tell<R: Wait + Clock>(
+    /// Whether a line may report how a connection of this peer ended. One of more than ten in a second is counted instead.
+    pub(crate) fn may_report_end<R: Wait + Clock>(
         &self,
         rt: &R,
         peer: SocketAddr,
@@ -173,32 +188,38 @@ impl Refusing {
         };
         let now = self.now(rt);
         let mut list = self.list.lock(rt);
-        if list.rates.tell(peer.ip(), now) {
+        if list.rates.tell(counted(peer.ip()), now) {
             return true;
         }
-        list.untold[place].add();
+        list.unlogged[place].add();
         drop(list);
         self.changed.notify_one();
         false
     }
 
-    /// Whether a line may tell a session's account of a connection that goes on, whose accounts have this rate. One of more than
+    /// Whether a line may report a session's account of a connection that goes on, whose accounts have this rate. One of more than
     /// ten in a second is counted instead.
-    pub(crate) fn may_tell_account<R: Wait + Clock>(&self, rt: &R, rate: &mut LineRate) -> bool {
+    pub(crate) fn may_report_account<R: Wait + Clock>(&self, rt: &R, rate: &mut LineRate) -> bool {
         if rate.tell(self.now(rt)) {
             return true;
         }
-        self.list.lock(rt).untold_accounts.add();
+        self.list.lock(rt).unlogged_accounts.add();
         self.changed.notify_one();
         false
     }
 
-    /// Tells a peer 503, and lets it stay a moment. Never waits.
-    pub(crate) fn refuse<R: Wait + Clock>(&self, rt: &R, why: Refusal, socket: Socket) {
-        tell_unavailable(socket.stream());
+    /// Writes 503 to a peer, and lets it stay a moment. Never waits.
+    pub(crate) fn refuse<R: Wait + Clock>(
+        &self,
+        rt: &R,
+        why: Refusal,
+        peer: SocketAddr,
+        socket: Socket,
+    ) {
+        write_unavailable(socket.stream());
         let due = self.now(rt).saturating_add(STAYS);
         let mut list = self.list.lock(rt);
-        list.tallies[why.place()].add();
+        list.count(why, peer);
         let first = if list.leaving.len() >= MOST {
             list.leaving.pop_front()
         } else {
@@ -220,19 +241,19 @@ impl Refusing {
         self.changed.notify_all();
     }
 
-    /// Closes each refused peer in its time, and tells once a minute how many were refused. Returns once no peer is refused any
+    /// Closes each refused peer in its time, and reports once a minute how many were refused. Returns once no peer is refused any
     /// more and all are closed.
     pub(crate) fn close_all<R: Wait + Clock>(&self, rt: &R, lines: &impl Log) {
         for _ in rt.forever() {
             match self.next(rt) {
                 Next::Close(socket) => close(socket),
-                Next::Tell(why, count) => warn!(lines; "{count} {why}"),
-                Next::TellRequests(line) => warn!(lines; "{line}"),
-                Next::TellUntold(kind, count) => {
-                    warn!(lines; "{count} ends weren't told, of addresses with more than ten a second: {kind}")
+                Next::Report(why, count) => warn!(lines; "{count} {why}"),
+                Next::ReportRequests(line) => warn!(lines; "{line}"),
+                Next::ReportEnds(kind, count) => {
+                    warn!(lines; "{count} ends weren't logged, of addresses with more than ten a second: {kind}")
                 }
-                Next::TellAccounts(count) => {
-                    warn!(lines; "{count} accounts weren't told, of connections with more than ten a second")
+                Next::ReportAccounts(count) => {
+                    warn!(lines; "{count} accounts weren't logged, of connections with more than ten a second")
                 }
                 Next::End => return,
             }
@@ -260,27 +281,38 @@ impl Refusing {
 }
 
 impl List {
-    /// What is to be done at this moment. Where no peer is refused any more, what was counted is told at once.
+    /// Counts a peer that was refused.
+    fn count(&mut self, why: Refusal, peer: SocketAddr) {
+        match why.place() {
+            Some(place) => self.tallies[place].add(),
+            None => {
+                let status = Status::ServiceUnavailable;
+                self.requests.add(Subject::NoMount, status, peer);
+            }
+        }
+    }
+
+    /// What is to be done at this moment. If no peer is refused any more, what was counted is reported at once.
     fn next(&mut self, now: u64) -> Option<Next> {
         if let Some((socket, _)) = self.leaving.pop_front_if(|first| first.1 <= now) {
             return Some(Next::Close(socket));
         }
-        let told_at = if self.is_closed { u64::MAX } else { now };
-        for why in Refusal::ALL {
-            if let Some(count) = self.tallies[why.place()].tell(told_at) {
-                return Some(Next::Tell(why, count));
+        let reported_at = if self.is_closed { u64::MAX } else { now };
+        for (place, why) in Refusal::ALL.iter().enumerate() {
+            if let Some(count) = self.tallies[place].tell(reported_at) {
+                return Some(Next::Report(*why, count));
             }
         }
-        if let Some(line) = self.requests.tell(told_at) {
-            return Some(Next::TellRequests(line));
+        if let Some(line) = self.requests.tell(reported_at) {
+            return Some(Next::ReportRequests(line));
         }
         for (place, kind) in ENDS.iter().enumerate() {
-            if let Some(count) = self.untold[place].tell(told_at) {
-                return Some(Next::TellUntold(*kind, count));
+            if let Some(count) = self.unlogged[place].tell(reported_at) {
+                return Some(Next::ReportEnds(*kind, count));
             }
         }
-        if let Some(count) = self.untold_accounts.tell(told_at) {
-            return Some(Next::TellAccounts(count));
+        if let Some(count) = self.unlogged_accounts.tell(reported_at) {
+            return Some(Next::ReportAccounts(count));
         }
         if self.is_closed && self.leaving.is_empty() {
             return Some(Next::End);
@@ -295,10 +327,18 @@ impl List {
         for tally in &self.tallies {
             due = sooner(due, tally.due());
         }
-        for tally in &self.untold {
+        for tally in &self.unlogged {
             due = sooner(due, tally.due());
         }
-        sooner(due, self.untold_accounts.due())
+        sooner(due, self.unlogged_accounts.due())
+    }
+}
+
+/// The address by which lines are counted: one host may have all addresses of an IPv6 subnet.
+fn counted(ip: IpAddr) -> IpAddr {
+    match Address::of(ip).group() {
+        Address::V4(bits) => IpAddr::V4(Ipv4Addr::from_bits(bits)),
+        Address::V6(bits) => IpAddr::V6(Ipv6Addr::from_bits(bits)),
     }
 }
 
@@ -310,8 +350,8 @@ fn sooner(one: Option<u64>, other: Option<u64>) -> Option<u64> {
     }
 }
 
-/// Writes the text of a refusal, and says nothing more. Nothing is waited for: a fresh socket has room for the text.
-pub(crate) fn tell_unavailable(stream: &TcpStream) {
+/// Writes the text of a refusal, and then the end. Nothing is waited for: a new socket has room for the text.
+pub(crate) fn write_unavailable(stream: &TcpStream) {
     let _ = stream.set_nonblocking(true);
     let mut text = [0; 128];
     let len = put_plain(&mut text, Status::ServiceUnavailable, None);

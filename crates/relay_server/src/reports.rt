@@ -1,4 +1,4 @@
-//! What is told of mounts and players while they go on.
+//! The reports of mounts and players while they go on.
 use crate::lines::Lines;
 use base_syntax::Bytes;
 use log::info;
@@ -11,15 +11,15 @@ use std::net::SocketAddr;
 use std::sync::{Arc, Condvar, CondvarTimeouts, Mutex, Wait};
 use std::time::{Clock, Duration};
 
-/// At most so many lines are told at once. As many mounts and players that have ended wait to be told of; what more of them
-/// end, their connections' own lines tell.
+/// The most lines of one report. It is also the most ended mounts, and the most ended players, that wait to be reported; the
+/// others are in their connections' own lines only.
 const MOST_LINES: usize = 100;
 
-/// The mounts that are recorded and the players that have a seat, and what was told of them. Once in a while one thread tells
-/// of each mount, and of each player that lost packets.
+/// The mounts that are recorded and the players that have a seat, and what was reported of them. One thread reports each
+/// mount, and each player that lost packets, at regular times.
 ///
-/// Its lock is held for a change of its lists, or for one report, whose lines are put meanwhile among those that wait to be
-/// written, and each mount's tally is looked at; no other lock is taken.
+/// Its lock is held for a change of its lists, or for one report. Meanwhile a report queues its lines, and reads each mount's
+/// tally; no other lock is taken.
 pub struct Reports {
     alloc: Global,
     /// How many packets a ring keeps.
@@ -55,7 +55,7 @@ impl Drop for List {
     }
 }
 
-/// A mount that is recorded, or has ended since it was last told of.
+/// A mount that is recorded, or has ended since its last report.
 struct Mount {
     conn: u64,
     number: u64,
@@ -80,7 +80,7 @@ impl Drop for Mount {
     }
 }
 
-/// A mount that is to be told of.
+/// A mount that is to be reported.
 #[derive(Drop)]
 pub(crate) struct ReportedMount<'a> {
     pub(crate) number: u64,
@@ -89,7 +89,7 @@ pub(crate) struct ReportedMount<'a> {
     pub(crate) signal: &'a Arc<MountSignal, Global>,
 }
 
-/// A player's seat that is to be told of.
+/// A player's seat that is to be reported.
 #[derive(Drop)]
 pub(crate) struct ReportedSeat<'a> {
     pub(crate) peer: SocketAddr,
@@ -99,7 +99,7 @@ pub(crate) struct ReportedSeat<'a> {
     pub(crate) signal: &'a Arc<MountSignal, Global>,
 }
 
-/// A player that has a seat, or has left it since it was last told of.
+/// A player that has a seat, or has left it since its last report.
 struct Player {
     conn: u64,
     peer: SocketAddr,
@@ -128,7 +128,7 @@ impl Drop for Player {
 }
 
 impl Mount {
-    /// A connection's mount, of which nothing was told.
+    /// A connection's mount, of which nothing was reported.
     fn new(alloc: Global, conn: u64, mount: ReportedMount<'_>) -> Result<Mount, AllocError> {
         let name = Bytes::from_slice(alloc, mount.name)?;
         let signal = Arc::try_clone(mount.signal)?;
@@ -143,7 +143,7 @@ impl Mount {
         })
     }
 
-    /// What it has come to by this moment, with so many players.
+    /// Returns its figures at this moment, with `players` players.
     fn status(
         &self,
         rt: &impl Wait,
@@ -162,7 +162,7 @@ impl Mount {
 }
 
 impl Player {
-    /// A connection's player in this seat, of which nothing was told.
+    /// A connection's player in this seat, of which nothing was reported.
     fn new(alloc: Global, conn: u64, seat: ReportedSeat<'_>) -> Result<Player, AllocError> {
         let name = Bytes::from_slice(alloc, seat.name)?;
         let signal = Arc::try_clone(seat.signal)?;
@@ -178,7 +178,7 @@ impl Player {
         })
     }
 
-    /// What it has come to, in a ring that keeps so many packets.
+    /// Returns its figures, in a ring that keeps `keep` packets.
     fn status(&self, rt: &impl Wait, alloc: Global, keep: u64) -> Result<PlayerStatus, AllocError> {
         let PlayerFigures { sent, lost, behind } = match self.left {
             Some(PlayerTold { sent, lost }) => PlayerFigures {
@@ -192,7 +192,7 @@ impl Player {
             peer: self.peer,
             mount: Bytes::from_slice(alloc, self.name.as_slice())?,
             seat: self.seat,
-            // Each of the numbers behind it is read by itself, and it may be less than was told.
+            // The numbers that it is computed from are read one by one, so it may be less than was reported.
             sent: sent.max(self.told.sent),
             lost: lost.max(self.told.lost),
             behind,
@@ -200,7 +200,7 @@ impl Player {
     }
 }
 
-/// How many lines of a report were told, and how many weren't.
+/// How many lines of a report were logged, and how many weren't.
 #[derive(Clone, Copy, Drop)]
 struct Told {
     lines: usize,
@@ -208,7 +208,7 @@ struct Told {
 }
 
 impl Told {
-    /// Whether one more line may be told, which is counted so or so.
+    /// Returns whether one more line may be logged. The line is counted either way.
     fn has_room(&mut self) -> bool {
         if self.lines < MOST_LINES {
             self.lines += 1;
@@ -220,7 +220,7 @@ impl Told {
 }
 
 impl Reports {
-    /// No mount is recorded. Each ring keeps so many packets.
+    /// The reports of a server that records no mount. Each ring keeps `keep` packets.
     pub fn new(alloc: Global, keep: u64) -> Reports {
         let list = List {
             mounts: Vec::new(alloc),
@@ -264,12 +264,13 @@ impl Reports {
         self.list.lock(rt).add_player(player)
     }
 
-    /// A connection has left its seat, where it had been sent and had lost so much.
+    /// A connection has left its seat, after it was sent and lost this many packets.
     pub(crate) fn player_leaves(&self, rt: &impl Wait, conn: u64, left: PlayerTold) {
         self.list.lock(rt).leave(conn, left);
     }
 
-    /// Tells of what came, each time that so long has passed and once they are closed: the work of a thread of its own.
+    /// Reports what came, each time that `distance` has passed, and once more after they are closed. Runs on a thread of its
+    /// own.
     pub(crate) fn tell_all<R: Wait + Clock>(
         &self,
         rt: &R,
@@ -310,7 +311,7 @@ impl List {
         Ok(())
     }
 
-    /// The mount stays until it is told of, where packets came since.
+    /// Ends a mount. It stays in the list until it is reported, if packets came since its last report.
     fn end_mount(&mut self, rt: &impl Wait, conn: u64) {
         let ended = self.mounts.iter().filter(|mount| mount.has_ended).count();
         self.mounts.retain_mut(|mount| {
@@ -322,7 +323,7 @@ impl List {
         });
     }
 
-    /// The player stays until it is told of, where it has lost packets since.
+    /// A player leaves. It stays in the list until it is reported, if it has lost packets since its last report.
     fn leave(&mut self, conn: u64, left: PlayerTold) {
         let gone = self
             .players
@@ -338,7 +339,7 @@ impl List {
         });
     }
 
-    /// What each mount and each player has come to by this moment, in the order of the lists.
+    /// Returns the figures of each mount and each player at this moment, in the order of the lists.
     fn snapshot(
         &self,
         rt: &impl Wait,
@@ -363,7 +364,7 @@ impl List {
         Ok(snapshot)
     }
 
-    /// Tells of each mount, and of each player that lost packets since it was last told of.
+    /// Reports each mount, and each player that lost packets since its last report.
     fn tell<R: Wait + Clock>(&mut self, lines: &Lines<R>, snapshot: &Snapshot) {
         let mut told = Told { lines: 0, more: 0 };
         self.tell_mounts(lines, snapshot, &mut told);
@@ -374,7 +375,7 @@ impl List {
         }
     }
 
-    /// One that has ended goes once all that came to it is told.
+    /// Reports the mounts. One that has ended is removed after all that came to it is reported.
     fn tell_mounts<R: Wait + Clock>(
         &mut self,
         lines: &Lines<R>,
@@ -397,7 +398,7 @@ impl List {
         });
     }
 
-    /// Those that aren't told of come first the next time.
+    /// Reports the players. Those that found no room come first the next time.
     fn tell_players<R: Wait + Clock>(
         &mut self,
         lines: &Lines<R>,

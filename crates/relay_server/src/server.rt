@@ -1,24 +1,29 @@
 //! The listening thread, and the threads of connections.
 use crate::accepts::Accepts;
+use crate::access::Access;
 use crate::connection::{Outgoing, run_connection};
-use crate::events::{Events, Teller, has_to_be_told, tell_account};
+use crate::events::{Events, Teller, has_to_be_logged, log_account};
 use crate::gate::Gate;
 use crate::hearing::Hearing;
 use crate::helpers::Helpers;
 use crate::lines::Lines;
 use crate::options::Options;
+use crate::peers::Peers;
 use crate::published::PublishedMounts;
 use crate::refusal::Refusal;
-use crate::refusing::{Refusing, tell_unavailable};
+use crate::refusing::{Refusing, write_unavailable};
 use crate::reports::Reports;
 use crate::shared::{Shared, SharedBook, let_in};
 use crate::stopping::{LiveSockets, Stopping};
 use crate::watched::{Silence, Watched};
 use interleaved::{Reading, Writing};
 use log::{Log, warn};
+use networks::Address;
 use packet_ring::{Pass, Subscriber};
 use relay_accounts::{ConnectionEnd, Counts, Outcome};
-use relay_fanout::{Maker, RingMaker, Seat, Socket, Wire, Writers, WritingSide};
+use relay_fanout::{
+    Maker, RingMaker, Seat, Socket, Waits, Wire, Writers, WritingSide, limit_peers,
+};
 use session_state::{Moments, Words};
 use std::alloc::{AllocError, Global};
 use std::io::Eprint;
@@ -38,18 +43,18 @@ pub(crate) type SocketWriters = Writers<Subscriber, Writing<Socket>, Socket>;
 /// busy.
 const AFTER_NO_ACCEPT: u64 = 100;
 
-/// For how many milliseconds a server that stops waits for its connections' ends, and who tells something for room.
+/// For how many milliseconds a server that stops waits for its connections' ends, and a thread that logs for room.
 const STOPS: u64 = 2_000;
 
 /// How many connections may have a thread: a little more than a book's, since those that are closed after a last text have left
 /// it.
 const MOST_LIVE: u64 = 1_088;
 
-/// Serves connections of a listener: each is read by a thread of its own. Returns once as many as `options.accept` says
-/// were accepted and have ended; or once it is told to stop and `accept` fails, when all sockets are shut down, and what became of
-/// each connection is told as far as lines are read within two seconds; else never; or with an error where there is no memory or no thread for what all
-/// connections share. The book and the maker are of one number of seats; where they aren't, each ANNOUNCE is answered 503.
-/// Sessions expire by these moments, and each connection has them for itself.
+/// Serves connections of a listener: each is read by a thread of its own, and may do what `access` gives its address. Returns once
+/// `options.accept` connections were accepted and have ended; or after a stop, once `accept` fails: then all sockets are shut down,
+/// and what became of each connection is logged as far as lines are read within two seconds; else never. Returns an error if there
+/// is no memory or no thread for what all connections share. The book and the maker are of one number of seats; if they aren't,
+/// each ANNOUNCE is answered 503. Sessions expire by these moments, of which each connection has its own copy.
 pub fn run_server<R, L, V, G, N>(
     rt: R,
     alloc: Global,
@@ -61,6 +66,7 @@ pub fn run_server<R, L, V, G, N>(
     gate: G,
     moments: N,
     stopping: Arc<Stopping, Global>,
+    access: Access,
 ) -> Result<(), AllocError>
 where
     R: Threads + Wait + Clock + Log + Eprint + Copy + Send + Sync + 'static,
@@ -85,11 +91,14 @@ where
         reports,
         published: Arc::new(alloc, PublishedMounts::new(alloc)?)?,
         live: Arc::new(alloc, LiveSockets::new(alloc))?,
+        peers: Arc::new(alloc, Peers::new(alloc))?,
+        access,
         stopping,
         moments,
         silence: Silence {
             looks: options.read_wait,
             idle: options.idle,
+            silent: options.silent,
         },
         is_verbose: options.is_verbose,
     };
@@ -103,22 +112,24 @@ where
     Ok(())
 }
 
-/// What connections share, and where is told what becomes of them.
+/// What connections share, and where it is logged what becomes of them.
 pub(crate) struct Server<R, V, G, N> {
     pub(crate) shared: Arc<RingShared<V, G>, Global>,
-    /// `None` where each player has a thread of its own.
+    /// `None` if each player has a thread of its own.
     pub(crate) writers: Option<Arc<SocketWriters, Global>>,
     pub(crate) lines: Arc<Lines<R>, Global>,
     pub(crate) refusing: Arc<Refusing, Global>,
-    /// What is told of mounts and players while they go on. `None` for nothing.
+    /// What is reported of mounts and players while they go on. `None` for nothing.
     pub(crate) reports: Option<Arc<Reports, Global>>,
     published: Arc<PublishedMounts, Global>,
     live: Arc<LiveSockets, Global>,
+    peers: Arc<Peers, Global>,
+    access: Access,
     stopping: Arc<Stopping, Global>,
-    /// What tells each connection the time.
+    /// The clock, of which each connection has a copy.
     pub(crate) moments: N,
     silence: Silence,
-    /// Whether lines tell of each mount and each player.
+    /// Whether lines report each mount and each player.
     is_verbose: bool,
 }
 
@@ -132,6 +143,8 @@ impl<R: Drop, V: Drop, G: Drop, N: Drop> Drop for Server<R, V, G, N> {
             reports: _,
             published: _,
             live: _,
+            peers: _,
+            access: _,
             stopping: _,
             moments: _,
             silence: _,
@@ -141,7 +154,7 @@ impl<R: Drop, V: Drop, G: Drop, N: Drop> Drop for Server<R, V, G, N> {
 }
 
 impl<R: Wait + Clock, V: Drop, G: Drop, N> Server<R, V, G, N> {
-    /// Ends all connections, and waits until each has told what became of it, for two seconds at most.
+    /// Ends all connections, and waits until each has logged what became of it, for two seconds at most.
     fn stop(&self, rt: &R) {
         let most = Duration::from_millis(STOPS);
         self.lines.wait_for_room(most);
@@ -151,7 +164,7 @@ impl<R: Wait + Clock, V: Drop, G: Drop, N> Server<R, V, G, N> {
     }
 }
 
-/// The writers that are asked for, which aren't started yet.
+/// The writers that the options ask for, which aren't started yet.
 fn writers_of<V, G>(
     alloc: Global,
     shared: &RingShared<V, G>,
@@ -161,11 +174,15 @@ fn writers_of<V, G>(
         return Ok(None);
     }
     let wake_signal = Arc::try_clone(&shared.wake_signal)?;
-    let writers = Writers::new(alloc, options.writers, wake_signal, options.write_wait)?;
+    let waits = Waits {
+        stall: options.write_wait,
+        end: options.end_wait,
+    };
+    let writers = Writers::new(alloc, options.writers, wake_signal, waits)?;
     Ok(Some(Arc::new(alloc, writers)?))
 }
 
-/// The reports that are asked for, which nobody tells yet.
+/// The reports that the options ask for, which aren't written yet.
 fn reports_of<V, G>(
     alloc: Global,
     shared: &RingShared<V, G>,
@@ -178,7 +195,7 @@ fn reports_of<V, G>(
     Ok(Some(Arc::new(alloc, reports)?))
 }
 
-/// Accepts connections, for good or as many as are to be accepted.
+/// Accepts connections, for ever or as many as the options say.
 fn accept_all<R, L, V, G, N>(
     rt: R,
     alloc: Global,
@@ -216,16 +233,25 @@ where
     }
 }
 
-/// Sets a socket up: small writes leave at once, one that moves nothing for `write_wait` fails, so that a peer that reads nothing
-/// holds its threads no longer, and a read to which nothing comes for `read_wait` ends, so that silence is seen.
+/// Sets a socket up: small writes leave at once, a read to which nothing comes for `read_wait` ends, so that silence is seen, and a
+/// peer that acknowledges nothing is disconnected: by the system, which has no such limit for a socket that came while the listener
+/// was set up, or by a write that moves nothing.
 fn set_up(stream: &TcpStream, options: Options) {
     // Without them frames would only leave later, a stalled peer stay, and a silent one too.
     let _ = stream.set_nodelay(true);
-    let _ = stream.set_write_timeout(Some(Duration::from_millis(options.write_wait)));
+    let is_limited = limit_peers(stream).is_ok();
+    let wait = match options.write_wait {
+        None if is_limited => None,
+        None => Some(options.end_wait),
+        wait => wait,
+    };
+    if let Some(wait) = wait {
+        let _ = stream.set_write_timeout(Some(Duration::from_millis(wait)));
+    }
     let _ = stream.set_read_timeout(Some(Duration::from_millis(options.read_wait)));
 }
 
-/// Lets a connection come and starts its thread. Where one or the other is refused, it is told 503 and closed, and that is
+/// Lets a connection come and starts its thread. If one or the other is refused, 503 is written to it, it is closed, and that is
 /// counted.
 fn welcome<R, V, G, N>(
     rt: R,
@@ -243,17 +269,18 @@ where
     let wire = match Arc::new(alloc, Wire::new(stream)) {
         Ok(wire) => wire,
         Err(refused) => {
-            tell_unavailable(refused.value.stream());
+            write_unavailable(refused.value.stream());
             server.refusing.count(&rt, Refusal::OutOfMemory);
             return;
         }
     };
     if let Err(why) = take_in(rt, alloc, server, &wire, peer) {
-        server.refusing.refuse(&rt, why, Socket::new(wire));
+        server.refusing.refuse(&rt, why, peer, Socket::new(wire));
     }
 }
 
-/// Lets a connection come and starts its thread.
+/// Lets a connection come and starts its thread. The thread that accepts is the only one that adds connections: so what is counted
+/// of an address only falls meanwhile.
 fn take_in<R, V, G, N>(
     rt: R,
     alloc: Global,
@@ -269,6 +296,12 @@ where
 {
     if server.stopping.live() >= MOST_LIVE {
         return Err(Refusal::Full);
+    }
+    if server
+        .access
+        .is_full(&rt, &server.peers, Address::of(peer.ip()))
+    {
+        return Err(Refusal::AddressFull);
     }
     let conn = let_in(&rt, &server.shared.book)?;
     let started = start(rt, alloc, server, conn, wire, peer);
@@ -313,7 +346,13 @@ where
     let theirs = Arc::try_clone(&server.shared)?;
     let ending = server.ending(conn, peer)?;
     let events = Events::new(server.teller(conn, peer)?);
+    let address = Address::of(peer.ip());
+    let rights = server.access.rights(&server.peers, conn, address)?;
     server.live.add(&rt, conn, wire)?;
+    if let Err(refused) = server.peers.add(&rt, conn, address.group()) {
+        server.live.remove(&rt, conn);
+        return Err(Refusal::from(refused));
+    }
     server.stopping.come();
     let run = move || {
         let outgoing = Outgoing {
@@ -321,7 +360,9 @@ where
             wire: hang_up,
             writers,
         };
-        let outcome = run_connection(rt, alloc, theirs, conn, reader, outgoing, events, hearing);
+        let outcome = run_connection(
+            rt, alloc, theirs, conn, reader, outgoing, events, hearing, rights,
+        );
         ending.end(&rt, outcome);
     };
     let started = if server.shared.gate.may_start() {
@@ -333,6 +374,7 @@ where
         Ok(_) => Ok(()),
         Err(_) => {
             server.live.remove(&rt, conn);
+            server.peers.remove(&rt, conn);
             server.stopping.leave();
             Err(Refusal::NoThread)
         }
@@ -340,7 +382,7 @@ where
 }
 
 impl<R: Drop, V: Drop, G: Drop, N> Server<R, V, G, N> {
-    /// What a connection tells of what comes and goes.
+    /// What a connection reports of what comes and leaves.
     fn teller(&self, conn: u64, peer: SocketAddr) -> Result<Teller<R>, AllocError> {
         Ok(Teller {
             lines: Arc::try_clone(&self.lines)?,
@@ -359,6 +401,7 @@ impl<R: Drop, V: Drop, G: Drop, N> Server<R, V, G, N> {
             lines: Arc::try_clone(&self.lines)?,
             refusing: Arc::try_clone(&self.refusing)?,
             live: Arc::try_clone(&self.live)?,
+            peers: Arc::try_clone(&self.peers)?,
             stopping: Arc::try_clone(&self.stopping)?,
             conn,
             peer,
@@ -372,6 +415,7 @@ struct Ending<R> {
     lines: Arc<Lines<R>, Global>,
     refusing: Arc<Refusing, Global>,
     live: Arc<LiveSockets, Global>,
+    peers: Arc<Peers, Global>,
     stopping: Arc<Stopping, Global>,
     conn: u64,
     peer: SocketAddr,
@@ -384,6 +428,7 @@ impl<R: Drop> Drop for Ending<R> {
             lines: _,
             refusing: _,
             live: _,
+            peers: _,
             stopping: _,
             conn: _,
             peer: _,
@@ -393,22 +438,23 @@ impl<R: Drop> Drop for Ending<R> {
 }
 
 impl<R: Wait + Clock + Drop> Ending<R> {
-    /// Tells how the connection ended and what its packets came to. A server that stops has ended it itself.
+    /// Logs how the connection ended and what its packets came to. A server that stops has ended it itself.
     fn end(self, rt: &R, outcome: Outcome) {
         let mut outcome = outcome;
         if self.stopping.is_stopped() {
             outcome.end = ConnectionEnd::Done;
         }
-        if self.refusing.may_tell(rt, self.peer, outcome.end) {
+        if self.refusing.may_report_end(rt, self.peer, outcome.end) {
             tell_end(&*self.lines, self.peer, self.conn, &outcome);
         }
         tell_last_account(&*self.lines, self.peer, &outcome, self.is_verbose);
         self.live.remove(rt, self.conn);
+        self.peers.remove(rt, self.conn);
         self.stopping.leave();
     }
 }
 
-/// A warning if a connection ended by a fault, a failed read or write, silence, or because there was no memory or no thread.
+/// Logs a warning if a connection ended by a fault, a failed read or write, silence, or because there was no memory or no thread.
 pub fn tell_end<R: Log>(rt: &R, peer: SocketAddr, conn: u64, outcome: &Outcome) {
     let Outcome { end, part, .. } = outcome;
     if *end == ConnectionEnd::Done {
@@ -420,13 +466,13 @@ pub fn tell_end<R: Log>(rt: &R, peer: SocketAddr, conn: u64, outcome: &Outcome) 
     }
 }
 
-/// The account of a connection's last session, if it isn't told yet: if packets were lost or refused or waited for players, if the
-/// connection failed and left some unsent, or if each account is to be told.
+/// Logs the account of a connection's last session, if it isn't logged yet: if packets were lost or refused or waited for players, if
+/// the connection failed and left some unsent, or if each account is to be logged.
 pub fn tell_last_account<R: Log>(rt: &R, peer: SocketAddr, outcome: &Outcome, is_verbose: bool) {
     let Outcome { end, counts, .. } = outcome;
     let has_failed = *end != ConnectionEnd::Done && counts.unsent > 0;
     let is_asked = is_verbose && (outcome.has_account || *counts != Counts::new());
-    if !has_failed && !is_asked && !has_to_be_told(counts) {
+    if !has_failed && !is_asked && !has_to_be_logged(counts) {
         return;
     }
     let part = if outcome.has_account {
@@ -434,5 +480,5 @@ pub fn tell_last_account<R: Log>(rt: &R, peer: SocketAddr, outcome: &Outcome, is
     } else {
         None
     };
-    tell_account(rt, peer, part, counts);
+    log_account(rt, peer, part, counts);
 }

@@ -16,7 +16,7 @@ pub type SharedBook<P> = Arc<Mutex<Book<P>>, Global>;
 /// which come to some 500 KB each with all of their fields and the reply.
 const KEPT: usize = 40;
 
-/// A book for threads to share, in which nothing has happened. Each mount that is announced has so many seats.
+/// Makes a book for threads to share, in which nothing has happened. Each mount that is announced has `seats` seats.
 pub fn shared_book<P: Drop>(
     alloc: Global,
     seats: usize,
@@ -37,7 +37,7 @@ pub(crate) fn let_in<P: Drop>(rt: &impl Wait, book: &SharedBook<P>) -> Result<u6
     let came = book.connect();
     let retired = book.retired();
     drop(book);
-    // Without the lock: it may be the last to hold the descriptions of many mounts that have ended.
+    // Without the lock: `retired` may be the last owner of the descriptions of many mounts that have ended.
     drop(retired);
     came
 }
@@ -51,7 +51,7 @@ pub struct Shared<M: Maker, V, G> {
     pub(crate) gate: G,
     pub(crate) recording: RecordingMounts,
     pub(crate) wake_signal: Arc<WakeSignal, Global>,
-    /// For how long a player's connection may stay once the last packet of its mount was written. `None` for good.
+    /// For how long a player's connection may stay open after the last packet of its mount was written. `None` for ever.
     pub(crate) after_end: Option<Duration>,
 }
 
@@ -71,11 +71,11 @@ impl<M: Maker + Drop, V: Drop, G: Drop> Drop for Shared<M, V, G> {
 }
 
 impl<M: Maker + Drop, V: Drop, G: Drop> Shared<M, V, G> {
-    /// The book and the maker are of one number of seats: where they aren't, no offer is what the book asks for, and each
+    /// The book and the maker have the same number of seats. If they haven't, no offer is what the book asks for, and each
     /// ANNOUNCE is answered 503.
     ///
-    /// With `after_end` a player is told the end of its stream once the last packet of its mount was written, and is hung
-    /// up if it is still there so long after that.
+    /// With `after_end` a player is sent the end of its stream after the last packet of its mount, and is disconnected if it is
+    /// still connected that long after it.
     pub fn new(
         alloc: Global,
         maker: M,
@@ -97,15 +97,15 @@ impl<M: Maker + Drop, V: Drop, G: Drop> Shared<M, V, G> {
         })
     }
 
-    /// How many mounts are being recorded: those with a RECORD that haven't ended.
+    /// Returns how many mounts are being recorded: those with a RECORD that haven't ended.
     pub fn recorded(&self, rt: &impl Wait) -> usize {
         self.recording.len(rt)
     }
 }
 
 impl<M: Maker, V, G> Shared<M, V, G> {
-    /// Wakes the players of each mount that packets came to, until that is stopped: the work of a thread of its own. Packets
-    /// gather for so long before that.
+    /// Wakes the players of each mount that packets came to, until that is stopped. Packets gather for `gather` before that.
+    /// Runs on a thread of its own.
     pub fn wake_players<R: Wait + Clock>(&self, rt: &R, gather: Duration) {
         wake_players(rt, &self.wake_signal, &self.recording, gather);
     }

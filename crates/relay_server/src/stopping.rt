@@ -1,31 +1,31 @@
-//! The end of a server that is told to stop.
+//! The end of a server after a request to stop.
 use relay_fanout::{HangUp, Socket, Wire, low_half};
 use std::alloc::{AllocError, Global};
 use std::sync::atomic::{AtomicU64, Ordering};
 use std::sync::{Arc, Mutex, Wait};
 use std::time::{Clock, Duration, Instant};
 
-/// The bit of the word that says that a server is to stop. The bits below it count its connections.
+/// The bit of the word that is set when a server is to stop. The bits below it count its connections.
 const STOPPED: u64 = 1 << 31;
 
-/// How many connections of a server have a thread, and whether it is to stop: any thread may say so. Who says it ends the
-/// listener's accepting, too.
+/// How many connections of a server have a thread, and whether it is to stop. Any thread may stop it. A thread that does so
+/// also ends the listener's accepting.
 ///
-/// Both are one word, so that who waits for the last connection sees a stop.
+/// Both are one word, so that a thread that waits for the last connection sees a stop.
 #[derive(Drop)]
 pub struct Stopping {
     word: AtomicU64,
 }
 
 impl Stopping {
-    /// Nobody has come, and it goes on.
+    /// No connection has come, and no stop was requested.
     pub fn new() -> Stopping {
         Stopping {
             word: AtomicU64::new(0),
         }
     }
 
-    /// It accepts nobody any more, and ends.
+    /// Requests the stop: the server accepts no connection any more, and ends.
     pub fn stop(&self) {
         let _ = self
             .word
@@ -35,29 +35,29 @@ impl Stopping {
         self.word.wake_all();
     }
 
-    /// Whether it was told to stop.
+    /// Returns whether a stop was requested.
     pub fn is_stopped(&self) -> bool {
         self.word.load(Ordering::SeqCst) >= STOPPED
     }
 
-    /// How many connections have a thread.
+    /// Returns how many connections have a thread.
     pub(crate) fn live(&self) -> u64 {
         self.word.load(Ordering::SeqCst) % STOPPED
     }
 
-    /// One more has a thread.
+    /// Counts one more connection that has a thread.
     pub(crate) fn come(&self) {
         self.word.fetch_add(1, Ordering::SeqCst);
     }
 
-    /// One has ended. Who waits for the last of them is woken.
+    /// Counts a connection that has ended. If it was the last, the threads that wait for it are woken.
     pub(crate) fn leave(&self) {
         if self.word.fetch_sub(1, Ordering::SeqCst) % STOPPED == 1 {
             self.word.wake_all();
         }
     }
 
-    /// Waits until none has a thread, or it is told to stop.
+    /// Waits until no connection has a thread, or a stop is requested.
     pub(crate) fn wait(&self, rt: &impl Wait) {
         for _ in rt.forever() {
             let word = self.word.load(Ordering::SeqCst);
@@ -68,7 +68,7 @@ impl Stopping {
         }
     }
 
-    /// Waits until none has a thread, for at most so long. Tells how many have one yet.
+    /// Waits until no connection has a thread, for at most `most`. Returns how many still have one.
     pub(crate) fn wait_for_all<R: Wait + Clock>(&self, rt: &R, most: Duration) -> u64 {
         let began = Instant::now(rt).ok();
         for _ in rt.forever() {
@@ -106,7 +106,7 @@ impl Drop for LiveSockets {
 }
 
 impl LiveSockets {
-    /// None has a thread.
+    /// No connection has a thread.
     pub(crate) fn new(alloc: Global) -> LiveSockets {
         LiveSockets {
             sockets: Mutex::new(Vec::new(alloc)),
@@ -136,7 +136,7 @@ impl LiveSockets {
         }
     }
 
-    /// Ends both ways of each socket, so that no thread waits for its peer.
+    /// Shuts down both directions of each socket, so that no thread waits for its peer.
     pub(crate) fn shut_down(&self, rt: &impl Wait) {
         for live in self.sockets.lock(rt).iter() {
             live.socket.hang_up();

@@ -1,27 +1,35 @@
-//! Reads from a peer that may be silent.
+//! Reads from a peer that may be silent, or send more than it should.
 use crate::hearing::Hearing;
 use crate::shared::SharedBook;
+use pacing::ReadRate;
 use relay_accounts::ConnectionEnd;
 use session_state::{Act, Moments};
 use std::alloc::AllocError;
-use std::io;
 use std::io::{ErrorKind, Read};
 use std::sync::{Arc, Wait};
+use std::time::{Clock, Duration};
+use std::{io, thread};
 
 /// For how long a peer may be silent.
 #[derive(Clone, Copy, Debug, Drop)]
 pub struct Silence {
-    /// So often, in milliseconds, it is looked whether it was silent for too long.
+    /// After how many milliseconds of silence a peer is looked at, and again after as many.
     pub looks: u64,
-    /// Without a session it is hung up after so many milliseconds. `None` for never.
+    /// Without a session it is disconnected after this many milliseconds. `None` for never.
     pub idle: Option<u64>,
+    /// While it records it is disconnected after this many milliseconds. `None` leaves it to the expiry of its session.
+    pub silent: Option<u64>,
 }
 
-/// A reader of a peer whose reads end after a while where nothing comes. Such a read is made again, and no failure, until the
+/// For how many milliseconds a connection may keep a mount of which it sets up no track.
+pub(crate) const SETUP_WAIT: u64 = 60_000;
+
+/// A reader of a peer whose reads end after a while if nothing comes. Such a read is made again, and is no failure, until the
 /// connection is closing or was silent for too long: then its session has expired, or it has none. A read that a signal
 /// interrupts is made again too: the system doesn't, for a socket whose reads end after a while.
 ///
-/// Silence is looked for before a read and never behind one, so that what has just come is heard first.
+/// Silence is looked for before a read and never after one, so that what has just come is heard first. A connection that doesn't
+/// record is read at some 4 MB a second at most: its bytes wait in its peer's system meanwhile.
 pub struct Watched<R, P, N, S> {
     rt: R,
     inner: S,
@@ -31,6 +39,9 @@ pub struct Watched<R, P, N, S> {
     silence: Silence,
     /// When it was last looked.
     looked: u64,
+    rate: ReadRate,
+    /// For how many milliseconds nothing is read, before the next read.
+    rest: u64,
 }
 
 impl<R: Drop, P: Drop, N: Drop, S: Drop> Drop for Watched<R, P, N, S> {
@@ -43,6 +54,8 @@ impl<R: Drop, P: Drop, N: Drop, S: Drop> Drop for Watched<R, P, N, S> {
             hearing: _,
             silence: _,
             looked: _,
+            rate: _,
+            rest: _,
         } = self;
     }
 }
@@ -67,18 +80,20 @@ impl<R: Drop, P, N: Copy, S: Drop> Watched<R, P, N, S> {
             hearing,
             silence,
             looked,
+            rate: ReadRate::new(),
+            rest: 0,
         })
     }
 }
 
 impl<R: Wait, P: Drop, N: Moments + Drop, S> Watched<R, P, N, S> {
-    /// Whether it wasn't looked for so long.
+    /// Whether it is time to look.
     fn is_due(&self) -> bool {
         let now = self.hearing.watch().heard.now();
         now.saturating_sub(self.looked) >= self.silence.looks
     }
 
-    /// Fails where the connection was silent for too long.
+    /// Fails if the connection was silent for too long.
     fn look(&mut self) -> io::Result<()> {
         let now = self.hearing.watch().heard.now();
         self.looked = now;
@@ -91,23 +106,50 @@ impl<R: Wait, P: Drop, N: Moments + Drop, S> Watched<R, P, N, S> {
         }
     }
 
-    /// Ends the session where it has expired. Says how the connection ends, where its silence ends it: one whose session left
+    /// Ends the session if it has expired. Returns how the connection ends, if its silence ends it: one whose session left
     /// nothing to do stays.
     fn end_at(&self, now: u64) -> Option<ConnectionEnd> {
-        let last = self.hearing.watch().heard.last();
+        let watch = self.hearing.watch();
+        let last = watch.heard.last();
+        let silent = now.saturating_sub(last);
         let mut book = self.book.lock(&self.rt);
         if let Some(Act::Stop { .. } | Act::End) = book.expire(self.conn, last, now) {
             return Some(ConnectionEnd::Expired);
         }
-        let idle = self.silence.idle?;
-        let is_idle = now.saturating_sub(last) >= idle && book.session_of(self.conn).is_none();
-        is_idle.then_some(ConnectionEnd::Idle)
+        if watch.is_unset(now, SETUP_WAIT) {
+            return Some(ConnectionEnd::NotSetUp);
+        }
+        if watch.is_recording() && self.silence.silent.is_some_and(|most| silent >= most) {
+            return Some(ConnectionEnd::Silent);
+        }
+        let is_idle = self.silence.idle.is_some_and(|most| silent >= most);
+        (is_idle && book.session_of(self.conn).is_none()).then_some(ConnectionEnd::Idle)
     }
 }
 
-impl<R: Wait + Copy, P: Drop, N: Moments + Drop, S: Read> Read for Watched<R, P, N, S> {
+impl<R: Clock, P, N, S> Watched<R, P, N, S> {
+    /// Waits as long as nothing is to be read.
+    fn hold_back(&mut self) {
+        if self.rest > 0 {
+            thread::sleep(&self.rt, Duration::from_millis(self.rest));
+            self.rest = 0;
+        }
+    }
+
+    /// Counts what was read. While a connection records all of it is wanted.
+    fn count(&mut self, now: u64, read: &io::Result<usize>) {
+        if let Ok(count) = read {
+            if !self.hearing.watch().is_recording() {
+                self.rest = self.rate.read(now, *count as u64);
+            }
+        }
+    }
+}
+
+impl<R: Wait + Clock + Copy, P: Drop, N: Moments + Drop, S: Read> Read for Watched<R, P, N, S> {
     fn read(&mut self, buf: &mut [u8]) -> io::Result<usize> {
         let rt = self.rt;
+        self.hold_back();
         let mut looks = self.is_due();
         for _ in rt.forever() {
             if looks {
@@ -116,7 +158,7 @@ impl<R: Wait + Copy, P: Drop, N: Moments + Drop, S: Read> Read for Watched<R, P,
             let read = self.inner.read(buf);
             let now = self.hearing.now();
             match read {
-                // Where the process was held meanwhile, what waits is heard before it is looked again.
+                // If the process was held meanwhile, what waits is heard before it is looked again.
                 Err(error) if error.kind() == ErrorKind::Interrupted => {
                     self.looked = now;
                     looks = false;
@@ -124,7 +166,10 @@ impl<R: Wait + Copy, P: Drop, N: Moments + Drop, S: Read> Read for Watched<R, P,
                 Err(error) if is_late(&error) && !self.hearing.watch().is_closing() => {
                     looks = true;
                 }
-                read => return read,
+                read => {
+                    self.count(now, &read);
+                    return read;
+                }
             }
         }
         unreachable!()

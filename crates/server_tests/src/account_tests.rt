@@ -27,7 +27,7 @@ const PLAY: &[u8] = b"PLAY rtsp://h/a RTSP/1.0\nCSeq: 3\nSession: 00000002000000
 /// The reply to RECORD.
 const RECORDING: &[u8] = b"RTSP/1.0 200 OK\r\nCSeq: 3\r\nSession: 0000000100000002\r\n\r\n";
 
-/// What a publisher asks after its packets, and the end of the reply.
+/// The request of a publisher after its packets, and the end of the reply.
 const OPTIONS: &[u8] = b"OPTIONS * RTSP/1.0\nCSeq: 4\n\n";
 
 pub(crate) const PUBLIC_END: &[u8] = b", GET_PARAMETER\r\n\r\n";
@@ -41,7 +41,7 @@ pub(crate) const PACKETS: u64 = 40;
 /// More bytes than the reply to a player's SETUP has, and fewer than this and the reply to its PLAY.
 pub(crate) const SET_UP: usize = 150;
 
-/// The frames of a publisher, and its question after them.
+/// Returns the frames of a publisher, and its OPTIONS after them.
 fn packets(alloc: Global) -> Result<Vec<u8>, AllocError> {
     let mut all = Vec::new(alloc);
     for _ in 1..PACKETS {
@@ -52,7 +52,7 @@ fn packets(alloc: Global) -> Result<Vec<u8>, AllocError> {
     Ok(all)
 }
 
-/// A player that closes once it is let on.
+/// A player that closes after it is let on.
 fn player<R: Abort + Drop>(rt: R, alloc: Global, let_on: &Flag) -> Staged<R> {
     let said = joined(&rt, alloc, &[SETUP_OUT, PLAY]);
     let let_on = Arc::try_clone(let_on).expect(&rt, "a count of its users");
@@ -82,7 +82,7 @@ impl Stall {
     }
 }
 
-/// A line of a player that reads nothing after the reply to its PLAY until it is let on.
+/// The line to a player that reads nothing after the reply to its PLAY until it is let on.
 pub(crate) fn stalled_line<R: Wait + Clock + Abort + Drop>(
     rt: R,
     alloc: Global,
@@ -100,7 +100,7 @@ pub(crate) fn stalled_line<R: Wait + Clock + Abort + Drop>(
     line_in(rt, alloc, &watch.written, manner)
 }
 
-/// Connection 1, which records. Once it is let on it sends its packets, and then closes; where `stay` is given, once that is
+/// Connection 1, which records. After it is let on it sends its packets, and then closes; if `stay` is given, after that is
 /// set.
 pub(crate) fn recording<R>(
     rt: R,
@@ -123,7 +123,7 @@ where
     camera
 }
 
-/// Connection 2, which plays, and reads nothing more until its stall ends. Once it is let on it closes.
+/// Connection 2, which plays, and reads nothing more until its stall ends. After it is let on it closes.
 pub(crate) fn playing<R>(
     rt: R,
     alloc: Global,
@@ -141,7 +141,7 @@ where
     Serving { watch, thread }
 }
 
-/// How many packets a publisher has published up to its end, after which its mount isn't recorded.
+/// Returns how many packets a publisher has published up to its end, after which its mount isn't recorded.
 pub(crate) fn published<R: Threads + Wait + Abort>(
     rt: &R,
     shared: &SharedRings<CountedWords>,
@@ -153,7 +153,8 @@ pub(crate) fn published<R: Threads + Wait + Abort>(
     came.published
 }
 
-/// How many packets a player was sent or has lost up to its end. What it was sent was written after so many bytes of replies.
+/// Returns how many packets a player was sent or has lost up to its end. What it was sent was written after `replies` bytes of
+/// replies.
 pub(crate) fn accounted<R: Threads + Wait + Abort>(
     rt: &R,
     player: Serving,

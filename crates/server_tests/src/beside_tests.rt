@@ -17,7 +17,7 @@ use std::time::Clock;
 
 const PAUSED: &[u8] = b"RTSP/1.0 200 OK\r\nCSeq: 4\r\nSession: 000000010000abcd\r\n\r\n";
 
-/// Connection 1 has recorded a packet. Once it is let on, another one comes and a PAUSE.
+/// Connection 1 has recorded a packet. After it is let on, another packet and a PAUSE come.
 pub(crate) fn recording<R>(rt: R, alloc: Global, shared: &SharedRings<OneWord>) -> Serving
 where
     R: Threads + Wait + Clock + Abort + Copy + Drop + Send + 'static,

@@ -3,7 +3,7 @@ use packet_ring::Pass;
 use relay_server::{Seat, SharedBook, shared_book};
 use std::collections::hash_map::RandomState;
 
-/// With the next one that comes they are cut off, and its own is kept alone.
+/// When the next connection comes, they are cut off, and only its own entry is kept.
 #[test]
 fn a_servers_book_keeps_forty_entries(rt: HostRuntime) {
     let alloc = rt.alloc();

@@ -16,7 +16,7 @@ struct Shown {
 }
 
 impl Shown {
-    /// It shows the first of them next.
+    /// The clock shows the first of them next.
     fn new(rt: &impl Abort, alloc: Global, times: &'static [Option<u64>]) -> Shown {
         let next = Box::new(alloc, AtomicUsize::new(0)).expect(rt, "memory");
         Shown {

@@ -5,7 +5,7 @@ use crate::rings::Rings;
 use crate::serving::{book_of, line_to, sent_on, shared_over};
 use crate::words::OneWord;
 use interleaved::ListSource;
-use relay_server::{ConnectionEnd, Counts, Events, Hearing, run_connection};
+use relay_server::{ConnectionEnd, Counts, Events, Hearing, Rights, run_connection};
 use rtsp_message::Fault;
 use std::alloc::Global;
 use std::process::Abort;
@@ -18,7 +18,7 @@ use std::time::Clock;
 #[derive(Drop)]
 struct Peer {
     said: Vec<u8>,
-    /// Whether the read after all that is said fails; else it is the end.
+    /// Whether the read after all that is sent fails; else it is the end.
     read_fails: bool,
     /// How many bytes may be written.
     room: usize,
@@ -67,6 +67,7 @@ where
         sent_on(line),
         Events::none(),
         hearing,
+        Rights::all(),
     );
     let written = Vec::from_slice(alloc, bytes.lock(&rt).as_slice()).expect(&rt, "memory");
     let book = book.lock(&rt);
@@ -79,8 +80,8 @@ where
     }
 }
 
-/// A publisher's connection: a frame before it records is a stranger; then come one that is published, one that is too
-/// short for RTP, one on a channel of no track, and one that is too long for the ring; and a frame once it pauses.
+/// A publisher's connection. A frame before it records is a stranger. Then come one that is published, one that is too
+/// short for RTP, one on a channel of no track, and one that is too long for the ring. After it pauses one more comes.
 const INPUT: &[u8] =
     b"ANNOUNCE rtsp://h/a RTSP/1.0\nCSeq: 1\nContent-Length: 26\n\nv=0\nm=audio 0 RTP/AVP 0  \nSETUP rtsp://h/a/trackID=0 RTSP/1.0\nCSeq: 2\nTransport: RTP/AVP/TCP;interleaved=0-1;mode=record\n\n$\x00\x00\x01\x80RECORD rtsp://h/a RTSP/1.0\nCSeq: 3\nSession: 000000010000abcd\n\n$\x00\x00\x0c\x80\x60\x00\x07\x00\x00\x23\x28\x00\x00\x00\x00$\x00\x00\x02\x80\x60$\x07\x00\x01\x80$\x01\x00\x11aaaaaaaaaaaaaaaaaPAUSE rtsp://h/a RTSP/1.0\nCSeq: 4\nSession: 000000010000abcd\n\n$\x00\x00\x0c\x80\x60\x00\x07\x00\x00\x23\x28\x00\x00\x00\x00";
 
@@ -137,7 +138,8 @@ pub(crate) const RECORD: &[u8] =
 pub(crate) const PAUSE: &[u8] =
     b"PAUSE rtsp://h/a RTSP/1.0\nCSeq: 4\nSession: 000000010000abcd\n\n";
 
-const TEARDOWN: &[u8] = b"TEARDOWN rtsp://h/a RTSP/1.0\nCSeq: 3\nSession: 000000010000abcd\n\n";
+pub(crate) const TEARDOWN: &[u8] =
+    b"TEARDOWN rtsp://h/a RTSP/1.0\nCSeq: 3\nSession: 000000010000abcd\n\n";
 
 pub(crate) const IN_SESSION: &[u8] =
     b"RTSP/1.0 200 OK\r\nCSeq: 3\r\nSession: 000000010000abcd\r\n\r\n";
@@ -145,7 +147,7 @@ pub(crate) const IN_SESSION: &[u8] =
 /// A frame without data.
 const FRAME: &[u8] = b"$\x00\x00\x00";
 
-/// What is said, what is answered, and how it ends.
+/// What the peer sends, what is replied, and how the connection ends.
 #[derive(Clone, Copy)]
 struct Row {
     said: &'static [&'static [u8]],
@@ -207,7 +209,7 @@ const ROWS: [Row; 11] = [
         end: ConnectionEnd::StreamFault(Fault::BadLine),
         strangers: 0,
     },
-    // A ring that is refused memory is 503, and the next one is made.
+    // If a ring is refused memory, the reply is 503, and the next ring is made.
     Row {
         said: &[ANNOUNCE, ANNOUNCE, SETUP],
         read_fails: false,
@@ -256,7 +258,7 @@ const ROWS: [Row; 11] = [
         end: ConnectionEnd::Done,
         strangers: 0,
     },
-    // A failed read after a request that follows a TEARDOWN is a failure, whatever that request is answered.
+    // A failed read after a request that follows a TEARDOWN is a failure, whatever the reply to that request.
     Row {
         said: &[ANNOUNCE, SETUP, TEARDOWN, ANNOUNCE],
         read_fails: true,
@@ -268,7 +270,7 @@ const ROWS: [Row; 11] = [
     },
 ];
 
-/// A row's connection is answered as the row says, and ends so.
+/// Asserts that a row's connection gets the row's replies and has the row's end.
 fn row_holds<R>(rt: R, alloc: Global, place: usize, row: &Row)
 where
     R: Threads + Wait + Clock + RandomSource + Abort + Copy + Drop + Send + 'static,

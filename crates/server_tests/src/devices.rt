@@ -15,7 +15,7 @@ use std::{io, thread};
 /// An RTP packet with number 7 and timestamp 9,000, as a frame on channel 0.
 pub(crate) const FRAME: &[u8] = b"\x24\x00\x00\x0c\x80\x60\x00\x07\x00\x00\x23\x28\x00\x00\x00\x00";
 
-/// Bytes that are written, shared with who reads them.
+/// Bytes that are written, shared with the thread that reads them.
 pub(crate) type Bytes = Arc<Mutex<Vec<u8>>, Global>;
 
 /// A word by which a device is let on.
@@ -46,7 +46,7 @@ impl HangUp for Open {
     fn limit_waits(&self, _wait: u64) {}
 }
 
-/// Keeps what is written for whoever shares it.
+/// Keeps what is written for the threads that share it.
 #[derive(Drop)]
 pub(crate) struct Written<R> {
     pub(crate) rt: R,
@@ -57,10 +57,10 @@ pub(crate) struct Written<R> {
 /// How a device takes what is written.
 #[derive(Drop)]
 pub(crate) enum Manner {
-    /// So many bytes more, and then none.
+    /// It takes this number of bytes more, and then none.
     Room(usize),
-    /// After so many bytes none until it is let on, for which it says that it waits, and waits at most 10,000 turns of a
-    /// millisecond. It counts the writes.
+    /// After `free` bytes it takes none until it is let on. It sets `waits`, and waits at most 10,000 turns of a millisecond.
+    /// It counts the writes.
     Held {
         free: usize,
         waits: Flag,
@@ -70,7 +70,7 @@ pub(crate) enum Manner {
 }
 
 impl<R: Wait + Clock> Written<R> {
-    /// How many of so many bytes are taken, once they may be.
+    /// Returns how many of `len` bytes are taken, after it has waited for its turn.
     fn taken(&mut self, len: usize) -> usize
         ensures { result ≤ len }
     {
@@ -121,16 +121,16 @@ pub(crate) fn wait_for<R: Clock>(rt: &R, word: &AtomicBool) {
     }
 }
 
-/// Gives the one part, and the other once it is let on, for which it waits at most 10,000 turns of a millisecond.
+/// Gives the first part, and the second after it is let on, for which it waits at most 10,000 turns of a millisecond.
 #[derive(Drop)]
 pub(crate) struct Staged<R> {
     rt: R,
     first: Vec<u8>,
     then: Vec<u8>,
     let_on: Flag,
-    /// The end comes once this is set, too.
+    /// If there is one, the end comes after this is set, too.
     close: Option<Flag>,
-    /// By which its connection is served.
+    /// The clock by which its connection is served.
     pub(crate) clock: Dial,
     /// How many bytes were given.
     given: usize,
@@ -158,12 +158,12 @@ impl<R> Staged<R> {
         }
     }
 
-    /// Its connection is served by this clock.
+    /// The same, and its connection is served by this clock.
     pub(crate) fn timed(self, clock: Dial) -> Staged<R> {
         Staged { clock, ..self }
     }
 
-    /// What isn't given yet of the part that it stands in.
+    /// Returns what isn't given yet of the current part.
     fn rest(&self) -> &[u8] {
         let first = self.first.as_slice();
         if self.given < first.len() {
@@ -192,7 +192,7 @@ impl<R: Clock> Read for Staged<R> {
     }
 }
 
-/// These, one after another.
+/// Returns these parts, one after another.
 pub(crate) fn joined(rt: &impl Abort, alloc: Global, parts: &[&[u8]]) -> Vec<u8> {
     let mut all = Vec::new(alloc);
     for part in parts {
@@ -201,7 +201,7 @@ pub(crate) fn joined(rt: &impl Abort, alloc: Global, parts: &[&[u8]]) -> Vec<u8>
     all
 }
 
-/// Waits until at least so many bytes were written and this is the end of them, for at most 10,000 turns of a
+/// Waits until at least `least` bytes were written and `end` is the end of them, for at most 10,000 turns of a
 /// millisecond.
 pub(crate) fn has_come<R: Wait + Clock>(rt: &R, bytes: &Bytes, least: usize, end: &[u8]) -> bool {
     for _ in 0..10_000u32 {

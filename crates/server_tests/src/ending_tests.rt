@@ -9,7 +9,7 @@ use crate::slow_reply_tests::{ANSWERED, ASKS};
 use crate::words::OneWord;
 use interleaved::Reading;
 use relay_server::{
-    ConnectionEnd, Events, HangUp, Hearing, OpenGate, Outgoing, Shared, run_connection,
+    ConnectionEnd, Events, HangUp, Hearing, OpenGate, Outgoing, Rights, Shared, run_connection,
 };
 use std::alloc::Global;
 use std::process::Abort;
@@ -20,7 +20,7 @@ use std::thread;
 use std::thread::Threads;
 use std::time::{Clock, Duration};
 
-/// Notes when its peer is told the end of the stream, and how many bytes were written by then.
+/// Notes when its peer is sent the end of the stream, and how many bytes were written by then.
 #[derive(Drop)]
 struct Noting<R> {
     rt: R,
@@ -41,7 +41,8 @@ impl<R: Wait> HangUp for Noting<R> {
     fn limit_waits(&self, _wait: u64) {}
 }
 
-/// What two connections share over such a ring. Players are told the end of their mount and hung up ten seconds later.
+/// What two connections share over such a ring. Players are sent the end of the stream at the end of their mount, and are
+/// disconnected ten seconds later.
 fn shared<R: RandomSource + Wait + Abort>(
     rt: &R,
     alloc: Global,
@@ -54,7 +55,7 @@ fn shared<R: RandomSource + Wait + Abort>(
     Arc::new(alloc, shared.expect(rt, "memory")).expect(rt, "memory")
 }
 
-/// Connection 2, which plays, asks for nothing once it is let on, and closes once that is set.
+/// Connection 2, which plays, sends an empty GET_PARAMETER after it is let on, and closes after that is set.
 fn player<R>(
     rt: R,
     alloc: Global,
@@ -86,15 +87,18 @@ where
     let hearing = Hearing::new(alloc, Dial::STILL).expect(&rt, "memory");
     let thread = thread::spawn(&rt, move || {
         let (reader, events) = (Reading::new(source), Events::none());
-        run_connection(rt, alloc, shared, 2, reader, outgoing, events, hearing)
+        let rights = Rights::all();
+        run_connection(
+            rt, alloc, shared, 2, reader, outgoing, events, hearing, rights,
+        )
     })
     .expect(&rt, "a thread");
     assert!(rt; has_come(&rt, &watch.written, SET_UP, b"\r\n\r\n"));
     Serving { watch, thread }
 }
 
-/// The player's thread is held as it leaves the ended mount, until a write of the reply moves nothing. That goes on a while after
-/// the thread does.
+/// The player's thread is held as it leaves the ended mount, until a write of the reply makes no progress. The write goes on a
+/// while after the thread does.
 #[test]
 fn the_end_comes_after_the_reply_that_is_being_written(rt: HostRuntime) {
     let alloc = rt.alloc();

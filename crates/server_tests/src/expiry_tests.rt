@@ -19,8 +19,8 @@ use std::sync::{Arc, Wait};
 use std::thread::Threads;
 use std::time::Clock;
 
-/// What a connection is told that says this, by a clock that leaps when its fourth message comes: it was asked when the
-/// connection came, too.
+/// Returns what a connection that sends this is sent, by a clock that leaps when its fourth message comes. The clock is read
+/// when the connection comes, too.
 fn told<R>(
     rt: R,
     alloc: Global,
@@ -45,7 +45,7 @@ where
     )
 }
 
-/// A camera that is told this once it has recorded, and asks to pause and announces its mount again.
+/// Asserts that a camera that has recorded, and then sends a PAUSE and announces its mount again, is sent these replies.
 fn camera_is_told<R>(rt: R, alloc: Global, moment: u64, last: &[&[u8]])
 where
     R: Threads + Wait + Clock + RandomSource + Abort + Copy + Drop + Send + 'static,
@@ -64,7 +64,7 @@ where
 
 pub(crate) const PAUSED: &[u8] = b"RTSP/1.0 200 OK\r\nCSeq: 4\r\nSession: 000000010000abcd\r\n\r\n";
 
-/// An ANNOUNCE in a session: the state comes before whose name it is.
+/// An ANNOUNCE in a session: the state is checked before the owner of the name.
 const IN_READY: &[u8] =
     b"RTSP/1.0 455 Method Not Valid in This State\r\nCSeq: 1\r\nAllow: OPTIONS, DESCRIBE, GET_PARAMETER, SETUP, PLAY, RECORD, TEARDOWN\r\n\r\n";
 
@@ -78,7 +78,7 @@ fn a_cameras_mount_has_ended_with_its_session(rt: HostRuntime) {
     camera_is_told(rt, alloc, u64::MAX, &[NO_SESSION, ANNOUNCED]);
 }
 
-/// In the player's session, and in the next one of all.
+/// A PLAY in the player's session, and one in the server's next session.
 pub(crate) const PLAY: &[u8] = b"PLAY rtsp://h/a RTSP/1.0\nCSeq: 3\nSession: 000000020000abcd\n\n";
 
 pub(crate) const PLAY_AGAIN: &[u8] =
@@ -89,7 +89,7 @@ pub(crate) const PLAYER_PAUSE: &[u8] =
 
 const OPTIONS: &[u8] = b"OPTIONS * RTSP/1.0\nCSeq: 1\n\n";
 
-/// Connection 1, which records by this clock. Once it is let on it asks to pause, and once that is set it closes.
+/// Connection 1, which records by this clock. After it is let on it sends a PAUSE, and after that is set it closes.
 pub(crate) fn camera<R>(
     rt: R,
     alloc: Global,
@@ -113,7 +113,7 @@ where
     camera
 }
 
-/// Connection 2, which plays. Once it is let on it closes.
+/// Connection 2, which plays. After it is let on it closes.
 fn player<R>(rt: R, alloc: Global, shared: &SharedRings<OneWord>) -> Serving
 where
     R: Threads + Wait + Clock + Abort + Copy + Drop + Send + 'static,
@@ -128,7 +128,7 @@ where
     Serving { watch, thread }
 }
 
-/// Its player's frames have ended, so that nobody keeps its ring any more, though both connections stay.
+/// Its player's frames have ended, so that nothing keeps its ring any more, though both connections stay open.
 #[test]
 fn an_expired_mounts_player_meets_the_end(rt: HostRuntime) {
     let alloc = rt.alloc();
@@ -152,7 +152,7 @@ fn an_expired_mounts_player_meets_the_end(rt: HostRuntime) {
     assert!(rt; player.end(&rt).0 == ConnectionEnd::Done);
 }
 
-/// How many replies have a status.
+/// Returns how many replies have a status.
 pub(crate) fn replies(told: &[u8], head: &[u8]) -> usize {
     let mut count = 0usize;
     for at in 0..told.len() {
@@ -163,8 +163,8 @@ pub(crate) fn replies(told: &[u8], head: &[u8]) -> usize {
     count
 }
 
-/// A player asks to pause, sets up and plays once more, and is told so many good replies and so many of no session, up to this
-/// end.
+/// Asserts that a player that sends PAUSE, SETUP and PLAY once more gets this number of 200 replies and this number of 454
+/// replies, up to this end.
 fn player_is_told<R>(
     rt: R,
     alloc: Global,
@@ -196,7 +196,8 @@ where
     camera.end(&rt);
 }
 
-/// One whose session has expired is told so, and nothing after that. The only seat is free again when another one plays.
+/// A player whose session has expired is sent that reply, and nothing after it. The only seat is free again when another
+/// player plays.
 #[test]
 fn a_players_seat_is_free_once_its_session_has_expired(rt: HostRuntime) {
     let alloc = rt.alloc();

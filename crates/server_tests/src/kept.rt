@@ -13,7 +13,7 @@ use std::sync::{Arc, Mutex, Wait};
 use std::thread::Threads;
 use std::time::{Clock, Duration};
 
-/// What a line begins and ends with that tells of a mount's end. Its seconds stand between.
+/// The beginning and the end of the line that reports a mount's end. Its seconds are between them.
 const ENDED: &str = "[INFO  relay_server::events] 10.0.0.1:554: mount a has ended after ";
 
 const ONE_PACKET: &str =
@@ -28,7 +28,7 @@ pub(crate) struct Kept<R> {
 }
 
 impl<R: Abort> Kept<R> {
-    /// Nothing was written. The list stays as long as the program runs.
+    /// Nothing was written. The list exists while the program runs.
     pub(crate) fn new(rt: R, alloc: Global) -> Kept<R> {
         let lines = Box::new(alloc, Mutex::new(Vec::new(alloc))).expect(&rt, "memory");
         Kept {
@@ -49,7 +49,7 @@ pub(crate) fn lines_to<R: Drop>(
     Arc::new(alloc, lines).expect(rt, "memory")
 }
 
-/// All that a connection tells, in these lines.
+/// Returns the events of a connection that logs all, in these lines.
 pub(crate) fn verbose<R: Clock + Abort, L: Drop>(
     rt: &R,
     alloc: Global,
@@ -60,7 +60,7 @@ pub(crate) fn verbose<R: Clock + Abort, L: Drop>(
 }
 
 impl<R: Wait + Clock + Abort> Kept<R> {
-    /// Whether one of these lines tells that the mount of a peer has ended, with one packet.
+    /// Returns whether one of these lines reports that the mount of a peer has ended, with one packet.
     pub(crate) fn tells_an_end(&self, lines: &Lines<Kept<R>>) -> bool {
         lines.end();
         lines.write_all();

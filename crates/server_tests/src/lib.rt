@@ -1,6 +1,6 @@
 //! Tests of the server, over devices in memory, over what `relay_server` makes public.
 //!
-//! They stand in a crate of their own, so that the server isn't proved twice.
+//! They are in a crate of their own, so that the server isn't proved twice.
 #![tactic(auto)]
 
 #[cfg(test)]
@@ -21,6 +21,8 @@ mod ending_tests;
 mod expiry_tests;
 #[cfg(test)]
 mod kept;
+#[cfg(test)]
+mod limits_tests;
 #[cfg(test)]
 mod looking_tests;
 #[cfg(test)]

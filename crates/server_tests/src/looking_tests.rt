@@ -1,4 +1,4 @@
-//! How often silence is looked for, and what is known of a session that has ended by it.
+//! How often silence is checked, and what is known of a session that has ended by it.
 use crate::account_tests::SETUP_OUT;
 use crate::beside_tests::recording;
 use crate::connection_tests::{ANNOUNCED, OTHER};
@@ -23,11 +23,11 @@ use std::thread;
 use std::thread::Threads;
 use std::time::{Clock, Duration};
 
-/// So many reads return while it isn't looked, a tenth of a second after one another; the last of them two seconds after the connection
-/// came.
+/// How many reads return before silence is checked, a tenth of a second after one another. The last of them returns two seconds
+/// after the connection came.
 const READS: u64 = 21;
 
-/// What these reads give, and one more.
+/// Returns what these reads and one more give.
 fn each_tenth(rt: &impl Abort, alloc: Global) -> Vec<Step> {
     let mut steps: Vec<Step> = Vec::new(alloc);
     for turn in 0..READS.saturating_add(1) {
@@ -38,10 +38,10 @@ fn each_tenth(rt: &impl Abort, alloc: Global) -> Vec<Step> {
     steps
 }
 
-/// Reads once more than the book isn't needed for, and counts what has come.
+/// Makes one more read than those that don't need the book, and counts the reads that have returned.
 fn read_on<R, S>(mut watched: Watched<R, Seat<Owned<Pass>>, Dial, S>, reads: &Count)
 where
-    R: Wait + Copy,
+    R: Wait + Clock + Copy,
     S: Read + Drop,
 {
     let mut buffer = [0; 16];
@@ -52,7 +52,7 @@ where
     }
 }
 
-/// Whether so many reads have returned within 10,000 turns of a millisecond.
+/// Returns whether `want` reads have returned within 10,000 turns of a millisecond.
 fn come_to<R: Clock>(rt: &R, reads: &Count, want: u64) -> bool {
     for _ in 0..10_000u32 {
         if reads.load(Ordering::SeqCst) >= want {
@@ -85,13 +85,14 @@ fn the_book_is_asked_each_two_seconds_and_no_more_often(rt: HostRuntime) {
     assert!(rt; reads.load(Ordering::SeqCst) == READS + 1);
 }
 
-/// Only a session's end is looked for.
+/// Only a session's end is checked.
 const STAYS: Silence = Silence {
     looks: 2_000,
     idle: None,
+    silent: None,
 };
 
-/// A player's session is over, which leaves nothing to do; then it is set up to play another mount.
+/// A player's session is over, which leaves nothing to do. Then it sets up another mount.
 const TWO_MOUNTS: [Step; 3] = [
     (0, Ok(SETUP_OUT)),
     (60_000, SILENT),
@@ -103,7 +104,7 @@ const TWO_MOUNTS: [Step; 3] = [
     ),
 ];
 
-/// Connection 3, which has announced the other mount. Once it is let on it closes.
+/// Connection 3, which has announced the other mount. After it is let on it closes.
 fn other_camera<R>(rt: R, alloc: Global, shared: &SharedRings<OneWord>) -> Serving
 where
     R: Threads + Wait + Clock + Abort + Copy + Drop + Send + 'static,

@@ -1,5 +1,5 @@
-//! What stands where a connection is refused memory. `tools/refuse-memory` runs this once for each request that it makes, with
-//! that one refused.
+//! What holds if a connection is refused memory. `tools/refuse-memory` runs this once for each request for memory that it
+//! makes, with that one refused.
 use crate::expiry_tests::replies;
 use crate::moments::Still;
 use crate::rings::Rings;
@@ -12,7 +12,7 @@ use std::sync::Arc;
 /// Two requests.
 const ASKED: &[u8] = b"OPTIONS * RTSP/1.0\nCSeq: 1\n\nOPTIONS * RTSP/1.0\nCSeq: 2\n\n";
 
-/// Each request is answered, with 503 where its memory was refused, or the connection ends. Either way its place is left.
+/// Each request is answered, with 503 if its memory was refused, or the connection ends. Either way its place is free again.
 #[test]
 fn a_connection_that_is_refused_memory_leaves_its_place(rt: HostRuntime) {
     let alloc = rt.alloc();

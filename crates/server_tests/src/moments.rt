@@ -6,7 +6,7 @@ use std::alloc::Global;
 use std::process::Abort;
 use std::sync::atomic::{AtomicU64, Ordering};
 
-/// A clock that stands at 0.
+/// A clock that is always at 0.
 #[derive(Clone, Copy, Drop)]
 pub(crate) struct Still;
 
@@ -18,7 +18,7 @@ impl Moments for Still {
     }
 }
 
-/// A clock that stands at 0 when it is asked for the first so many times, and then at a moment for good.
+/// A clock that is at 0 for the first reads, and then at a moment for ever.
 #[derive(Clone, Copy, Drop)]
 pub(crate) struct Leaping {
     pub(crate) before: u64,
@@ -37,18 +37,18 @@ impl Moments for Leaping {
     }
 }
 
-/// A clock that is moved by hand. All copies of it are one clock, which stays as long as the program runs.
+/// A clock that is moved by hand. All copies of it are one clock, which exists while the program runs.
 #[derive(Clone, Copy, Drop)]
 pub(crate) struct Dial {
-    /// `None` where it stands at 0 for good.
+    /// `None` if it is always at 0.
     moment: Option<&'static AtomicU64>,
 }
 
 impl Dial {
-    /// It stands at 0 for good.
+    /// A clock that is always at 0.
     pub(crate) const STILL: Dial = Dial { moment: None };
 
-    /// It stands at 0.
+    /// The clock is at 0.
     pub(crate) fn new(rt: &impl Abort, alloc: Global) -> Dial {
         let moment = Box::new(alloc, AtomicU64::new(0)).expect(rt, "memory");
         Dial {
@@ -56,7 +56,7 @@ impl Dial {
         }
     }
 
-    /// It stands at this moment from now on.
+    /// Sets the clock to this moment.
     pub(crate) fn set(&self, moment: u64) {
         if let Some(cell) = self.moment {
             cell.store(moment, Ordering::SeqCst);

@@ -1,4 +1,4 @@
-//! What ANNOUNCEs offer, of which a few stand in no mount at once.
+//! The offers of ANNOUNCE requests, a few of which are unused at a time.
 use crate::connection_tests::{ANNOUNCE, ANNOUNCED, NO_RING};
 use crate::devices::joined;
 use crate::moments::Still;
@@ -11,7 +11,7 @@ use std::sync::Arc;
 use std::thread;
 use std::time::{Duration, Instant};
 
-/// How many may stand in no mount.
+/// How many offers may be unused.
 const MOST: u64 = 4;
 
 /// Each of them makes a ring of its own.
@@ -29,7 +29,7 @@ fn a_mount_leaves_its_offer_to_the_next(rt: HostRuntime) {
     }
 }
 
-/// As many are refused as may stand in no mount, and then one more.
+/// More rings are refused memory than offers may be unused, and then one is made.
 #[test]
 fn a_ring_that_cannot_be_made_is_no_offer(rt: HostRuntime) {
     let alloc = rt.alloc();
@@ -47,7 +47,7 @@ fn a_ring_that_cannot_be_made_is_no_offer(rt: HostRuntime) {
     assert!(rt; told_by(rt, alloc, &shared, 1, said, Still).as_slice() == want.as_slice());
 }
 
-/// A fifth one is waited for, and refused after two seconds; once one of the four stands in a mount, it may be made.
+/// A fifth one is waited for, and refused after two seconds. After a mount uses one of the four, it may be made.
 #[test]
 fn four_offers_may_stand_in_no_mount(rt: HostRuntime) {
     let offers: Offers<RingMaker> = Offers::new();

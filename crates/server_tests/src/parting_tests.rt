@@ -1,4 +1,4 @@
-//! What leaves together, and what is told and goes when a player or a mount leaves.
+//! What is sent together, and what is reported and freed when a player or a mount leaves.
 use crate::account_tests::{
     LAST, PACKETS, PUBLIC_END, Stall, accounted, playing, published, recording,
 };
@@ -16,7 +16,7 @@ use std::sync::{Arc, Wait};
 use std::thread;
 use std::time::Duration;
 
-/// Lengths of replies: of the shortest, about as many bytes as are gathered, and more.
+/// Lengths of replies: the shortest, lengths about that of the gathering buffer, and longer ones.
 const LENGTHS: [usize; 6] = [28, 32_767, 32_768, 32_769, 65_536, 100_000];
 
 /// After each call all of its reply is written, in a write for each 32,768 bytes and at most one more.
@@ -54,8 +54,8 @@ fn shared<R: RandomSource + Wait + Abort>(
     shared_over(rt, alloc, book_of(rt, alloc, 1, 2), rings, CountedWords(1))
 }
 
-/// Forty packets come while a write to their player moves nothing. Beside its two replies there are that write, and three for
-/// what waits, sixteen at a time.
+/// Forty packets come while a write to their player makes no progress. Beside its two replies there are that write, and three
+/// for what waits, sixteen packets at a time.
 #[test]
 fn sixteen_waiting_packets_leave_in_one_write(rt: HostRuntime) {
     let alloc = rt.alloc();
@@ -71,7 +71,7 @@ fn sixteen_waiting_packets_leave_in_one_write(rt: HostRuntime) {
     assert!(rt; end == ConnectionEnd::Done && counts.sent == PACKETS);
 }
 
-/// Its mount lives on, so that nothing but the waking thread tells it of the last packets.
+/// Its mount goes on, so that only the waking thread wakes it for the last packets.
 #[test]
 fn a_player_that_leaves_is_told_its_losses(rt: HostRuntime) {
     let alloc = rt.alloc();

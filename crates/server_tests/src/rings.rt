@@ -1,4 +1,4 @@
-//! Rings, of which some are refused memory, and the last owner of which is seen to go, for tests.
+//! Rings for tests. Some are refused memory, and a flag is set when a ring's last owner is dropped.
 use crate::devices::{Count, Flag, count, flag};
 use cursor::{Account, Feed, Left, Lend, Refused, Taken, Tap, Visit};
 use packet_ring::{Pass, Publisher, Subscriber};
@@ -10,7 +10,7 @@ use std::sync::Arc;
 use std::sync::atomic::Ordering;
 use std::thread;
 
-/// Who leaves a ring for good says so, and waits until it is let on, for at most ten million turns.
+/// A thread that leaves a ring for ever sets a flag, and waits until it is let on, for at most ten million turns.
 #[derive(Drop)]
 pub(crate) struct Parting {
     pub(crate) has_come: Flag,
@@ -18,7 +18,7 @@ pub(crate) struct Parting {
 }
 
 impl Parting {
-    /// Nobody has come.
+    /// No thread has come.
     pub(crate) fn new(rt: &impl Abort, alloc: Global) -> Parting {
         Parting {
             has_come: flag(rt, alloc),
@@ -26,7 +26,7 @@ impl Parting {
         }
     }
 
-    /// The same once more.
+    /// Returns one more handle of the same.
     fn copy(&self) -> Result<Parting, AllocError> {
         Ok(Parting {
             has_come: Arc::try_clone(&self.has_come)?,
@@ -45,7 +45,7 @@ impl Parting {
     }
 }
 
-/// Sets its word when it goes.
+/// Sets its flag when it is dropped.
 struct Owner {
     gone: Flag,
     parting: Option<Parting>,
@@ -61,7 +61,7 @@ impl Drop for Owner {
     }
 }
 
-/// What owns a ring with others, and goes with the last of them as its block does.
+/// An owner of a ring among others. The ring is freed with the last of them.
 #[derive(Drop)]
 pub(crate) struct Owned<T> {
     inner: T,
@@ -137,16 +137,16 @@ pub(crate) struct Rings {
     maker: RingMaker,
     /// How many were made or refused.
     pub(crate) made: Count,
-    /// Set once a ring has no owner any more.
+    /// Set when a ring has no owner any more.
     pub(crate) gone: Flag,
     /// Which ones are refused, counted from 0.
     refused: Range<u64>,
-    /// Where who leaves one for good waits.
+    /// Where a thread that leaves a ring for ever waits.
     parting: Option<Parting>,
 }
 
 impl Rings {
-    /// Rings of so many seats that keep so many packets of at most 16 bytes, none of which is refused.
+    /// Rings of `seats` seats that keep `keep` packets of at most 16 bytes, none of which is refused.
     pub(crate) fn keeping(rt: &impl Abort, alloc: Global, seats: usize, keep: usize) -> Rings {
         Rings {
             maker: RingMaker::new(keep.clamp(1, 4095), seats.min(1024), 16),
@@ -157,7 +157,7 @@ impl Rings {
         }
     }
 
-    /// Rings of so many seats that keep four packets.
+    /// Rings of `seats` seats that keep four packets.
     pub(crate) fn of(rt: &impl Abort, alloc: Global, seats: usize) -> Rings {
         Rings::keeping(rt, alloc, seats, 4)
     }
@@ -170,7 +170,7 @@ impl Rings {
         }
     }
 
-    /// Rings of one seat, and who leaves one for good waits there.
+    /// Rings of one seat. A thread that leaves one for ever waits at `parting`.
     pub(crate) fn holding(rt: &impl Abort, alloc: Global, parting: &Parting) -> Rings {
         Rings {
             parting: Some(parting.copy().expect(rt, "a count of its users")),

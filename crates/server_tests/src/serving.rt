@@ -5,8 +5,8 @@ use crate::words::OneWord;
 use interleaved::{ListSource, Reading, Sink, Source, Writing};
 use packet_ring::Pass;
 use relay_server::{
-    ConnectionEnd, Counts, Events, Hearing, OpenGate, Outcome, Outgoing, Seat, Shared, SharedBook,
-    WritingSide, run_connection,
+    ConnectionEnd, Counts, Events, Hearing, OpenGate, Outcome, Outgoing, Rights, Seat, Shared,
+    SharedBook, WritingSide, run_connection,
 };
 use session_lock::Book;
 use session_state::{Moments, Words};
@@ -23,7 +23,7 @@ use std::time::Clock;
 /// What connections over rings share.
 pub(crate) type SharedRings<V> = Arc<Shared<Rings, V, OpenGate>, Global>;
 
-/// A book of mounts with so many seats, and of so many connections.
+/// A book of mounts with `seats` seats, and of `connections` connections.
 pub(crate) fn book_of<R: RandomSource + Wait + Abort>(
     rt: &R,
     alloc: Global,
@@ -51,7 +51,7 @@ pub(crate) fn shared_over<V: Words + Drop>(
     Arc::new(alloc, shared).expect(rt, "memory")
 }
 
-/// A line to a peer that takes so many bytes.
+/// A line to a peer that takes `room` bytes.
 pub(crate) fn line_to<R: Wait + Clock + Abort + Drop>(
     rt: R,
     alloc: Global,
@@ -80,7 +80,7 @@ pub(crate) struct Watch {
 }
 
 impl Watch {
-    /// Nothing is written, and the peer waits.
+    /// Nothing is written yet, and the peer waits.
     pub(crate) fn new(rt: &impl Abort, alloc: Global) -> Watch {
         let written = Arc::new(alloc, Mutex::new(Vec::new(alloc))).expect(rt, "memory");
         let let_on = flag(rt, alloc);
@@ -96,7 +96,7 @@ pub(crate) struct Serving {
 }
 
 impl Serving {
-    /// Lets the peer on, and waits for the connection's end. How it ended, and what was written.
+    /// Lets the peer on, and waits for the connection's end. Returns how it ended, what was counted and what was written.
     pub(crate) fn end<R: Threads>(self, rt: &R) -> (ConnectionEnd, Counts, Bytes) {
         let Serving { watch, thread } = self;
         let Watch { written, let_on } = watch;
@@ -115,14 +115,14 @@ pub(crate) fn sent_on<T, W: Sink>(line: WritingSide<W>) -> Outgoing<T, W, Open> 
     }
 }
 
-/// How a connection has ended, and what it was told.
+/// How a connection has ended, and what it was sent.
 #[derive(Drop)]
 pub(crate) struct Served {
     pub(crate) outcome: Outcome,
     pub(crate) told: Vec<u8>,
 }
 
-/// Serves a connection in this thread, whose peer says what this source gives and takes all that is written.
+/// Serves a connection in this thread. Its peer sends what this source gives, and takes all that is written.
 pub(crate) fn serve_here<R, S, N>(
     rt: R,
     alloc: Global,
@@ -131,6 +131,26 @@ pub(crate) fn serve_here<R, S, N>(
     source: S,
     events: Events<R>,
     hearing: Hearing<N>,
+) -> Served
+where
+    R: Threads + Wait + Clock + Abort + Copy + Drop + Send + 'static,
+    S: Source + Drop,
+    N: Moments + Drop,
+{
+    let rights = Rights::all();
+    serve_with(rt, alloc, shared, conn, source, events, hearing, rights)
+}
+
+/// The same of a connection that has these rights.
+pub(crate) fn serve_with<R, S, N>(
+    rt: R,
+    alloc: Global,
+    shared: &SharedRings<OneWord>,
+    conn: u64,
+    source: S,
+    events: Events<R>,
+    hearing: Hearing<N>,
+    rights: Rights,
 ) -> Served
 where
     R: Threads + Wait + Clock + Abort + Copy + Drop + Send + 'static,
@@ -149,12 +169,13 @@ where
         sent_on(line),
         events,
         hearing,
+        rights,
     );
     let told = Vec::from_slice(alloc, bytes.lock(&rt).as_slice()).expect(&rt, "memory");
     Served { outcome, told }
 }
 
-/// What a connection is told that says this by such a clock, and closes.
+/// Returns what a connection is sent that sends this, by such a clock, and closes.
 pub(crate) fn told_by<R, N>(
     rt: R,
     alloc: Global,
@@ -170,7 +191,7 @@ where
     told_until(rt, alloc, shared, conn, said, clock, ConnectionEnd::Done)
 }
 
-/// The same of one that ends so.
+/// The same for a connection with this end.
 pub(crate) fn told_until<R, N>(
     rt: R,
     alloc: Global,
@@ -217,12 +238,13 @@ where
             sent_on(line),
             Events::none(),
             hearing,
+            Rights::all(),
         )
     })
     .expect(&rt, "a thread")
 }
 
-/// Serves connection 1, whose peer says the one part, and the other once it is let on.
+/// Serves connection 1, whose peer sends the first part, and the second after it is let on.
 pub(crate) fn serve_camera<R, V>(
     rt: R,
     alloc: Global,
@@ -240,7 +262,7 @@ where
     serve_source(rt, alloc, shared, watch, source)
 }
 
-/// Serves connection 1, whose peer says what this source gives.
+/// Serves connection 1, whose peer sends what this source gives.
 pub(crate) fn serve_source<R, V>(
     rt: R,
     alloc: Global,

@@ -1,4 +1,4 @@
-//! Connections whose silence is looked for while they are read.
+//! Connections whose silence is checked while they are read.
 use crate::connection_tests::{
     ANNOUNCE, ANNOUNCED, IN_SESSION, NO_RING, PAUSE, RECORD, SET_UP, SETUP,
 };
@@ -22,13 +22,14 @@ use std::sync::{Arc, Wait};
 use std::thread::Threads;
 use std::time::Clock;
 
-/// It is looked for every two seconds, and a connection without a session is hung up after a minute.
+/// Silence is checked every two seconds, and a connection without a session is disconnected after a minute.
 pub(crate) const SILENCE: Silence = Silence {
     looks: 2_000,
     idle: Some(60_000),
+    silent: None,
 };
 
-/// How a connection has ended and at which moment, and what it was told.
+/// How a connection has ended and at which moment, and what it was sent.
 #[derive(Drop)]
 struct Ended {
     end: ConnectionEnd,
@@ -36,7 +37,7 @@ struct Ended {
     told: Vec<u8>,
 }
 
-/// Serves connection 1 of this book, from which this comes, and then that.
+/// Serves connection 1 of this book, which sends `first`, and then `then`.
 fn serve_over<R>(
     rt: R,
     alloc: Global,
@@ -62,7 +63,7 @@ where
     }
 }
 
-/// Serves a connection from which this comes, and then that.
+/// Serves a connection that sends `first`, and then `then`.
 fn serve<R>(rt: R, alloc: Global, first: &[Step], then: &[Step]) -> Ended
 where
     R: Threads + Wait + Clock + RandomSource + Abort + Copy + Drop + Send + 'static,
@@ -76,7 +77,7 @@ where
 /// A camera that records.
 const RECORDS: [Step; 3] = [(0, Ok(ANNOUNCE)), (0, Ok(SETUP)), (0, Ok(RECORD))];
 
-/// What comes, how the connection ends and at which moment, and what it is told.
+/// What the peer sends, how the connection ends and at which moment, and what the peer is sent.
 #[derive(Clone, Copy)]
 struct Row {
     first: &'static [Step],
@@ -86,7 +87,7 @@ struct Row {
     told: &'static [&'static [u8]],
 }
 
-/// A connection ends as each row says.
+/// Asserts that a connection ends as in each row.
 fn rows_hold<R>(rt: R, alloc: Global, rows: &[Row])
 where
     R: Threads + Wait + Clock + RandomSource + Abort + Copy + Drop + Send + 'static,
@@ -131,7 +132,8 @@ fn silence_is_looked_for_before_a_read_and_not_behind_it(rt: HostRuntime) {
     rows_hold(rt, rt.alloc(), &SILENT_CAMERAS);
 }
 
-/// The second ring is refused, so that an ANNOUNCE at 40,000 is answered 503, and a PAUSE 59,999 milliseconds later in the session.
+/// The second ring is refused, so that an ANNOUNCE at 40,000 is answered 503, and a PAUSE 59,999 milliseconds later in the
+/// session.
 #[test]
 fn a_request_without_an_answer_of_the_book_is_heard(rt: HostRuntime) {
     let alloc = rt.alloc();
@@ -150,13 +152,13 @@ fn a_request_without_an_answer_of_the_book_is_heard(rt: HostRuntime) {
     assert!(rt; served.told.as_slice() == told.as_slice());
 }
 
-/// What comes when a camera's time is over, and how its connection ends: in silence, and by a request.
+/// What comes when a camera's time is over, and how its connection ends: silence, and a request.
 const OVER: [(Step, ConnectionEnd); 2] = [
     ((60_000, SILENT), ConnectionEnd::Expired),
     ((60_000, Ok(PAUSE)), ConnectionEnd::Done),
 ];
 
-/// The mount isn't among those that are recorded when its connection has ended, and a line tells its end.
+/// The mount isn't among those that are recorded when its connection has ended, and a line reports its end.
 #[test]
 fn an_expired_mount_is_not_recorded(rt: HostRuntime) {
     let alloc = rt.alloc();
@@ -185,7 +187,7 @@ fn an_expired_mount_is_not_recorded(rt: HostRuntime) {
 /// The moment at which the last piece has come.
 const LAST: u64 = 70_000;
 
-/// How a connection ends and at which moment, from which this comes first, then an opening, and then a piece each second for
+/// Returns how a connection ends and at which moment. It sends `first`, then an opening, and then a piece each second for
 /// seventy seconds.
 fn ends_after<R>(
     rt: R,
@@ -206,8 +208,8 @@ where
     (served.end, served.moment)
 }
 
-/// What opens a message or frame that never comes whole, and a piece more of it: of a line, a head, a body and a frame. Blank
-/// lines are none either.
+/// The beginning of a message or frame that never comes whole, and one more piece of it: of a line, a head, a body and a frame.
+/// Blank lines are no message either.
 const PIECES: [(&[u8], &[u8]); 5] = [
     (b"O", b"O"),
     (b"OPTIONS * RTSP/1.0\nCSeq: 1\n", b"A: b\n"),
@@ -244,7 +246,7 @@ const BAD_RTP: &[u8] = b"$\x00\x00\x02\x80\x60";
 /// Frames that come from a recording camera: each keeps its session, whatever becomes of it.
 const FRAMES: [&[u8]; 5] = [FRAME, REPORT, TOO_LONG, STRANGER, BAD_RTP];
 
-/// Where nothing else comes.
+/// Nothing else comes.
 #[test]
 fn frames_of_each_fate_keep_a_recording_session(rt: HostRuntime) {
     let alloc = rt.alloc();
@@ -254,8 +256,8 @@ fn frames_of_each_fate_keep_a_recording_session(rt: HostRuntime) {
     }
 }
 
-/// What comes in one read with a request when the time is over, and its answer. A frame that is offered to no mount is heard
-/// before that request, and blank lines are no message.
+/// What comes in one read with a request when the time is over, and the reply to it. A frame that is offered to no mount is
+/// heard before that request, and blank lines are no message.
 const UNOFFERED: [(&[u8], &[u8]); 3] = [
     (
         b"$\x07\x00\x01\x80PAUSE rtsp://h/a RTSP/1.0\nCSeq: 4\nSession: 000000010000abcd\n\n",
@@ -280,8 +282,8 @@ fn frames_that_nobody_records_are_heard_before_the_next_request(rt: HostRuntime)
     }
 }
 
-/// Reads are interrupted before a request and in the middle of it. One is when the time is over, and what has waited is heard
-/// before silence is looked for. One fails otherwise.
+/// Reads are interrupted before a request and in the middle of it. One is interrupted when the time is over, and what has
+/// waited is heard before silence is checked. One fails with another error.
 const INTERRUPTED: [Row; 3] = [
     Row {
         first: &RECORDS,
@@ -316,7 +318,8 @@ fn only_an_interrupted_read_is_made_again(rt: HostRuntime) {
     rows_hold(rt, rt.alloc(), &INTERRUPTED);
 }
 
-/// A camera whose reads are interrupted so often, each so many milliseconds after the one before, and what comes then.
+/// Serves a camera whose reads are interrupted `times` times, `apart` milliseconds after one another, and which sends `last`
+/// then.
 fn serve_interrupted<R>(rt: R, alloc: Global, times: u64, apart: u64, last: Step) -> Ended
 where
     R: Threads + Wait + Clock + RandomSource + Abort + Copy + Drop + Send + 'static,
@@ -330,8 +333,8 @@ where
     serve(rt, alloc, &RECORDS, then.as_slice())
 }
 
-/// They come each second, more often than it is looked, until the time is over. What waits then is heard first; and where nothing
-/// does, the first read that is left alone finds that the session has expired.
+/// Interruptions come each second, more often than silence is checked, until the time is over. What waits then is heard first.
+/// If nothing waits, the first read that isn't interrupted finds that the session has expired.
 #[test]
 fn interruptions_put_the_look_off_and_keep_nothing(rt: HostRuntime) {
     let alloc = rt.alloc();
@@ -343,15 +346,15 @@ fn interruptions_put_the_look_off_and_keep_nothing(rt: HostRuntime) {
     assert!(rt; silent.moment == 72_000);
 }
 
-/// A camera that comes to record when the clock has gone on.
+/// A camera that begins to record when the clock has gone on.
 const RECORDS_LATE: [Step; 3] = [
     (1_000_000, Ok(ANNOUNCE)),
     (1_000_000, Ok(SETUP)),
     (1_000_000, Ok(RECORD)),
 ];
 
-/// The clock goes back. Without a session nothing comes then; or a frame, and the clock goes on. A camera asks to pause at once,
-/// or in the last moment of its session.
+/// The clock goes back. Without a session nothing comes then; or a frame comes, and the clock goes on. A camera sends a PAUSE
+/// at once, or in the last moment of its session.
 const BACK: [Row; 4] = [
     Row {
         first: &[(1_000_000, Ok(ANNOUNCE))],

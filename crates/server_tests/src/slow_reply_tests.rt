@@ -14,7 +14,7 @@ use crate::words::OneWord;
 use interleaved::{Reading, TryWrite, Writing};
 use packet_ring::Pass;
 use relay_server::{
-    ConnectionEnd, Events, Hearing, Seat, SharedBook, Watched, WritingSide, run_connection,
+    ConnectionEnd, Events, Hearing, Rights, Seat, SharedBook, Watched, WritingSide, run_connection,
 };
 use session_state::Moments;
 use std::alloc::Global;
@@ -27,20 +27,20 @@ use std::sync::{Arc, Mutex, Wait};
 use std::thread::Threads;
 use std::time::Clock;
 
-/// The moment from which on a socket takes a byte at a time. The request comes then whose reply is slow.
+/// The moment from which a socket takes a byte at a time. The request with the slow reply comes then.
 const SLOW_FROM: u64 = 1_000;
 
 /// How a socket takes the bytes of a slow reply.
 #[derive(Clone, Copy, Drop)]
 struct Slow {
-    /// For each of them it takes so many milliseconds.
+    /// How many milliseconds it takes for each of them.
     pace: u64,
-    /// After so many bytes it takes all that come, or none.
+    /// After how many bytes it takes all that come, or none.
     bytes: usize,
     fails: bool,
 }
 
-/// Keeps what is written for whoever shares it, and moves its clock on.
+/// Keeps what is written for the threads that share it, and moves its clock on.
 #[derive(Drop)]
 struct Dripping<R> {
     rt: R,
@@ -50,7 +50,7 @@ struct Dripping<R> {
 }
 
 impl<R> Dripping<R> {
-    /// How many of so many bytes are taken.
+    /// Returns how many of `len` bytes are taken.
     fn taken(&mut self, len: usize) -> usize
         ensures { result ≤ len }
     {
@@ -81,7 +81,7 @@ impl<R: Wait> Write for Dripping<R> {
 
 impl<R: Wait> TryWrite for Dripping<R> {}
 
-/// Serves this connection of a book, from which this comes, and then that.
+/// Serves this connection of a book, which sends `first`, and then `then`.
 fn serve<R>(
     rt: R,
     alloc: Global,
@@ -114,6 +114,7 @@ where
         sent_on(WritingSide::new(alloc, Writing::new(sink), 16)),
         Events::none(),
         hearing,
+        Rights::all(),
     );
     Served {
         outcome,
@@ -121,7 +122,7 @@ where
     }
 }
 
-/// What comes after the slow reply, how the connection ends, and what it is told from that reply on.
+/// What comes after the slow reply, how the connection ends, and what it is sent from that reply on.
 #[derive(Clone, Copy)]
 struct Row {
     slow: Slow,
@@ -146,14 +147,14 @@ const TOO_SLOW: Slow = Slow {
     fails: false,
 };
 
-/// Its front is written when the time is over, and nothing more.
+/// Its beginning is written when the time is over, and nothing more.
 const CUT: Slow = Slow {
     pace: 2_000,
     bytes: 40,
     fails: true,
 };
 
-/// A camera that records, and asks for nothing in its session.
+/// A camera that records, and sends an empty GET_PARAMETER in its session.
 const CAMERA: [Step; 4] = [
     (0, Ok(ANNOUNCE)),
     (0, Ok(SETUP)),
@@ -199,7 +200,7 @@ const CAMERAS: [Row; 5] = [
     },
 ];
 
-/// Its name is free once its connection has ended.
+/// Its name is free after its connection has ended.
 #[test]
 fn a_camera_is_told_its_slow_reply_whole(rt: HostRuntime) {
     let alloc = rt.alloc();
@@ -225,18 +226,50 @@ fn a_camera_is_told_its_slow_reply_whole(rt: HostRuntime) {
     }
 }
 
-/// What asks for nothing in a player's session.
+/// A mount without a SETUP, and two requests that come in one piece.
+const ANNOUNCES: [Step; 2] = [
+    (0, Ok(ANNOUNCE)),
+    (
+        SLOW_FROM,
+        Ok(b"OPTIONS * RTSP/1.0\nCSeq: 2\n\nOPTIONS * RTSP/1.0\nCSeq: 3\n\n"),
+    ),
+];
+
+/// The first reply is written a minute after the ANNOUNCE.
+const MINUTE: Row = Row {
+    slow: Slow {
+        pace: 1_000,
+        bytes: 59,
+        fails: false,
+    },
+    then: &[],
+    end: ConnectionEnd::NotSetUp,
+    told: &[],
+};
+
+#[test]
+fn a_name_is_given_back_between_requests_of_one_piece(rt: HostRuntime) {
+    let alloc = rt.alloc();
+    let book = book_of(&rt, alloc, 1, 1);
+    let theirs = Arc::try_clone(&book).expect(&rt, "a count of its users");
+    let shared = shared_over(&rt, alloc, theirs, Rings::of(&rt, alloc, 1), OneWord);
+    let served = serve(rt, alloc, &book, shared, 1, &ANNOUNCES, &MINUTE);
+    assert!(rt; served.outcome.end == MINUTE.end, "{}", served.outcome.end);
+    assert!(rt; replies(served.told.as_slice(), b"RTSP/1.0 200 ") == 2);
+}
+
+/// An empty GET_PARAMETER in a player's session.
 pub(crate) const ASKS: &[u8] =
     b"GET_PARAMETER rtsp://h/a RTSP/1.0\nCSeq: 4\nSession: 000000020000abcd\n\n";
 
-/// A player that asks for nothing in its session.
+/// A player that sends an empty GET_PARAMETER in its session.
 const PLAYER: [Step; 3] = [(0, Ok(SETUP_OUT)), (0, Ok(PLAY)), (SLOW_FROM, Ok(ASKS))];
 
 /// The reply to it, and to a PAUSE.
 pub(crate) const ANSWERED: &[u8] =
     b"RTSP/1.0 200 OK\r\nCSeq: 4\r\nSession: 000000020000abcd\r\n\r\n";
 
-/// As the camera's, but one that played is told that it has no session, and then its connection ends.
+/// As the camera's, but a player's request gets the reply that it has no session, and then its connection ends.
 const PLAYERS: [Row; 4] = [
     Row {
         slow: IN_TIME,
@@ -264,7 +297,8 @@ const PLAYERS: [Row; 4] = [
     },
 ];
 
-/// The only seat is free, with its pass, once the connection of the player that had it has ended, and its camera's session goes on.
+/// The only seat is free, with its pass, after the connection of the player that had it has ended. Its camera's session goes
+/// on.
 #[test]
 fn a_player_is_told_its_slow_reply_whole(rt: HostRuntime) {
     let alloc = rt.alloc();

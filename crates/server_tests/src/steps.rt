@@ -1,4 +1,4 @@
-//! What comes from a peer by and by, for tests.
+//! What a peer sends, read by read, for tests.
 use crate::moments::Dial;
 use std::alloc::Global;
 use std::io;
@@ -9,7 +9,7 @@ use std::vec::IntoIter;
 /// A read: the moment at which it returns, and what it gives, which fits in the buffer of an intake, or why it fails.
 pub(crate) type Step = (u64, Result<&'static [u8], ErrorKind>);
 
-/// Nothing comes for as long as a read may wait.
+/// Nothing comes until a read's timeout.
 pub(crate) const SILENT: Result<&[u8], ErrorKind> = Err(ErrorKind::WouldBlock);
 
 /// Takes a step at each read, and sets its clock to that moment; after the last one it is at its end.

@@ -1,4 +1,4 @@
-//! Texts of ends, refusals and counts, and the lines that tell of them.
+//! Texts of ends, refusals and counts, and the lines that report them.
 use base_syntax::Bytes;
 use log::sink::Memory;
 use log::warn;
@@ -12,8 +12,8 @@ use std::net::SocketAddr;
 use std::process::Abort;
 use std::time::Duration;
 
-/// Each end, and its text. All but the first are warned of.
-const ENDS: [(ConnectionEnd, &str); 13] = [
+/// Each end, and its text. All but the first are logged as warnings.
+const ENDS: [(ConnectionEnd, &str); 16] = [
     (ConnectionEnd::Done, "done"),
     (
         ConnectionEnd::StreamFault(Fault::BadLine),
@@ -45,9 +45,18 @@ const ENDS: [(ConnectionEnd, &str); 13] = [
     ),
     (ConnectionEnd::Idle, "silent without a session"),
     (ConnectionEnd::Reset, "left by a reset"),
+    (
+        ConnectionEnd::NoAcknowledgement,
+        "no acknowledgement for 20 s",
+    ),
+    (ConnectionEnd::Silent, "silent while recording"),
+    (
+        ConnectionEnd::NotSetUp,
+        "no SETUP for 60 s after its ANNOUNCE",
+    ),
 ];
 
-/// Whether a value is printed so.
+/// Returns whether a value is printed as this text.
 fn is_text<T: Display>(rt: &impl Abort, alloc: Global, value: &T, text: &str) -> bool {
     format!(in alloc; "{value}").expect(rt, "memory").as_str() == text
 }
@@ -72,7 +81,7 @@ fn ends_and_refusals_say_why(rt: HostRuntime) {
     assert!(rt; is_text(&rt, alloc, &LOSSLESS, UNTOLD));
 }
 
-/// Each count is another number.
+/// Each count is a different number.
 const COUNTS: Counts = Counts {
     published: 1,
     pinned: 2,
@@ -104,11 +113,11 @@ const LOSSLESS: Counts = Counts {
     slowed: 0,
 };
 
-/// The text of counts of which most are nothing.
+/// The text of counts most of which are 0.
 const UNTOLD: &str =
     "published 18446744073709551615, pinned 0, too long 0, bad RTP 0, unknown channel 0, no memory 0; sent 9, skipped 9, lost 0, unsent 0; strangers 9";
 
-/// The line that tells of the counts.
+/// The line that reports the counts.
 const COUNTED: &str =
     "[INFO  relay_server::events] 10.0.0.1:554: published 1, pinned 2, too long 3, bad RTP 4, unknown channel 5, no memory 6; sent 8, skipped 9, lost 10, unsent 11; strangers 7, slowed 12 ms";
 
@@ -128,7 +137,7 @@ const SLOWED: Counts = Counts {
     slowed: 12,
 };
 
-/// Counts, and the line that tells of them: of losses, and of a publisher that was slowed.
+/// Counts, and the line that reports them: losses, and a publisher that was slowed.
 const TOLD: [(Counts, Option<&str>); 3] = [
     (LOSSLESS, None),
     (COUNTS, Some(COUNTED)),
@@ -140,14 +149,14 @@ const TOLD: [(Counts, Option<&str>); 3] = [
     ),
 ];
 
-/// Whether a line warns of an end with this text.
+/// Returns whether a line warns of an end with this text.
 fn is_warning(line: &str, text: &str) -> bool {
     let rest = line.strip_prefix("[WARN  relay_server::server] 10.0.0.1:554: ");
     rest.and_then(|rest| rest.strip_suffix(" (connection 7)")) == Some(text)
 }
 
-/// Whether these are the lines that tell of an end with this text: a warning where it isn't the good one, and that of the
-/// counts, if there is one.
+/// Returns whether these are the lines that report an end with this text: a warning if it isn't the good one, and the line of
+/// the counts, if there is one.
 fn are_told(lines: &[String], end: ConnectionEnd, text: &str, line: Option<&str>) -> bool {
     match (lines, end != ConnectionEnd::Done, line) {
         ([], false, None) => true,
@@ -180,7 +189,7 @@ fn an_end_is_a_line_and_so_are_losses(rt: HostRuntime) {
     }
 }
 
-/// Whether a line of counts names a connection's part so.
+/// Returns whether a line of counts names a connection's part by `named`.
 fn is_named(rt: &impl Abort, alloc: Global, publishes: bool, named: &str) -> bool {
     let sink = Memory::new(alloc);
     let name = Bytes::from_slice(alloc, b"cam/1\x80").expect(rt, "memory");
@@ -206,7 +215,7 @@ fn a_line_of_counts_names_the_mount_and_the_part(rt: HostRuntime) {
     assert!(rt; is_named(&rt, alloc, false, r"player of cam/1\x80: published 9, "));
 }
 
-/// More lines than may wait are told, and nobody writes them.
+/// More lines than may wait are logged, and no thread writes them.
 #[test]
 fn lines_that_nobody_writes_hold_nobody_up(rt: HostRuntime) {
     let lines = Lines::new(rt, rt.alloc()).expect(&rt, "memory");

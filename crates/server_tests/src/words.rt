@@ -3,7 +3,7 @@ ghost use Rattle.std.specs.Prelude.{◌≡◌};
 
 use session_state::Words;
 
-/// Answers 0000abcd each time.
+/// Returns 0000abcd each time.
 #[derive(Drop)]
 pub(crate) struct OneWord;
 
@@ -15,7 +15,7 @@ impl Words for OneWord {
     }
 }
 
-/// Answers the words from this one on.
+/// Returns the words from this one on.
 #[derive(Drop)]
 pub(crate) struct CountedWords(pub(crate) u32);
 

@@ -1,7 +1,7 @@
 //! Tests of the book.
 //!
-//! What requests are answered is told by cases of `transcripts`, and what a clause says of every call has no test; here is what
-//! takes code: many calls, passes that count their owners, and seats of which any may be taken.
+//! The replies to requests are cases of `transcripts`, and what a clause states of every call has no test. Here are the tests
+//! that need code: many calls, passes that count their owners, and seats of which any may be taken.
 
 mod asking;
 mod of_books;

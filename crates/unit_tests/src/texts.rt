@@ -1,7 +1,7 @@
 //! Tests of the crates that read and write texts, messages and frames.
 //!
-//! Tables of what is read and answered are cases of `transcripts`, and what a clause says of every input has no test; here is
-//! what takes code: devices, when they are read and written to, and room.
+//! Tables of what is read and replied are cases of `transcripts`, and what a clause states of every input has no test. Here
+//! are the tests that need code: devices, when they are read and written to, and capacity.
 
 mod of_gathering;
 mod of_intakes;

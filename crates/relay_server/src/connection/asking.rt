@@ -8,7 +8,7 @@ use interleaved::Sink;
 use relay_accounts::Part;
 use relay_fanout::{Busy, HangUp, Maker, MountSignal, Offer, Posting, Seat, WakeSignal};
 use rtsp_message::Request;
-use session_lock::{Answer, AskFault};
+use session_lock::{Answer, AskFault, Copies};
 use session_state::{Given, Method, Moments, Session, Words, read_method};
 use std::alloc::{AllocError, Global};
 use std::sync::{Arc, Wait};
@@ -172,15 +172,19 @@ where
         }
     }
 
-    /// Asks the book, and learns how the session stands then. Without an answer what was offered comes back.
+    /// Asks the book, and learns how the session is after that. Without an answer what was offered comes back. The request is copied
+    /// before the lock, which one connection so has for less time.
     fn ask_book(
         &mut self,
         request: &Request,
         given: &Given,
         offer: Option<Vec<Seat<M::Pass>>>,
     ) -> Result<Answer<Seat<M::Pass>>, Option<Vec<Seat<M::Pass>>>> {
+        let Ok(copies) = Copies::of(self.alloc, request, given) else {
+            return Err(offer);
+        };
         let mut book = self.shared.book.lock(&self.rt);
-        let asked = book.ask(self.conn, request, given, offer);
+        let asked = book.ask_copied(self.conn, copies, offer);
         let session = book.session_of(self.conn);
         let begins = match (&self.session, session) {
             (None, Some(session)) => Some(part_of(self.alloc, session)),
@@ -204,7 +208,7 @@ where
         }
     }
 
-    /// Where the tracks of the session's mount stand. Nothing is told where players begin with packets from before.
+    /// The points of the tracks of the session's mount: none if players begin with packets from before.
     fn points(&self) -> Result<Items<Option<Point>>, AllocError> {
         match &self.session {
             Some(session) if self.shared.maker.back() == 0 => self

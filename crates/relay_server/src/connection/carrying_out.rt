@@ -1,4 +1,4 @@
-//! What is done for an answer, and how it is written.
+//! Carries out an answer of the book, and writes its reply.
 use crate::connection::{Connection, LeftSeat};
 use crate::frame_notes::Publishing;
 use crate::gate::Gate;
@@ -77,7 +77,7 @@ where
     pub(super) fn stop_playing(&mut self) -> Result<(), ConnectionEnd> {
         self.stop_frames(Duration::from_millis(STALLED));
         match self.detach() {
-            // The thread has hung up: no reply can be written any more.
+            // The frame thread has closed the connection: no reply can be written any more.
             FrameEnd::OutOfMemory => Err(ConnectionEnd::OutOfMemory),
             FrameEnd::Stopped | FrameEnd::Ended | FrameEnd::WriteFailed => Ok(()),
         }
@@ -152,7 +152,7 @@ where
         }
     }
 
-    /// Tells the frames to stop, and hangs the connection up where they haven't within so long: then the peer reads nothing.
+    /// Requests the frame thread to stop, and closes the connection if it hasn't ended within `most`: the peer stopped reading.
     pub(super) fn stop_frames(&self, most: Duration) {
         let Some(frames) = &self.frames else {
             return;
@@ -167,7 +167,7 @@ where
         }
     }
 
-    /// Stops the frames, detaches and gives the seat back. Says how the frames ended.
+    /// Stops the frames, detaches and gives the seat back. Returns how the frames ended.
     pub(super) fn detach(&mut self) -> FrameEnd {
         let Some(mut frames) = self.frames.take() else {
             return FrameEnd::Stopped;
@@ -184,7 +184,7 @@ where
         self.is_over = end == FrameEnd::Ended && self.shared.after_end.is_some();
         match self.player.take(&self.rt) {
             TapPlace::Attached(tap) => self.give_back(tap, frames, handover),
-            // The mount has ended: its seats are nobody's any more.
+            // The mount has ended: its seats have no owner any more.
             TapPlace::Left(left) => self.leave_seat(frames.seat(), left, handover),
             TapPlace::Nowhere => {}
         }
@@ -198,12 +198,12 @@ where
         self.leave_seat(seat, left, handover);
         let mut book = self.shared.book.lock(&self.rt);
         let returned = book.give_back(mount, seat, Seat { pass, signal });
-        // The pass comes back where the mount has ended, and its ring may go with it: not under the lock.
+        // If the mount has ended, the pass comes back, and its ring may be freed with it. That isn't done under the lock.
         drop(book);
         drop(returned);
     }
 
-    /// A seat was left. Its account closes once none of its frames waits for the socket: the next reply is written behind them.
+    /// A seat was left. Its account closes when none of its frames waits for the socket: the next reply is written after them.
     fn leave_seat(&mut self, seat: usize, left: Left, handover: Handover) {
         let taken = self.player.writing.taken(&self.rt);
         let handed = handover.handed(taken);
@@ -221,7 +221,7 @@ where
         }
     }
 
-    /// Closes the account of the seat that was left last, by what the socket has taken by now, and tells of it.
+    /// Closes the account of the seat that was left last, by what the socket has taken by now, and logs it.
     pub(super) fn settle_seat(&mut self) {
         let Some(
             LeftSeat {
@@ -239,7 +239,7 @@ where
         self.events.leaves(&self.part, seat, &account);
     }
 
-    /// A session begins, in which the connection has this part: its account is its own.
+    /// A session begins, in which the connection has this part. It has an account of its own.
     pub(super) fn begin_account(&mut self, part: Option<Part>) {
         self.close_account();
         self.part = part;
@@ -247,7 +247,7 @@ where
         self.is_stranded = false;
     }
 
-    /// Tells the account of a session that has ended, if it isn't told yet.
+    /// Logs the account of a session that has ended, if it isn't logged yet.
     pub(super) fn close_account(&mut self) {
         if !self.has_account {
             return;
@@ -301,6 +301,6 @@ where
     }
 }
 
-/// How long the frames of a player that pauses or leaves may take to end, in milliseconds. Then it reads nothing, and is
-/// hung up, so that its seat is free.
+/// How long the frames of a player that pauses or leaves may take to end, in milliseconds. After that the player has stopped
+/// reading, and is disconnected, so that its seat is free.
 const STALLED: u64 = 2_000;

@@ -1,4 +1,4 @@
-//! What is done where a session has expired, or its connection was silent for too long.
+//! What is done if a session has expired, or its connection was silent for too long.
 use crate::connection::Connection;
 use crate::gate::Gate;
 use interleaved::Sink;
@@ -20,7 +20,7 @@ where
     H: HangUp + Drop + Send + Sync + 'static,
     N: Moments + Drop,
 {
-    /// Ends the session where it has expired by this moment, and stops its frames or ends its mount. The connection goes on.
+    /// Ends the session if it has expired by this moment, and stops its frames or ends its mount. The connection goes on.
     pub(super) fn expire(&mut self, now: u64) -> Result<(), ConnectionEnd> {
         let last = self.hearing.watch().heard.last();
         let mut book = self.shared.book.lock(&self.rt);
@@ -48,7 +48,7 @@ where
         stopped
     }
 
-    /// How the connection ends whose reads have failed: by its silence, where that made them fail.
+    /// How the connection ends whose reads have failed: by its silence, if that made them fail.
     pub(super) fn read_failure(&self) -> ConnectionEnd {
         self.hearing
             .watch()

@@ -7,7 +7,7 @@ use std::sync::{Arc, Mutex, Wait};
 use std::thread;
 use std::time::{Clock, Duration};
 
-/// Bytes that are written, shared with who reads them.
+/// Bytes that are written, shared with the thread that reads them.
 pub(crate) type Bytes = Arc<Mutex<Vec<u8>>, Global>;
 
 /// A number that is counted up.
@@ -30,7 +30,7 @@ impl HangUp for Open {
     fn limit_waits(&self, _wait: u64) {}
 }
 
-/// Waits until at least so many bytes were written and this is the end of them, for at most 10,000 turns of a
+/// Waits until at least `least` bytes were written and `end` is the end of them, for at most 10,000 turns of a
 /// millisecond.
 pub(crate) fn has_come<R: Wait + Clock>(rt: &R, bytes: &Bytes, least: usize, end: &[u8]) -> bool {
     for _ in 0..10_000u32 {

@@ -15,10 +15,10 @@ use std::time::{Clock, Duration, Instant};
 /// How many packets come at once: more than are kept.
 const BURST: u64 = 160;
 
-/// How often what depends on times is tried, since a machine that does other work may be late.
+/// How often a test that depends on times is tried, because a machine that does other work may be late.
 const TRIES: u32 = 5;
 
-/// A mount whose players stand level.
+/// A mount whose players keep up.
 #[derive(Drop)]
 struct Stage<R: Wait + Clock + Drop> {
     feed: Posting<R, Publisher>,
@@ -27,8 +27,8 @@ struct Stage<R: Wait + Clock + Drop> {
     writer: JoinHandle<()>,
 }
 
-/// A mount of so many seats. Players are in the last of them, one for each of these waits, which one of its writes takes; their frames
-/// are sent by a writer or by a thread of each one's own. They have taken the one packet that there is.
+/// A mount of `seats` seats. Players are in the last of them, one for each of these waits, which is the time of each write to
+/// it. Their frames are sent by a writer or by a thread for each player. They have taken the one packet that there is.
 fn staged<R>(rt: R, alloc: Global, seats: usize, waits: &[u64], by_writer: bool) -> Stage<R>
 where
     R: Threads + Wait + Clock + Abort + Copy + Drop + Send + Sync + 'static,
@@ -67,7 +67,7 @@ where
     }
 }
 
-/// Publishes so many packets.
+/// Publishes `count` packets.
 fn publish<R: Wait + Clock + Drop>(rt: &impl Abort, feed: &mut Posting<R, Publisher>, count: u64) {
     for _ in 0..count {
         let published = feed.publish(0, FRAME.get(4..).unwrap_or(b""));
@@ -79,7 +79,7 @@ impl<R> Stage<R>
 where
     R: Threads + Wait + Clock + Abort + Copy + Drop + Send + Sync + 'static,
 {
-    /// The mount ends. For how many milliseconds packets waited for players, and how many packets these lost.
+    /// Ends the mount. Returns for how many milliseconds packets waited for players, and how many packets these lost.
     fn end(self, rt: &R) -> (u64, u64) {
         let Stage {
             feed,
@@ -102,7 +102,7 @@ where
     }
 }
 
-/// Whether no writer has a player any more within 10,000 turns of a millisecond.
+/// Returns whether no writer has a player any more within 10,000 turns of a millisecond.
 fn have_ended<R: Wait + Clock + Drop>(rt: &R, writers: &Writer<R>) -> bool {
     for _ in 0..10_000u32 {
         if writers.players(rt) == 0 {
@@ -113,7 +113,7 @@ fn have_ended<R: Wait + Clock + Drop>(rt: &R, writers: &Writer<R>) -> bool {
     false
 }
 
-/// How many milliseconds have passed since then.
+/// Returns how many milliseconds have passed since then.
 fn passed<R: Clock + Abort>(rt: &R, began: Instant) -> u64 {
     let now = Instant::now(rt).expect(rt, "a clock");
     u64::try_from(now.duration_since(began).as_millis()).unwrap_or(u64::MAX)
@@ -137,7 +137,7 @@ fn a_burst_waits_for_the_player_in_the_last_seat(rt: HostRuntime) {
     }
 }
 
-/// A burst waits for a player whose socket takes all again: it took nothing for so long that no publisher waited for it.
+/// A burst waits for a player whose socket takes all again, after it took nothing until no publisher waited for it.
 fn is_awaited_again<R>(rt: R, alloc: Global) -> bool
 where
     R: Threads + Wait + Clock + Abort + Copy + Drop + Send + Sync + 'static,
@@ -163,12 +163,12 @@ fn a_player_that_comes_back_is_waited_for_again(rt: HostRuntime) {
     assert!(rt; (0..TRIES).any(|_| is_awaited_again(rt, alloc)));
 }
 
-/// How long each write of four players takes, in milliseconds: they come to what is asked for at four times, of which the later ones are
-/// later than a publisher waits.
+/// How long each write to four players takes, in milliseconds. They reach a round's target at four times, and the later ones
+/// are later than a publisher waits.
 const WAITS: [u64; 4] = [3, 6, 9, 12];
 
-/// For how many milliseconds fifteen bursts wait for these players, who have taken all before the next one, and in how many
-/// milliseconds.
+/// Returns for how many milliseconds fifteen bursts wait for these players, and how many milliseconds all of it takes. The
+/// players have taken all of a burst before the next one.
 fn waited_for_bursts<R>(rt: R, alloc: Global) -> (u64, u64)
 where
     R: Threads + Wait + Clock + Abort + Copy + Drop + Send + Sync + 'static,
@@ -195,7 +195,8 @@ fn waits_for_players_are_bounded_in_time(rt: HostRuntime) {
     );
 }
 
-/// For how many milliseconds the packets of a second without a pause wait for a player whose writes take so long.
+/// Returns for how many milliseconds the packets of a second without a pause wait for a player each write to which takes `wait`
+/// milliseconds.
 fn waited_without_a_pause<R>(rt: R, alloc: Global, wait: u64) -> u64
 where
     R: Threads + Wait + Clock + Abort + Copy + Drop + Send + Sync + 'static,
@@ -211,7 +212,7 @@ where
     stage.end(&rt).0
 }
 
-/// It comes to what is asked for later than its publisher waits, and never again takes all.
+/// The player reaches the round's target later than its publisher waits, and never again takes all.
 #[test]
 fn a_player_that_falls_behind_is_waited_for_once(rt: HostRuntime) {
     let alloc = rt.alloc();
@@ -252,7 +253,7 @@ impl Feed for Pinned {
     fn close(self) {}
 }
 
-/// For how many milliseconds a publish is tried that meets a reader for good.
+/// Returns for how many milliseconds a publish that meets a reader at each try is tried.
 fn tried_for<R: Wait + Clock + Abort + Copy + Drop>(rt: R, alloc: Global) -> u64 {
     let wake_signal = Arc::new(alloc, WakeSignal::new()).expect(&rt, "memory");
     let theirs = Arc::try_clone(&wake_signal).expect(&rt, "a count of its users");

@@ -1,4 +1,4 @@
-//! A publish that is tried again.
+//! A publish that is retried.
 ghost use Rattle.std.specs.Prelude.{None, ⊤};
 
 use cursor::{Feed, Refused};
@@ -25,13 +25,13 @@ impl Done {
             .set(self.digits.get().wrapping_mul(10).wrapping_add(digit));
     }
 
-    /// What was done since this was last asked, and how many pauses there were.
+    /// Returns what was done since the last call, and how many pauses there were.
     fn take(&self) -> (u64, u32) {
         (self.digits.replace(0), self.pauses.replace(0))
     }
 }
 
-/// A feed of packets of at most four bytes that refuses so many publishes as pinned, and numbers those that it takes.
+/// A feed of packets of at most four bytes that refuses `refusals` publishes as pinned, and numbers those that it takes.
 #[derive(Drop)]
 struct Pinned<'a> {
     refusals: u64,
@@ -81,7 +81,7 @@ impl Pause for Counted<'_> {
     }
 }
 
-/// A feed that tries again, over one that refuses so many publishes as pinned.
+/// A feed that retries, over one that refuses `refusals` publishes as pinned.
 fn insisting(refusals: u64, done: &Done) -> Insisting<Pinned<'_>, Counted<'_>> {
     let feed = Pinned {
         refusals,
@@ -115,7 +115,7 @@ fn a_publish_that_stays_pinned_is_given_up(rt: HostRuntime) {
     assert!(rt; feed.publish(0, b"D") == Ok(1) && done.take() == (1, 0));
 }
 
-/// There is a place for each of as many seats as a mount may have.
+/// There is a place for each of the most seats that a mount may have.
 #[test]
 fn the_last_of_1024_seats_is_awaited(rt: HostRuntime) {
     let mut round = Round::new(rt.alloc(), 1024).expect(&rt, "memory");

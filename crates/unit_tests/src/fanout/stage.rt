@@ -4,7 +4,8 @@ use cursor::{Left, Tap};
 use interleaved::{TryWrite, Writing};
 use packet_ring::{Pass, Publisher, Subscriber};
 use relay_fanout::{
-    Frames, Maker, MountSignal, RingMaker, SharedPlayer, TapPlace, WakeSignal, Writers, WritingSide,
+    Frames, Maker, MountSignal, RingMaker, SharedPlayer, TapPlace, Waits, WakeSignal, Writers,
+    WritingSide,
 };
 use std::alloc::Global;
 use std::io::Write;
@@ -16,7 +17,7 @@ use std::time::{Clock, Duration};
 use std::{io, thread};
 use transport_header::{ChannelPair, TrackChannels};
 
-/// A packet's frame has at most so many bytes.
+/// The most bytes of a packet's frame.
 pub(crate) const LONGEST: usize = 16;
 
 /// How many packets a ring keeps.
@@ -34,14 +35,18 @@ pub(crate) struct Mount<R: Wait + Clock + Drop> {
 }
 
 impl<R: Wait + Clock + Abort + Copy + Drop> Mount<R> {
-    /// A mount of so many seats, whose players are given up so many milliseconds after its end.
+    /// A mount of `seats` seats, whose players are given up `most` milliseconds after its end.
     pub(crate) fn new(rt: &R, alloc: Global, seats: usize, most: u64) -> Mount<R> {
         let wake_signal = Arc::new(alloc, WakeSignal::new()).expect(rt, "memory");
         let theirs = Arc::try_clone(&wake_signal).expect(rt, "a count of its users");
         let signal = MountSignal::new(alloc, seats, theirs).expect(rt, "memory");
         let signal = Arc::new(alloc, signal).expect(rt, "memory");
         let theirs = Arc::try_clone(&wake_signal).expect(rt, "a count of its users");
-        let writers = Writers::new(alloc, 1, theirs, most).expect(rt, "memory");
+        let waits = Waits {
+            stall: Some(most),
+            end: most,
+        };
+        let writers = Writers::new(alloc, 1, theirs, waits).expect(rt, "memory");
         let writers = Arc::new(alloc, writers).expect(rt, "memory");
         let maker = RingMaker::new(KEEP as usize, seats.min(1024), LONGEST);
         let (publisher, passes) = maker.make(alloc).expect(rt, "memory");
@@ -55,7 +60,7 @@ impl<R: Wait + Clock + Abort + Copy + Drop> Mount<R> {
         }
     }
 
-    /// A player in the last seat that is free, each of whose writes takes so many milliseconds.
+    /// A player in the last seat that is free, each write to which takes `wait` milliseconds.
     pub(crate) fn seat(&mut self, rt: R, alloc: Global, wait: u64) -> Seated<R> {
         let pass = self.passes.pop().expect(&rt, "a seat");
         let tap = self.maker.attach(pass);
@@ -71,8 +76,8 @@ impl<R: Threads + Wait + Clock + Abort + Copy + Drop + Send + Sync + 'static> Mo
     }
 }
 
-/// Keeps what is written for whoever shares it, as many bytes as there is room for, each write after so many milliseconds. Counts the
-/// writes that took any.
+/// Keeps what is written for the threads that share it, up to its room, each write after `wait` milliseconds. Counts the writes
+/// that took any byte.
 #[derive(Drop)]
 pub(crate) struct Valve<R> {
     rt: R,
@@ -131,7 +136,7 @@ fn one_track() -> TrackChannels {
 }
 
 impl<R: Wait + Clock + Abort + Copy + Drop> Seated<R> {
-    /// Nobody sends its frames yet, and its socket takes nothing.
+    /// Nothing sends its frames yet, and its socket takes nothing.
     fn new(
         rt: R,
         alloc: Global,
@@ -164,7 +169,7 @@ impl<R: Wait + Clock + Abort + Copy + Drop> Seated<R> {
         }
     }
 
-    /// Its socket takes so many bytes from now on, or nearly all that there may be.
+    /// Its socket takes `bytes` bytes from now on, or, for `None`, more than there can be.
     pub(crate) fn let_on(&self, bytes: Option<u64>) {
         self.room.store(bytes.unwrap_or(1 << 40), Ordering::SeqCst);
     }
@@ -187,13 +192,13 @@ impl<R: Threads + Wait + Clock + Abort + Copy + Drop + Send + Sync + 'static> Se
         assert!(rt; started.is_ok());
     }
 
-    /// Takes it from who sends its frames. Where its tap is then.
+    /// Takes it from the writer or thread that sends its frames. Returns where its tap is then.
     pub(crate) fn stop(mut self, rt: &R, writers: &Writer<R>) -> TapPlace<Subscriber> {
         let _ = self.frames.join(rt, &*self.player, Some(writers));
         self.player.take(rt)
     }
 
-    /// The account of a player whose mount has ended, once its frames have.
+    /// Returns the account of a player whose mount has ended, after its frames have ended.
     pub(crate) fn account(self, rt: &R, writers: &Writer<R>) -> Option<Left> {
         match self.stop(rt, writers) {
             TapPlace::Left(left) => Some(left),

@@ -1,4 +1,4 @@
-//! A player at a writer, whose socket takes nothing, or next to nothing, for a while.
+//! A player at a writer, whose socket takes nothing, or almost nothing, for a while.
 use crate::fanout::devices::has_come;
 use crate::fanout::packets::{number_in, small_frames};
 use crate::fanout::stage::{KEEP, LONGEST, Mount, Seated};
@@ -17,7 +17,7 @@ const BEFORE: u16 = 3;
 
 const MEANWHILE: u16 = 10_000;
 
-/// A packet's frame has so many bytes.
+/// How many bytes a packet's frame has.
 const FRAME: usize = LONGEST;
 
 /// How many bytes the frames have before the player is first looked at.
@@ -31,8 +31,8 @@ struct Stage<R: Wait + Clock + Drop> {
     writer: JoinHandle<()>,
 }
 
-/// A player for which the packets of these frames were published before its writer looked at it, and of them its socket has taken
-/// five bytes. It is given up so many milliseconds after its mount's end.
+/// A player for which the packets of these frames were published before its writer looked at it. Its socket has taken five
+/// bytes of them. It is given up `most` milliseconds after its mount's end.
 fn staged<R>(rt: R, alloc: Global, most: u64, frames: &[u8]) -> Stage<R>
 where
     R: Threads + Wait + Clock + Abort + Copy + Drop + Send + Sync + 'static,
@@ -59,7 +59,7 @@ fn publish<F: Feed>(rt: &impl Abort, feed: &mut F, signal: &MountSignal, frames:
     }
 }
 
-/// Whether these are the frames before the player was first looked at, and then the last that the ring keeps.
+/// Returns whether these are the frames before the player was first looked at, and then the last that the ring keeps.
 fn are_first_and_last(frames: &[u8]) -> bool {
     let skipped = BEFORE + MEANWHILE - KEEP as u16;
     let mut want = 0u16;
@@ -75,8 +75,8 @@ fn are_first_and_last(frames: &[u8]) -> bool {
     want == BEFORE + MEANWHILE
 }
 
-/// While bytes wait that its socket didn't take, here all but five of the first frame, a player takes nothing from its ring, which
-/// counts what it loses; then it goes on behind them.
+/// While bytes wait that its socket didn't take, here all but five of the first frame, a player takes nothing from its ring.
+/// The ring counts what the player loses. Then the player goes on after the lost packets.
 fn goes_on_behind_its_rest<R>(rt: R, alloc: Global)
 where
     R: Threads + Wait + Clock + Abort + Copy + Drop + Send + Sync + 'static,
@@ -116,19 +116,20 @@ fn a_player_with_a_rest_takes_nothing_until_it_is_gone(rt: HostRuntime) {
     goes_on_behind_its_rest(rt, rt.alloc());
 }
 
-/// How many packets are published while the socket takes next to nothing.
+/// How many packets are published while the socket takes almost nothing.
 const LATE: u16 = 10;
 
-/// A player is given up so many milliseconds after its mount's end.
+/// After how many milliseconds a player is given up after its mount's end.
 const MOST: u64 = 1_500;
 
-/// So many milliseconds after one byte the socket takes another, which makes more than `MOST` for fewer bytes than wait for it.
+/// How many milliseconds are between two bytes that the socket takes. `SINGLY` of them take more than `MOST`, and are fewer
+/// than the bytes that wait.
 const PAUSE: u64 = 60;
 
 const SINGLY: usize = 40;
 
-/// Where its mount ended a while ago, a player that takes a byte now and then is sent what it had taken, and leaves what its ring had for
-/// it beside that.
+/// After its mount's end, a player that takes a byte now and then is sent what it had taken from its ring, and leaves the other
+/// packets of the ring.
 fn is_given_up_after_its_mounts_end<R>(rt: R, alloc: Global)
 where
     R: Threads + Wait + Clock + Abort + Copy + Drop + Send + Sync + 'static,

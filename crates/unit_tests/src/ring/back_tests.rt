@@ -5,7 +5,7 @@ use packet_ring::{Pass, Publisher, new};
 use std::alloc::Global;
 use std::process::Abort;
 
-/// A log that keeps two packets, of so many of the packets A, B, C, with one seat.
+/// A log that keeps two packets, with the first `count` of the packets A, B, C, and with one seat.
 fn log_of(rt: &impl Abort, alloc: Global, count: usize) -> PlainLog {
     let mut log = PlainLog::new(alloc, 2, 1, ROOM).expect(rt, "memory");
     for byte in b"ABC".iter().take(count) {
@@ -15,7 +15,7 @@ fn log_of(rt: &impl Abort, alloc: Global, count: usize) -> PlainLog {
     log
 }
 
-/// The seat of such a log, attached so many packets back, and where it was told that it begins.
+/// The seat of such a log, attached `back` packets back, and the number at which it begins.
 fn log_back(rt: &impl Abort, alloc: Global, count: usize, back: u64) -> (PlainTap, u64) {
     let mut log = log_of(rt, alloc, count);
     assert!(rt; log.is_free(0));
@@ -45,13 +45,13 @@ fn take_two<T: Tap>(rt: &impl Abort, tap: &mut T) {
     assert!(rt; took(tap, &mut buf) == Some(Taken::Empty));
 }
 
-/// What a detachment tells of so many packets.
+/// What a detachment returns for these numbers of packets.
 fn left(taken: u64, lost: u64, left: u64) -> Left {
     Left { taken, lost, left }
 }
 
-/// How many packets back a seat asks for, how many there are, and where it begins: no more packets are given
-/// than the two that are kept, nor than there are.
+/// How many packets back a seat asks for, how many there are, and the number at which it begins. No more packets
+/// are given than the two that are kept, nor than there are.
 const ROWS: &[(u64, usize, u64)] = &[
     (0, 3, 3),
     (1, 3, 2),
@@ -88,7 +88,7 @@ fn ring_begins_back(rt: HostRuntime) {
     }
 }
 
-/// What lies back is taken, and counts as taken.
+/// The packets back are taken, and count as taken.
 #[test]
 fn log_takes_what_lies_back(rt: HostRuntime) {
     let (mut seat, _) = log_back(&rt, rt.alloc(), 3, 5);

@@ -3,8 +3,8 @@ use crate::ring::running_tests::{ROOM, packet, sent, took};
 use cursor::{Feed, Taken};
 use packet_ring::new;
 
-/// A feed's close ends the log after what was published, be it nothing, for a seat that is attached and for one
-/// that attaches later.
+/// A feed's close ends the log after what was published, even if that is nothing, for a seat that is attached and for
+/// one that attaches later.
 #[test]
 fn feed_close_behind_packets(rt: HostRuntime) {
     for count in [0, 3] {

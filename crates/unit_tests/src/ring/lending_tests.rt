@@ -1,4 +1,4 @@
-//! Packets that are looked at where they lie.
+//! Packets that are read from their place in the ring.
 use crate::ring::running_tests::{ROOM, is_packet, packet, publish_all, sent, took};
 use cursor::{Account, Lend, Refused, Taken, Tap, Visit};
 use interleaved::{Failed, Sink};
@@ -9,8 +9,8 @@ use std::sync::Wait;
 use std::thread;
 use transport_header::{ChannelPair, TrackChannels};
 
-/// Publishes three packets while it looks at one, and keeps the answers and what it saw: the tag, the first
-/// byte and how many there are.
+/// Publishes three packets while it looks at one, and keeps the results and what it saw: the tag, the first
+/// byte and how many bytes there are.
 #[derive(Drop)]
 struct Publishing<'a> {
     publisher: &'a mut Publisher,
@@ -31,7 +31,7 @@ impl Visit for Publishing<'_> {
     }
 }
 
-/// What a take that shows its packet answers.
+/// Returns the result of a take that shows its packet.
 fn showed(tap: &mut impl Lend, visitor: &mut Publishing) -> Option<Taken> {
     if tap.packet_bytes() <= ROOM {
         Some(tap.take_with(visitor))
@@ -90,7 +90,7 @@ impl Sink for PublishingSink<'_> {
     }
 }
 
-/// A frame that is written from where its packet lies holds that place meanwhile.
+/// A frame that is written from its packet's place in the ring holds that place meanwhile.
 #[test]
 fn held_while_its_frame_is_written(rt: HostRuntime) {
     let (mut publisher, mut passes) = new(rt.alloc(), 2, 1, ROOM).expect(&rt, "memory");
@@ -114,7 +114,7 @@ fn held_while_its_frame_is_written(rt: HostRuntime) {
     assert!(rt; sink.answers == Some([Ok(1), Ok(2), Err(Refused::Pinned { pins: 1 })]));
 }
 
-/// Compares packets with what was published under their numbers, where they lie.
+/// Compares packets, in their place in the ring, with what was published under their numbers.
 #[derive(Drop)]
 struct Comparing {
     next: u64,
@@ -133,7 +133,7 @@ impl Visit for Comparing {
     }
 }
 
-/// Looks at each packet to the end, and answers the account where each had its bytes, once.
+/// Looks at each packet to the end, and returns the account if each had its bytes, once.
 fn look_at_all(rt: &impl Wait, mut seat: Subscriber) -> Option<Account> {
     if seat.packet_bytes() > ROOM {
         return None;

@@ -20,7 +20,7 @@ fn publish(rt: &impl Abort, log: &mut PlainLog, bytes: &[u8]) {
     let _ = log.publish(1, bytes).expect(rt, "memory");
 }
 
-/// Pumps at most so many packets.
+/// Pumps at most this number of packets.
 pub(crate) fn pumped<T: Tap>(
     rt: &impl Abort,
     alloc: Global,

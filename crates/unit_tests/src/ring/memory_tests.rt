@@ -1,5 +1,5 @@
-//! What stands where a request for memory is refused. `tools/refuse-memory` runs each of these once for each request that it
-//! makes, with that one refused: then it ends, out of memory, before what it shows, or passes.
+//! What holds if a request for memory is refused. `tools/refuse-memory` runs each of these once for each request that it
+//! makes, with that one refused. The run either ends out of memory before what it shows, or passes.
 use crate::ring::log_tests::{pumped, tap_behind};
 use crate::ring::running_tests::{ROOM, packet, ring_of_two, sent, took};
 use base_syntax::Bytes;
@@ -18,7 +18,7 @@ fn a_ring_is_made_whole_or_not_at_all(rt: HostRuntime) {
     }
 }
 
-/// Both seats of a ring of one packet: one takes it and leaves, the other one is told the end.
+/// Both seats of a ring of one packet: one takes it and leaves, and the other one sees the end.
 fn seats_end(rt: &impl Abort, publisher: Publisher, mut early: Subscriber, mut late: Subscriber) {
     let mut buf = [0; ROOM];
     assert!(rt; took(&mut early, &mut buf) == packet(0, 1) && buf[0] == b'A');
@@ -29,7 +29,7 @@ fn seats_end(rt: &impl Abort, publisher: Publisher, mut early: Subscriber, mut l
     assert!(rt; closed.number() == 1 && took(&mut late, &mut buf) == Some(Taken::Ended));
 }
 
-/// No call of a ring but `new` takes memory. In a run in which the request behind them is refused they answer the same.
+/// No call of a ring but `new` takes memory. In a run in which the request after them is refused they return the same.
 #[test]
 fn a_rings_calls_take_no_memory(rt: HostRuntime) {
     let alloc = rt.alloc();
@@ -73,7 +73,7 @@ fn a_pump_that_stopped_goes_on(rt: HostRuntime) {
     assert!(rt; both(out.as_slice()) == Some((b"A".as_slice(), b"B".as_slice())));
 }
 
-/// The next unit, asked for once more where memory is refused: the number of a request, or the channel of a frame.
+/// Returns the next unit, with a retry if memory is refused: the number of a request, or the channel of a frame.
 fn next_at_last(intake: &mut Intake<ListSource>) -> Option<u32> {
     let next = match intake.next() {
         Next::OutOfMemory => intake.next(),
@@ -86,7 +86,7 @@ fn next_at_last(intake: &mut Intake<ListSource>) -> Option<u32> {
     }
 }
 
-/// An intake that was refused memory gives the same units when it is asked again.
+/// An intake that was refused memory gives the same units when it is called again.
 #[test]
 fn an_intake_goes_on_behind_a_refusal(rt: HostRuntime) {
     let stream = b"OPTIONS * RTSP/1.0\r\nCSeq: 7\r\n\r\n$\x02\x00\x01x";
@@ -97,7 +97,7 @@ fn an_intake_goes_on_behind_a_refusal(rt: HostRuntime) {
     assert!(rt; matches!(intake.next(), Next::End));
 }
 
-/// A frame is put behind what stands there whole or not at all.
+/// A frame is appended whole or not at all.
 #[test]
 fn a_frame_is_put_whole_or_not_at_all(rt: HostRuntime) {
     let mut out = Vec::from_slice(rt.alloc(), b"-").expect(&rt, "memory");
@@ -118,7 +118,7 @@ fn reply(alloc: Global) -> Reply {
     }
 }
 
-/// A reply is put behind what stands there whole or not at all.
+/// A reply is appended whole or not at all.
 #[test]
 fn a_reply_is_put_whole_or_not_at_all(rt: HostRuntime) {
     let mut out = Vec::from_slice(rt.alloc(), b"-").expect(&rt, "memory");

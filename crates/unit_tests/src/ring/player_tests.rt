@@ -43,7 +43,7 @@ fn row_frames_out(alloc: Global) -> Result<ListTap, AllocError> {
     Ok(ListTap::new(list, 3, 2))
 }
 
-/// How a packet comes to its frame: by a buffer that it is copied to, or from where it lies.
+/// How a packet comes to its frame: by a buffer that it is copied to, or from its place in the ring.
 #[derive(Clone, Copy, Debug)]
 enum Way {
     Copied,
@@ -70,7 +70,7 @@ fn relay<T: Lend, W: Sink>(
     }
 }
 
-/// Relays the row into a sink of so much room.
+/// Relays the row into a sink with this room.
 fn relay_row(
     rt: &impl Abort,
     alloc: Global,

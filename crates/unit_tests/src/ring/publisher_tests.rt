@@ -44,13 +44,13 @@ impl Feed for Counting<'_> {
     fn close(self) {}
 }
 
-/// A source of frames of sixteen bytes that looks, at each read, whether all that it gave whole were published.
+/// A source of frames of sixteen bytes that checks, at each read, whether all that it gave whole were published.
 #[derive(Drop)]
 struct Passing<'a, S> {
     inner: S,
     given: usize,
     published: &'a Cell<usize>,
-    /// A read came before.
+    /// A read came before the frames were published.
     late: &'a Cell<bool>,
 }
 
@@ -81,15 +81,15 @@ impl<S: Source> Source for Passing<'_, S> {
     }
 }
 
-/// The points of sixteen tracks, none of which stands anywhere.
+/// The points of sixteen tracks, none of which has one.
 const NO_POINTS: [Option<Point>; 16] = [None; 16];
 
-/// Where an RTP packet of this number stands.
+/// Returns the point of an RTP packet with this number.
 fn point(seq: u16) -> Point {
     Point { seq, rtptime: 9000 }
 }
 
-/// What a stream's frames come to, over any feed.
+/// Relays a stream's frames into any feed, and returns the report.
 fn relay<F: Feed>(
     alloc: Global,
     stream: Vec<u8>,
@@ -102,7 +102,7 @@ fn relay<F: Feed>(
     relay_in(&mut intake, feed, channels, points)
 }
 
-/// The seven counts, and a word for the stop.
+/// Returns the seven counts, and a word for the stop.
 fn told(report: &InReport) -> ([u64; 7], &'static str) {
     let counts = [
         report.published,
@@ -123,7 +123,7 @@ fn told(report: &InReport) -> ([u64; 7], &'static str) {
     (counts, stop)
 }
 
-/// The first so many bytes of a frame's data: an RTP packet, whose first byte is this one.
+/// Appends a frame with `len` bytes of data: an RTP packet whose first byte is this one, cut off after them.
 fn put_rtp(rt: &impl Abort, stream: &mut Vec<u8>, channel: u8, first: u8, len: u8) {
     stream
         .extend_from_slice(&[0x24, channel, 0, len])
@@ -156,7 +156,7 @@ fn packets_of(rt: &impl Abort, alloc: Global, feed: PlainFeed) -> Vec<Packet> {
     packets
 }
 
-/// Whether these are the two packets of the row.
+/// Returns whether these are the two packets of the row.
 fn are_of_the_row(packets: &[Packet]) -> bool {
     match packets {
         [first, second] => {

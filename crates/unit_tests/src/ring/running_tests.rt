@@ -30,7 +30,7 @@ pub(crate) fn packet(number: u64, len: usize) -> Option<Taken> {
     })
 }
 
-/// The number that a publish of these bytes is answered.
+/// Publishes these bytes, and returns the packet's number.
 pub(crate) fn sent(publisher: &mut Publisher, bytes: &[u8]) -> Result<u64, Refused> {
     Feed::publish(publisher, 3, bytes)
 }
@@ -119,7 +119,7 @@ fn publish_one(mut publisher: Publisher) -> Option<Receipt>
     publisher.publish(3, b"A").ok()
 }
 
-/// What another thread published is there once its receipt was learned.
+/// What another thread published is there after its receipt was learned.
 #[test]
 fn receipt_by_join(rt: HostRuntime) {
     let (publisher, mut seat) = ring_of_one(rt.alloc()).expect(&rt, "no ring");
@@ -131,7 +131,7 @@ fn receipt_by_join(rt: HostRuntime) {
     assert!(rt; took(&mut seat, &mut buf) == packet(0, 1) && buf[0] == b'A');
 }
 
-/// Keeping 1 and 4,095 packets, for no seats and for 1,024, of no byte, one, and as many as may be.
+/// Keeping 1 and 4,095 packets, for no seats and for 1,024, with packets of no byte, of one, and of the most that there may be.
 #[test]
 fn limits(rt: HostRuntime) {
     let full = [7; ROOM];
@@ -153,8 +153,8 @@ fn limits(rt: HostRuntime) {
     }
 }
 
-/// Rings of the shortest and of the longest packets, and the largest ring of all, whose memory is untouched but for a packet's: a
-/// packet of just that many bytes comes out as it went in, and one byte more is refused.
+/// Rings of the shortest and of the longest packets, and the largest ring of all, whose memory is untouched but for one packet.
+/// A packet of exactly the most bytes comes out as it went in, and one byte more is refused.
 #[test]
 fn packet_limits(rt: HostRuntime) {
     for (keep, seats, most) in [(2, 1, 1), (2, 1, 65_535), (4095, 1024, 65_535)] {
@@ -212,12 +212,12 @@ pub(crate) fn ring_of_two(alloc: Global) -> Option<(Publisher, Pass, Pass)>
     Some((publisher, first, second))
 }
 
-/// The byte at a place of the packet with this number.
+/// Returns the byte at a place of the packet with this number.
 fn byte_of(number: u64, place: usize) -> u8 {
     (number % 251) as u8 ^ (place % 256) as u8
 }
 
-/// Publishes so many packets, each as soon as its place is free, and closes the ring. Tells how many publishes met a reader.
+/// Publishes `count` packets, each as soon as its place is free, and closes the ring. Returns how many publishes met a reader.
 pub(crate) fn publish_all(rt: &impl Wait, mut publisher: Publisher, count: u64) -> u64 {
     let mut bytes = [0; ROOM];
     let mut refused = 0u64;
@@ -242,7 +242,7 @@ pub(crate) fn publish_all(rt: &impl Wait, mut publisher: Publisher, count: u64) 
     refused
 }
 
-/// Whether these are the bytes of the packet with this number.
+/// Returns whether these are the bytes of the packet with this number.
 pub(crate) fn is_packet(number: u64, bytes: &[u8]) -> bool {
     for place in 0..bytes.len() {
         if bytes[place] != byte_of(number, place) {
@@ -252,7 +252,7 @@ pub(crate) fn is_packet(number: u64, bytes: &[u8]) -> bool {
     bytes.len() as u64 == number % ROOM as u64
 }
 
-/// Reads to the end, and answers the account where each packet had its bytes, and the numbers rose.
+/// Reads to the end, and returns the account if each packet had its bytes, and the numbers rose.
 fn read_all(rt: &impl Wait, mut seat: Subscriber) -> Option<Account> {
     let mut buf = [0; ROOM];
     for _ in rt.forever() {

@@ -12,7 +12,7 @@ const LOST: &[u8] =
 const LOST_TRACE: &[u8] =
     b"0 0 load 0 0\n1 p begin 0 0 0\n2 p len 1\n3 p byte 41\n4 p finish 0 1 0\n5 p append 1\n6 p begin 0 0 0\n7 p len 1\n8 p byte 42\n9 p finish 0 1 0\n10 p append 2\n11 0 load 2 0\n12 p begin 0 0 0\n13 p len 1\n14 p byte 43\n15 p finish 0 1 0\n16 p append 3\n17 p begin 0 0 1\n18 0 pin 0 1 1\n19 0 unpin 1 1 1\n20 0 load 3 0\n21 0 load 3 0\n22 0 pin 0 0 2\n23 0 len 1\n24 0 byte 42\n25 0 unpin 1 0 2\n@0 0 attach 0\n@5 p appended 0\n@10 p appended 1\n@16 p appended 2\n@20 0 lost 1\n@21 0 took 1 42\n";
 
-/// What is written for this input, read at most so many bytes at a time, and how the run ends, in words.
+/// Returns what is written for this input, read in pieces of at most `piece` bytes, and how the run ends, in words.
 fn steps(
     rt: &impl Abort,
     alloc: Global,
@@ -44,12 +44,12 @@ const STOPPED_PUBLISHER: &[u8] =
 const STOPPED_PUBLISHER_TRACE: &[u8] =
     b"0 0 load 0 0\n1 p begin 0 0 0\n2 p len 1\n3 p byte 41\n4 p finish 0 1 0\n5 p append 1\n6 p begin 0 0 0\n7 p len 1\n8 p byte 42\n9 p finish 0 1 0\n10 p append 2\n11 p begin 0 0 0\n12 p len 1\n13 p byte 43\n14 p finish 0 1 0\n15 p append 3\n16 p begin 0 0 1\n17 0 load 3 0\n18 0 load 3 0\n19 0 pin 0 0 2\n20 0 len 1\n21 0 byte 42\n22 0 unpin 1 0 2\n23 0 load 3 0\n24 0 pin 0 0 3\n25 0 len 1\n26 0 byte 43\n27 0 unpin 1 0 3\n@0 0 attach 0\n@5 p appended 0\n@10 p appended 1\n@15 p appended 2\n@17 0 lost 1\n@18 0 took 1 42\n@23 0 took 2 43\n";
 
-/// Inputs, the actor that stops behind their schedule, and what is written or told.
+/// Inputs, the actor that stops after their schedule, and what is written or reported.
 const STOPPED: [(&[u8], Option<Actor>, &[u8]); 6] = [
     (LOST, None, LOST_TRACE),
     (STOPPED_SEAT, Some(Actor::Seat(0)), STOPPED_SEAT_TRACE),
     (STOPPED_PUBLISHER, Some(Actor::P), STOPPED_PUBLISHER_TRACE),
-    // No such seat is there, which is told only of a schedule that can be run.
+    // There is no such seat, which is reported only for a schedule that can be run.
     (
         STOPPED_SEAT,
         Some(Actor::Seat(1)),

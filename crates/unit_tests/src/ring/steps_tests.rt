@@ -6,7 +6,7 @@ mod orders;
 mod scripts;
 mod stopped;
 
-/// The largest ring filled and wrapped by five packets: so many are lost, and the oldest that is kept is
+/// The largest ring filled and wrapped by five packets: five are lost, and the oldest that is kept is
 /// taken.
 #[test]
 fn the_largest_ring_is_wrapped(rt: HostRuntime) {
@@ -41,7 +41,7 @@ fn the_largest_ring_is_wrapped(rt: HostRuntime) {
     assert_eq!(&rt; took.as_str(), "@20502 0 took 5 5");
 }
 
-/// A script has calls for as many seats as the ring has, be they none.
+/// A script has calls for exactly the ring's seats, even if there are none.
 #[test]
 fn a_script_has_each_seat(rt: HostRuntime) {
     let alloc = rt.alloc();
@@ -53,7 +53,7 @@ fn a_script_has_each_seat(rt: HostRuntime) {
     }
 }
 
-/// As many seats as the script has, but one more than a ring may have.
+/// The ring has the seats of the script, but that is one more than a ring may have.
 #[test]
 fn a_ring_has_no_more_seats_than_may_be(rt: HostRuntime) {
     let alloc = rt.alloc();

@@ -5,7 +5,7 @@ use session_lock::{Answer, Book};
 use session_state::Given;
 use std::alloc::Global;
 
-/// The request that a text is. `None` where it isn't one, and where memory runs out.
+/// Returns the request that a text is. `None` if it isn't one, or if memory runs out.
 fn request_of(alloc: Global, text: &[u8]) -> Option<Request> {
     let mut units = Reader::new(alloc).feed(text).ok()?.units;
     match units.pop() {
@@ -14,7 +14,7 @@ fn request_of(alloc: Global, text: &[u8]) -> Option<Request> {
     }
 }
 
-/// Opens so many connections. Whether their numbers are those from 1 on.
+/// Opens `count` connections. Returns whether their numbers are those from 1 on.
 pub(crate) fn connects<P: Drop>(book: &mut Book<P>, count: u64) -> bool {
     for number in 1..=count {
         if book.connect() != Ok(number) {
@@ -24,7 +24,7 @@ pub(crate) fn connects<P: Drop>(book: &mut Book<P>, count: u64) -> bool {
     true
 }
 
-/// What the book answers to a request, with the word 7, no point and the moment 0. `None` where it refuses to, and where
+/// Returns the book's answer to a request, with the word 7, no point and the moment 0. `None` if it refuses to answer, or if
 /// memory runs out.
 pub(crate) fn asked<P: Drop>(
     book: &mut Book<P>,
@@ -42,7 +42,7 @@ pub(crate) fn asked<P: Drop>(
     book.ask(conn, &request, &given, offer).ok()
 }
 
-/// What is answered with 200.
+/// Returns the answer, if it is a 200.
 pub(crate) fn accepted<P: Drop>(
     book: &mut Book<P>,
     alloc: Global,
@@ -58,7 +58,7 @@ pub(crate) fn accepted<P: Drop>(
     }
 }
 
-/// Whether this is answered with 200.
+/// Returns whether this is answered with 200.
 pub(crate) fn is_accepted<P: Drop>(
     book: &mut Book<P>,
     alloc: Global,

@@ -14,7 +14,7 @@ fn comes_and_goes(book: &mut Book<u16>, number: u64) -> bool {
     book.connect() == Ok(number) && book.hangup(number) == Act::None
 }
 
-/// So many connections come, whose numbers are those after this one.
+/// Returns whether `count` connections come whose numbers are those after `last`.
 fn come_after(book: &mut Book<u16>, last: u64, count: u64) -> bool {
     for number in 1..=count {
         if book.connect() != Ok(last.saturating_add(number)) {
@@ -66,10 +66,10 @@ fn many_requests_are_answered(rt: HostRuntime) -> Result<(), Fail> {
     Ok(())
 }
 
-/// Whether a connection is open at the base that comes out.
+/// Returns whether a connection is open at the base that comes out.
 fn retired_with(book: &mut Book<u16>, conn: u64) -> Option<bool> {
-    let base = book.retired()?;
-    Some(base.is_open(conn))
+    let retired = book.retired()?;
+    Some(retired.base.is_open(conn))
 }
 
 #[test]
@@ -83,7 +83,7 @@ fn comings_and_requests_cut_the_entries_off(rt: HostRuntime) -> Result<(), Fail>
     // The base before it comes out once.
     assert!(rt; retired_with(&mut book, 1) == Some(false));
     assert!(rt; retired_with(&mut book, 1).is_none());
-    // It stood at the base.
+    // At the base connection 2 was open, and connection 3 not yet.
     assert!(rt; book.base().is_open(2) && !book.base().is_open(3));
     assert!(rt; book.hangup(2) == Act::None && book.kept() == 2);
     assert!(rt; book.hangup(1) == Act::None && book.kept() == 3);
@@ -98,7 +98,7 @@ fn comings_and_requests_cut_the_entries_off(rt: HostRuntime) -> Result<(), Fail>
 /// How many entries a server's book keeps before it cuts them off.
 const FORTY: usize = 40;
 
-/// What a book has to keep: so many entries, after a base at which this connection alone was open, or none.
+/// What a book has to keep: `kept` entries, after a base at which only the connection `open` was open, or none.
 #[derive(Clone, Copy, Drop)]
 struct Wanted {
     kept: usize,
@@ -106,7 +106,7 @@ struct Wanted {
 }
 
 impl Wanted {
-    /// After one more coming or request, before which this connection alone was open, or none.
+    /// After one more coming or request, before which only the connection `open` was open, or none.
     fn after(self, open: Option<u64>) -> Wanted {
         if self.kept >= FORTY {
             return Wanted { kept: 1, open };
@@ -123,7 +123,7 @@ impl Wanted {
     }
 }
 
-/// Whether a book keeps this, and one entry at most beside those that it may.
+/// Returns whether a book keeps this, and at most one entry more than it may.
 fn keeps(book: &Book<u16>, wanted: Wanted) -> bool {
     let base = book.base();
     let is_its_base = match wanted.open {
@@ -134,7 +134,8 @@ fn keeps(book: &Book<u16>, wanted: Wanted) -> bool {
     is_its_base && kept == wanted.kept && book.entries().len() == kept && kept <= FORTY + 1
 }
 
-/// A connection comes, asks once and hangs up. What the book keeps then, where it kept after each of these what it has to.
+/// A connection comes, sends one request and hangs up. Returns what the book keeps then, if after each of these it kept what it
+/// has to.
 fn visited(book: &mut Book<u16>, alloc: Global, conn: u64, before: Wanted) -> Option<Wanted> {
     let come = before.after(None);
     if book.connect() != Ok(conn) || !keeps(book, come) {
@@ -169,7 +170,7 @@ fn a_book_of_forty_entries_does_not_grow(rt: HostRuntime) -> Result<(), Fail> {
     Ok(())
 }
 
-/// Whether a book keeps so many entries, after a base at which so many connections were open.
+/// Returns whether a book keeps `kept` entries, after a base at which `open` connections were open.
 fn holds(book: &Book<u16>, kept: usize, open: usize) -> bool {
     book.kept() == kept && book.base().count_open() == open
 }
@@ -179,7 +180,7 @@ fn who_has_left_is_kept_until_the_next_comes(rt: HostRuntime) -> Result<(), Fail
     let alloc = rt.alloc();
     let mut book: Book<u16> = Book::with_cut(alloc, 1, RandomState::new(&rt)?, FORTY);
     assert!(rt; connects(&mut book, 1024));
-    // Before the 41st there were 40, and so before each fortieth after it.
+    // Before the 41st there were 40, and also before each fortieth after it.
     assert!(rt; holds(&book, 24, 1000));
     for conn in 1..1025 {
         assert!(rt; book.hangup(conn) == Act::None);

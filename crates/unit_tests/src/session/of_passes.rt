@@ -1,4 +1,4 @@
-//! The passes of a book: of as many seats as there may be, and of mounts that end.
+//! The passes of a book: for the most seats that there may be, and for mounts that end.
 use crate::session::asking::{accepted, asked, connects, is_accepted};
 use mounts::MAX_SEATS;
 use session_lock::Book;
@@ -20,7 +20,7 @@ const PLAY: &[u8] = b"PLAY rtsp://h/a RTSP/1.0\nCSeq: 3\nSession: 00000001000000
 
 const PAUSE: &[u8] = b"PAUSE rtsp://h/a RTSP/1.0\nCSeq: 4\nSession: 0000000100000007\n\n";
 
-/// The session of the owner, who sets up after the player.
+/// The session of the owner, which sets up after the player.
 const TEARDOWN: &[u8] = b"TEARDOWN rtsp://h/a RTSP/1.0\nCSeq: 5\nSession: 0000000200000007\n\n";
 
 /// The most seats of a book.
@@ -47,7 +47,7 @@ fn is_set_up(book: &mut Book<u16>, alloc: Global) -> bool {
         && is_accepted(book, alloc, 2, SETUP, None)
 }
 
-/// The seat that a PLAY of connection 2 takes, where the pass is that of the seat.
+/// Returns the seat that a PLAY of connection 2 takes, if the pass is that of the seat.
 fn seat_taken(book: &mut Book<u16>, alloc: Global) -> Option<usize> {
     let answer = accepted(book, alloc, 2, PLAY, None)?;
     let Act::Play { mount: 1, seat } = answer.act else {
@@ -60,7 +60,7 @@ fn seat_taken(book: &mut Book<u16>, alloc: Global) -> Option<usize> {
     }
 }
 
-/// Whether connection 2 plays from a seat that isn't out yet, and leaves it.
+/// Returns whether connection 2 plays from a seat that isn't out yet, and leaves it.
 fn takes_another(book: &mut Book<u16>, alloc: Global, is_out: &mut [bool]) -> bool {
     let Some(seat) = seat_taken(book, alloc) else {
         return false;
@@ -101,10 +101,10 @@ fn as_many_seats_as_there_may_be_are_handed_out(rt: HostRuntime) -> Result<(), F
     Ok(())
 }
 
-/// A pass that tells how many owners it has.
+/// A pass that counts its owners.
 type Counted = Arc<u8, Global>;
 
-/// Three owners more of a pass.
+/// Returns three more owners of a pass.
 fn three(alloc: Global, pass: &Counted) -> Option<Vec<Counted>> {
     let mut passes = Vec::new(alloc);
     for _ in 0..3 {
@@ -113,7 +113,7 @@ fn three(alloc: Global, pass: &Counted) -> Option<Vec<Counted>> {
     Some(passes)
 }
 
-/// How many owners each of two passes has.
+/// Returns how many owners each of two passes has.
 fn owners(first: &Counted, second: &Counted) -> (usize, usize) {
     (Arc::strong_count(first), Arc::strong_count(second))
 }
@@ -135,12 +135,12 @@ fn played(
     accepted(book, alloc, 2, PLAY, None)?.pass
 }
 
-/// Whether the hang-up of connection 1 lets the spare passes of its mount go, and no other.
+/// Returns whether the hang-up of connection 1 drops the spare passes of its mount, and no other.
 fn hangs_up(book: &mut Book<Counted>, first: &Counted, second: &Counted) -> bool {
     owners(first, second) == (4, 4) && book.hangup(1) == Act::End && owners(first, second) == (2, 4)
 }
 
-/// Whether a pass of a mount that has ended stays with who gives it back.
+/// Returns whether a pass of a mount that has ended comes back to the caller that gives it back.
 fn comes_back(book: &mut Book<Counted>, pass: Counted, first: &Counted) -> bool {
     match book.give_back(1, 0, pass) {
         Some(back) => *back == 1 && Arc::strong_count(first) == 2,
@@ -223,7 +223,7 @@ fn an_offer_that_is_not_used_comes_back_whole(rt: HostRuntime) -> Result<(), Fai
     let second = Arc::new(alloc, 2)?;
     let mut book: Book<Counted> = Book::new(alloc, 3, hasher);
     assert!(rt; played(&mut book, alloc, &first, &second).is_some());
-    // The pass that was handed out is let go.
+    // The pass that was handed out is dropped.
     assert!(rt; owners(&first, &second) == (3, 4));
     assert!(rt; is_refused_another(&mut book, alloc, &first));
     assert!(rt; owners(&first, &second) == (3, 4));

@@ -12,7 +12,7 @@ const OPTIONS: &[u8] = b"OPTIONS * RTSP/1.0\r\nCSeq: 1\r\n\r\n";
 const OPTIONS_REPLY: &[u8] =
     b"RTSP/1.0 200 OK\r\nCSeq: 1\r\nPublic: OPTIONS, DESCRIBE, ANNOUNCE, SETUP, PLAY, PAUSE, RECORD, TEARDOWN, GET_PARAMETER\r\n\r\n";
 
-/// The answer to an input, whatever the pieces are that it comes in.
+/// Asserts the answer to an input, whatever pieces it comes in.
 fn expect_answer(
     rt: &impl Abort,
     host: Host,
@@ -111,14 +111,14 @@ const BAD_REQUEST: &[u8] = b"RTSP/1.0 400 Bad Request\r\n\r\n";
 
 const TOO_LARGE: &[u8] = b"RTSP/1.0 413 Request Entity Too Large\r\n\r\n";
 
-/// One text after another.
+/// Returns one text after another.
 fn joined(alloc: Global, first: &[u8], second: &[u8]) -> Result<Vec<u8>, Fail> {
     let mut bytes = Vec::from_slice(alloc, first)?;
     bytes.extend_from_slice(second)?;
     Ok(bytes)
 }
 
-/// The fault ends the talk, after the answer to what came before it.
+/// Asserts that the fault ends the talk, after the answer to what came before it.
 fn expect_fault(
     rt: &impl Abort,
     host: Host,
@@ -154,7 +154,7 @@ fn a_head_too_long(rt: HostRuntime) -> Result<(), Fail> {
     )
 }
 
-/// What a talk tells: the status, the line for standard error and the output.
+/// Returns what a talk reports: the status, the line for standard error and the output.
 fn told(host: Host, input: &[u8], devices: Devices) -> Result<String, Fail> {
     let bytes = Vec::from_slice(host.alloc, input)?;
     let source = ListSource::new(bytes, devices.piece.max(1), devices.fail_at);
@@ -171,7 +171,7 @@ fn told(host: Host, input: &[u8], devices: Devices) -> Result<String, Fail> {
     Ok(format!(in host.alloc; "{} {}|{output}", ended.status, ended.line)?)
 }
 
-/// Inputs with the place at which the source fails, the sink's room, and what is told.
+/// Inputs with the place at which the source fails, the sink's room, and what is reported.
 const TOLD: [(&[u8], Option<usize>, usize, &str); 4] = [
     (
         b"x * x\nCSeq: 3\n\n",

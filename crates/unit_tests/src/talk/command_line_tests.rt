@@ -17,6 +17,9 @@ const DEFAULTS: Settings = Settings {
     back: 0,
     hang_up_ended: false,
     idle: Some(300),
+    silent: None,
+    per_address: None,
+    mounts_per_address: None,
     writers: None,
     is_direct: false,
     is_verbose: false,
@@ -25,21 +28,21 @@ const DEFAULTS: Settings = Settings {
     until_eof: false,
 };
 
-/// What is said of a line has to hold.
+/// Asserts that this holds of a line.
 fn expect(rt: &impl Abort, line: &str, holds: bool) {
     assert!(rt; holds, "{line}");
 }
 
-/// What a line asks for, or its error.
+/// Returns what a line asks for, or its error.
 fn asked(alloc: Global, line: &str) -> Result<Result<Asked, Error>, Fail> {
     let words: Vec<&str> = line.split(' ').collect(alloc)?;
     Ok(read_words(alloc, words.as_slice()))
 }
 
-/// What a line of `relay serve` asks for. `None` where it is refused.
+/// Returns what a line of `relay serve` asks for. `None` if it is refused.
 fn settings(alloc: Global, line: &str) -> Result<Option<Settings>, Fail> {
     match asked(alloc, line)? {
-        Ok(Asked::Serve(_, settings)) => Ok(Some(settings)),
+        Ok(Asked::Serve(_, settings, _)) => Ok(Some(settings)),
         _ => Ok(None),
     }
 }
@@ -62,7 +65,7 @@ const ACCEPTED: [(&str, Settings); 16] = [
     ),
     ("relay serve 127.0.0.1:8554", DEFAULTS),
     (
-        "relay serve a --keep 1 --seats 1 --packet-bytes 12 --accept 1 --gather 0 --back 0 --idle 0 --writers 0 --direct --report 1 --send-buffer 16384",
+        "relay serve a --keep 1 --seats 1 --packet-bytes 12 --accept 1 --gather 0 --back 0 --idle 0 --silent 1 --per-address 1 --mounts-per-address 1 --publish-from 10.0.0.0/8 --play-from ::/0 --limit-exempt 0.0.0.0/0,::/0 --writers 0 --direct --report 1 --send-buffer 16384",
         Settings {
             keep: 1,
             seats: 1,
@@ -72,6 +75,9 @@ const ACCEPTED: [(&str, Settings); 16] = [
             back: 0,
             hang_up_ended: false,
             idle: None,
+            silent: Some(1),
+            per_address: Some(1),
+            mounts_per_address: Some(1),
             writers: Some(0),
             is_direct: true,
             is_verbose: false,
@@ -81,7 +87,7 @@ const ACCEPTED: [(&str, Settings); 16] = [
         },
     ),
     (
-        "relay serve --keep 4095 --seats 1024 --packet-bytes 65535 --accept 18446744073709551615 --gather 100 --back 4095 --hang-up-ended --idle 65535 --writers 64 --verbose --report 86400 --send-buffer 4194304 --until-eof a",
+        "relay serve --keep 4095 --seats 1024 --packet-bytes 65535 --accept 18446744073709551615 --gather 100 --back 4095 --hang-up-ended --idle 65535 --silent 86400 --per-address 1024 --mounts-per-address 64 --writers 64 --verbose --report 86400 --send-buffer 4194304 --until-eof a",
         Settings {
             keep: 4095,
             seats: 1024,
@@ -91,6 +97,9 @@ const ACCEPTED: [(&str, Settings); 16] = [
             back: 4095,
             hang_up_ended: true,
             idle: Some(65_535),
+            silent: Some(86_400),
+            per_address: Some(1_024),
+            mounts_per_address: Some(64),
             writers: Some(64),
             is_direct: false,
             is_verbose: true,
@@ -187,7 +196,19 @@ fn a_server_does_what_its_line_says(rt: HostRuntime) -> Result<(), Fail> {
 }
 
 /// Lines of `serve` that are refused: no address, two of them, a number that is out of its range or none.
-const REFUSED: [&str; 30] = [
+const REFUSED: [&str; 42] = [
+    "relay serve a --silent 0",
+    "relay serve a --silent 86401",
+    "relay serve a --per-address 0",
+    "relay serve a --per-address 1025",
+    "relay serve a --mounts-per-address 0",
+    "relay serve a --mounts-per-address 65",
+    "relay serve a --publish-from 10.0.0.0/33",
+    "relay serve a --publish-from ::/129",
+    "relay serve a --publish-from 10.0.0.1/8",
+    "relay serve a --play-from cam",
+    "relay serve a --play-from 10.0.0.0/8,",
+    "relay serve a --limit-exempt ,",
     "relay serve a --send-buffer 1",
     "relay serve a --send-buffer 16383",
     "relay serve a --send-buffer 4194305",
@@ -228,7 +249,7 @@ fn a_line_out_of_range_is_refused(rt: HostRuntime) -> Result<(), Fail> {
     Ok(())
 }
 
-/// Lines that aren't understood, and the status that tells it: asking for help is 0.
+/// Lines that aren't understood, and their exit status: a request for help is 0.
 const OTHER_LINES: [(&str, i32); 11] = [
     ("relay", 2),
     ("relay play", 2),
@@ -243,7 +264,7 @@ const OTHER_LINES: [(&str, i32); 11] = [
     ("relay serve --help", 0),
 ];
 
-/// The status that tells why a line isn't understood. `None` where it is.
+/// Returns the exit status of a line that isn't understood. `None` if it is understood.
 fn status_of(alloc: Global, line: &str) -> Result<Option<i32>, Fail> {
     match asked(alloc, line)? {
         Ok(_) => Ok(None),
@@ -259,7 +280,7 @@ fn another_line_has_its_status(rt: HostRuntime) -> Result<(), Fail> {
     Ok(())
 }
 
-/// Lines of `steps`, and the actor that stops; `None` where the line is refused. A number past those of all seats names the
+/// Lines of `steps`, and the actor that stops; `None` if the line is refused. A number above those of all seats names the
 /// seat 65,535, which no ring has.
 const STEPS: [(&str, Option<Option<Actor>>); 14] = [
     ("relay steps", Some(None)),
@@ -281,7 +302,7 @@ const STEPS: [(&str, Option<Option<Actor>>); 14] = [
     ("relay steps --stopped p --stopped 0", None),
 ];
 
-/// The actor that stops by a line of `steps`. `None` where it is refused.
+/// Returns the actor that stops by a line of `steps`. `None` if the line is refused.
 fn stopped_of(alloc: Global, line: &str) -> Result<Option<Option<Actor>>, Fail> {
     match asked(alloc, line)? {
         Ok(Asked::Steps(stopped)) => Ok(Some(stopped)),
@@ -297,7 +318,7 @@ fn a_line_of_steps_names_who_stops(rt: HostRuntime) -> Result<(), Fail> {
     Ok(())
 }
 
-/// Lines of `talk`, and where its words come from, or why it has none.
+/// Lines of `talk`, and the source of its words, or why it has none.
 const TALKS: [(&str, Result<WordSource, NoWords>); 8] = [
     ("relay talk", Ok(WordSource::Drawn)),
     ("relay talk --word 0000abcd", Ok(WordSource::Fixed(0xabcd))),
@@ -312,7 +333,7 @@ const TALKS: [(&str, Result<WordSource, NoWords>); 8] = [
     ("relay talk --word=", Err(NoWords::BadWord)),
 ];
 
-/// Where the words of a talk come from that a line asks for, or why it has none. `None` where it asks for none.
+/// Returns the source of the words of the talk that a line asks for, or why it has none. `None` if it asks for no talk.
 fn words_of(alloc: Global, line: &str) -> Result<Option<Result<WordSource, NoWords>>, Fail> {
     match asked(alloc, line)? {
         Ok(Asked::Talk(text)) => Ok(Some(word_source(text.as_deref()))),
@@ -328,7 +349,7 @@ fn a_talk_has_the_words_of_its_line(rt: HostRuntime) -> Result<(), Fail> {
     Ok(())
 }
 
-/// Why a talk has no words, with the status and the line that tell it.
+/// Why a talk has no words, with the exit status and the line on standard error.
 const WORDLESS: [(NoWords, u8, &str); 2] = [
     (NoWords::BadWord, 2, "relay: bad word"),
     (NoWords::NoRandomSource, 1, "relay: no random source"),
@@ -350,21 +371,27 @@ Arguments:
   <ADDR>  Where to listen, as 127.0.0.1:8554; port 0 takes a free one
 
 Options:
-      --keep <N>             How many packets a mount keeps for players that are behind, 1 to 4095 [default: 512]
-      --seats <N>            How many players a mount has, 1 to 1024 [default: 64]
-      --packet-bytes <N>     The longest packet, in bytes, 12 to 65535 [default: 16384]
-      --accept <N>           End when N connections were accepted and have ended
-      --gather <MS>          For how long packets gather before players are woken, 0 to 100 milliseconds [default: 5]
-      --back <N>             How many of the kept packets a new player is given at once, 0 to 4095; above 0 without RTP-Info; near --keep a fast publisher makes it lose some, and has packets refused while it copies [default: 0]
-      --hang-up-ended        Hang a player up once the last packet of its mount was written
-      --idle <SECONDS>       Hang up who says nothing for so long without a session, 0 to 65535, where 0 is never [default: 300]
-      --writers <N>          How many threads send frames, 0 to 64, where 0 gives each player its own [default: one a processor]
-      --direct               Send each packet from its place in the ring, with --writers 0: who reads nothing may then stop its mount, whose packets are refused, for up to 20 seconds
-      --verbose              Tell of each mount and each player on standard error
-      --report <SECONDS>     Tell each mount's packets and each player's losses so often on standard error, 1 to 86400
-      --send-buffer <BYTES>  The send buffer that the system is asked for, in bytes, 16384 to 4194304, or 0 for its own; Linux holds up to twice as many: more keeps bursts, less keeps the picture live [default: 524288 if the system grants it, else 0]
-      --until-eof            End when standard input ends, and first log what each connection lost and a last report
-  -h, --help                 Print help
+      --keep <N>                How many packets a mount keeps for players that are slow, 1 to 4095 [default: 512]
+      --seats <N>               How many players a mount has, 1 to 1024 [default: 64]
+      --packet-bytes <N>        The longest packet, in bytes, 12 to 65535 [default: 16384]
+      --accept <N>              End when N connections were accepted and have ended
+      --gather <MS>             For how long packets gather before players are woken, 0 to 100 milliseconds [default: 5]
+      --back <N>                How many of the kept packets a new player is sent at once, 0 to 4095; above 0 without RTP-Info; near --keep a fast publisher makes it lose some, and has packets refused while it copies [default: 0]
+      --hang-up-ended           Disconnect a player after the last packet of its mount was written
+      --idle <SECONDS>          Disconnect clients that have no session after SECONDS of silence, 0 to 65535; 0 is never [default: 300]
+      --silent <SECONDS>        Disconnect a publisher that sends nothing, no packet and no request, for SECONDS while it records, within two more, 1 to 86400 [default: its session expires after 60]
+      --per-address <N>         How many connections an address may have, 1 to 1024; IPv6 counts by /64; a wall behind NAT is one address [default: any number]
+      --mounts-per-address <N>  How many mounts an address may publish, 1 to 64; a recorder is one address [default: any number]
+      --limit-exempt <NET>      Networks that --per-address and --mounts-per-address don't apply to, as 10.0.0.5,192.168.7.0/24
+      --publish-from <NET>      Networks from which mounts may be published, as 10.0.0.0/8,fd00::/8; others get 403; it is no authentication [default: all]
+      --play-from <NET>         Networks from which mounts may be played; others get 403; it is no authentication [default: all]
+      --writers <N>             How many threads send frames, 0 to 64; 0 gives each player its own [default: one a processor]
+      --direct                  Copy each packet once, from its place in the ring, with --writers 0: a player that stops reading can then block its mount, whose packets are refused, for 20 seconds, a slow one for longer
+      --verbose                 Log each mount, each player and each refusal on standard error
+      --report <SECONDS>        Log each mount's packets and each player's losses every SECONDS on standard error, 1 to 86400
+      --send-buffer <BYTES>     The send buffer that the system is asked for, in bytes, 16384 to 4194304, or 0 for its own; Linux holds up to twice as many: more keeps bursts, less keeps the picture live [default: 524288 if the system grants it, else 0]
+      --until-eof               End when standard input ends, and first log what each connection lost and a last report
+  -h, --help                    Print help
 
 Examples:
 
@@ -390,7 +417,7 @@ const STEPS_HELP: &str = "Runs a ring's schedule from standard input, and writes
 Usage: relay steps [OPTIONS]
 
 Options:
-      --stopped <A>  Stop p or this seat behind the schedule, and let the others finish their calls
+      --stopped <A>  Stop p or this seat after the schedule, and let the others finish their calls
   -h, --help         Print help
 
 Example: a seat loses the first of three packets, since the ring keeps two
@@ -398,7 +425,7 @@ Example: a seat loses the first of three packets, since the ring keeps two
 printf 'keep 2\\nseats 1\\np 41\\np 42\\np 43\\n0 attach\\n0 take\\n0 take\\n0 detach\\ngo 0 p*15 0 0*5 0\\n' | ./relay steps
 ";
 
-/// What a line is told whose actor isn't one.
+/// The error of a line whose actor isn't one.
 const NO_ACTOR: &str = "error: invalid value '1x' for '--stopped <A>': not p and no seat's number
 
 Usage: relay steps [OPTIONS]
@@ -406,7 +433,7 @@ Usage: relay steps [OPTIONS]
 For more information, try '--help'.
 ";
 
-/// Lines that ask for help or the version, or whose actor isn't one, and what they are told.
+/// Lines that ask for help or the version, or whose actor isn't one, and the text that they get.
 const HELPS: [(&str, &str); 5] = [
     ("relay serve --help", SERVE_HELP),
     ("relay talk --help", TALK_HELP),
@@ -415,7 +442,7 @@ const HELPS: [(&str, &str); 5] = [
     ("relay --version", "relay 0.1.0\n"),
 ];
 
-/// Whether a line is told this text.
+/// Returns whether a line gets this text.
 fn is_helped(alloc: Global, line: &str, help: &str) -> Result<bool, Fail> {
     match asked(alloc, line)? {
         Ok(_) => Ok(false),

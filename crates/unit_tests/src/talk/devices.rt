@@ -9,7 +9,7 @@ use std::collections::hash_map::RandomState;
 use std::process::Abort;
 use std::test::Fail;
 
-/// Where a talk is tried.
+/// The environment of a talk.
 #[derive(Clone, Copy)]
 pub(crate) struct Host {
     pub alloc: Global,
@@ -26,7 +26,7 @@ pub(crate) fn made_host(rt: &HostRuntime, word: u32) -> Result<Host, Fail> {
     })
 }
 
-/// A clock that stands at 0.
+/// A clock that is always at 0.
 #[derive(Drop)]
 pub(crate) struct Still;
 
@@ -38,7 +38,7 @@ impl Moments for Still {
     }
 }
 
-/// How the bytes of a talk come and go: at most so many a read, up to a place at which the source fails, into a sink
+/// How the bytes of a talk come and go: at most `piece` bytes a read, up to a place at which the source fails, into a sink
 /// with this room.
 #[derive(Clone, Copy, Debug)]
 pub(crate) struct Devices {
@@ -56,7 +56,7 @@ pub(crate) fn in_pieces(piece: usize) -> Devices {
     }
 }
 
-/// What a talk came to.
+/// The outcome of a talk.
 #[derive(Drop)]
 pub(crate) struct Outcome {
     pub end: TalkEnd,
@@ -66,7 +66,7 @@ pub(crate) struct Outcome {
     pub left: u64,
 }
 
-/// What a talk of this input comes to, with these words, by a clock that stands.
+/// Returns the outcome of a talk of this input, with these words, by a clock that is always at 0.
 pub(crate) fn outcome_of<V: Words>(
     host: Host,
     input: &[u8],
@@ -76,7 +76,7 @@ pub(crate) fn outcome_of<V: Words>(
     outcome_at(host, input, devices, words, &mut Still)
 }
 
-/// What a talk of this input comes to, with these words and at these moments.
+/// Returns the outcome of a talk of this input, with these words and at these moments.
 pub(crate) fn outcome_at<V: Words, N: Moments>(
     host: Host,
     input: &[u8],
@@ -95,7 +95,7 @@ pub(crate) fn outcome_at<V: Words, N: Moments>(
     })
 }
 
-/// A talk of this input has to write this text, and to end so.
+/// Asserts that a talk of this input writes this text, and has this end.
 pub(crate) fn expect_talk(
     rt: &impl Abort,
     host: Host,

@@ -37,7 +37,7 @@ pub(crate) const RECORDS: &[u8] =
 pub(crate) const DESCRIBED: &[u8] =
     b"RTSP/1.0 200 OK\r\nCSeq: 5\r\nContent-Base: rtsp://127.0.0.1:8554/cam/\r\nContent-Type: application/sdp\r\nContent-Length: 149\r\n\r\nv=0\r\no=- 0 0 IN IP4 127.0.0.1\r\ns=No Name\r\nc=IN IP4 127.0.0.1\r\nt=0 0\r\na=control:*\r\nm=video 0 RTP/AVP 96\r\na=rtpmap:96 H264/90000\r\na=control:trackID=0\r\n";
 
-/// A camera announces, sets up, records and asks what players are told: message by message, with the answer to each.
+/// A camera sends ANNOUNCE, SETUP, RECORD, and the DESCRIBE of players: message by message, with the answer to each.
 pub(crate) const CAMERA: Run = Run {
     sent: &[ANNOUNCE, SETUP, RECORD, DESCRIBE],
     read: &[ANNOUNCED, IS_SET_UP, RECORDS, DESCRIBED],
@@ -92,7 +92,7 @@ const RUNS: [Run; 4] = [
     },
 ];
 
-/// A publisher's talk has to write what it reads, with so many bytes a read.
+/// Asserts that a publisher's talk writes the replies of the run, with reads of at most `piece` bytes.
 fn expect_run(rt: &impl Abort, host: Host, run: &Run, piece: usize) -> Result<(), Fail> {
     let sent = run.sent.concat(host.alloc)?;
     let read = run.read.concat(host.alloc)?;
@@ -110,7 +110,7 @@ fn publishers_are_answered_byte_for_byte(rt: HostRuntime) -> Result<(), Fail> {
     Ok(())
 }
 
-/// The answers to all messages of a run that are whole before this place.
+/// Returns the answers to all messages of a run that are whole before this place.
 fn answered_before(alloc: Global, run: &Run, place: usize) -> Result<Vec<u8>, Fail> {
     let mut answers = Vec::new(alloc);
     let mut whole = 0usize;
@@ -154,7 +154,7 @@ fn a_cameras_sink_of_each_room(rt: HostRuntime) -> Result<(), Fail> {
     Ok(())
 }
 
-/// Answers the words from this one on.
+/// Returns the words from this one on.
 #[derive(Drop)]
 struct CountedWords(u32);
 

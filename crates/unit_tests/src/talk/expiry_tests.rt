@@ -7,11 +7,11 @@ use relay_talk::{FixedWord, TalkEnd};
 use session_state::Moments;
 use std::test::Fail;
 
-/// A clock that stands at the one moment after the other, and at the last one for good.
+/// A clock that is at each of these moments in turn, and then at the maximum.
 #[derive(Drop)]
 struct Listed {
     moments: &'static [u64],
-    /// How often it was asked.
+    /// How often it was read.
     asked: usize,
 }
 
@@ -25,7 +25,7 @@ impl Moments for Listed {
     }
 }
 
-/// What a camera is told whose session has expired before its RECORD: its mount has ended, too.
+/// What a camera is sent if its session has expired before its RECORD: its mount has ended, too.
 const EXPIRED: [&[u8]; 4] = [
     ANNOUNCED,
     IS_SET_UP,
@@ -33,10 +33,10 @@ const EXPIRED: [&[u8]; 4] = [
     b"RTSP/1.0 404 Not Found\r\nCSeq: 5\r\n\r\n",
 ];
 
-/// What it is told else.
+/// What it is sent else.
 const LIVES: [&[u8]; 4] = [ANNOUNCED, IS_SET_UP, RECORDS, DESCRIBED];
 
-/// The moments of a camera's four messages, what comes in before its RECORD, and what it is told.
+/// The moments of a camera's four messages, what comes in before its RECORD, and what it is sent.
 const ROWS: [(&[u64], &[u8], [&[u8]; 4]); 9] = [
     (&[0, 0, 0, 0], b"", LIVES),
     (&[5, 1_000, 60_999, 120_998], b"", LIVES),
@@ -53,7 +53,7 @@ const ROWS: [(&[u64], &[u8], [&[u8]; 4]); 9] = [
     (&[1_000_000, 1_000_000, 0, 0], b"", LIVES),
 ];
 
-/// Whether a camera is told what it has to be, and a moment was asked for once a message.
+/// Returns whether a camera is sent the expected replies, and the clock was read once for each message.
 fn is_told(
     host: Host,
     moments: &'static [u64],

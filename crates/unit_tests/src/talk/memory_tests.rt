@@ -1,6 +1,6 @@
-//! What stands where a request for memory is refused, in a talk and in the book that it asks. `tools/refuse-memory` runs each
-//! of these once for each request that it makes, with that one refused: then it ends out of memory before what it shows,
-//! or passes.
+//! What holds if a request for memory is refused, in a talk and in the book that it asks. `tools/refuse-memory` runs each
+//! of these once for each request that it makes, with that one refused. The run either ends out of memory before what it
+//! shows, or passes.
 ghost use Rattle.std.specs.Prelude.{◌≤◌};
 
 use crate::talk::devices::{Outcome, in_pieces, made_host, outcome_of};
@@ -16,11 +16,11 @@ use std::process::Abort;
 use std::random::RandomSource;
 use std::test::Fail;
 
-/// What the last reply is where nothing more can be read, out of memory.
+/// The last reply if nothing more can be read, because it is out of memory.
 const LAST: &[u8] = b"RTSP/1.0 503 Service Unavailable\r\n\r\n";
 
-/// What a camera is told: all replies, or with one that there was no memory for. The book hasn't heard that request, or it
-/// has, and its act was carried out.
+/// What a camera is sent: all replies, or a 503 for one that there was no memory for. The book hasn't seen that request, or
+/// it has, and its act was carried out.
 const TOLD: [[&[u8]; 4]; 7] = [
     [ANNOUNCED, IS_SET_UP, RECORDS, DESCRIBED],
     [
@@ -61,7 +61,7 @@ const TOLD: [[&[u8]; 4]; 7] = [
     ],
 ];
 
-/// Whether a text is these parts, one after the other.
+/// Returns whether a text is these parts, one after the other.
 fn is_joined(text: &[u8], parts: &[&[u8]]) -> bool {
     let mut rest = text;
     for part in parts {
@@ -73,7 +73,7 @@ fn is_joined(text: &[u8], parts: &[&[u8]]) -> bool {
     rest.is_empty()
 }
 
-/// Whether a text is the replies to some of the first messages, and the last text.
+/// Returns whether a text is the replies to some of the first messages, and the last text.
 fn is_cut_off(text: &[u8]) -> bool {
     let mut rest = text;
     for reply in CAMERA.read {
@@ -88,7 +88,7 @@ fn is_cut_off(text: &[u8]) -> bool {
     rest == LAST
 }
 
-/// Whether this is what a talk comes to of which at most one request for memory was refused.
+/// Returns whether this is an outcome of a talk with at most one request for memory refused.
 fn stands(outcome: &Outcome) -> bool {
     let text = outcome.written.as_slice();
     match outcome.end {
@@ -108,7 +108,7 @@ fn a_talk_tells_of_a_refusal_and_goes_on(rt: HostRuntime) -> Result<(), Fail> {
     Ok(())
 }
 
-/// What connections 1 and 2 ask, each answered with 200, with the act and the pass that is handed out.
+/// The requests of connections 1 and 2, each answered with 200, with the act and the pass that is handed out.
 const ASKED: [(u64, &[u8], Act, Option<u16>); 6] = [
     (
         1,
@@ -148,7 +148,7 @@ const ASKED: [(u64, &[u8], Act, Option<u16>); 6] = [
     ),
 ];
 
-/// The last of these units, where it is a request.
+/// Returns the last of these units, if it is a request.
 fn last_request(mut units: Vec<Unit>) -> Option<Request> {
     match units.pop() {
         Some(Unit::Message(request)) => Some(request),
@@ -171,12 +171,12 @@ fn offer_of(rt: &impl Abort, alloc: Global, text: &[u8]) -> Option<Vec<u16>> {
     }
 }
 
-/// The state of a session, where there is one.
+/// Returns the state of a session, if there is one.
 fn state_of(session: Option<&Session>) -> Option<State> {
     Some(session?.state)
 }
 
-/// What is seen of a book, which a refusal leaves as it was: how many entries it keeps, how many connections and mounts had
+/// What is seen of a book, which a refusal leaves unchanged: how many entries it keeps, how many connections and mounts had
 /// come to its base, and the sessions of connections 1 and 2.
 #[derive(Clone, Copy, PartialEq, Drop)]
 struct Seen {
@@ -186,7 +186,7 @@ struct Seen {
     states: [Option<State>; 2],
 }
 
-/// What is seen of a book. Nothing where its entries aren't as many as it says.
+/// Returns what is seen of a book. `None` if the number of its entries isn't its count of them.
 fn look_at(book: &Book<u16>) -> Option<Seen> {
     let kept = book.kept();
     if book.entries().len() != kept {
@@ -200,7 +200,7 @@ fn look_at(book: &Book<u16>) -> Option<Seen> {
     })
 }
 
-/// The next connection's number, asked for once more where memory is refused. Nothing where the refusal changed the book.
+/// Returns the next connection's number, with a retry if memory is refused. `None` if the refusal changed the book.
 fn comes_at_last(book: &mut Book<u16>) -> Option<u64> {
     let before = look_at(book)?;
     match book.connect() {
@@ -210,8 +210,8 @@ fn comes_at_last(book: &mut Book<u16>) -> Option<u64> {
     }
 }
 
-/// The answer to a request, which is asked once more where memory is refused. Nothing where the refusal changed the book
-/// or kept the offer.
+/// Returns the answer to a request, with a retry if memory is refused. `None` if the refusal changed the book or kept the
+/// offer.
 fn answer_at_last(
     book: &mut Book<u16>,
     alloc: Global,
@@ -238,7 +238,7 @@ fn answer_at_last(
     }
 }
 
-/// Whether a request is answered so.
+/// Returns whether a request is answered as in this row.
 fn is_answered(
     rt: &impl Abort,
     book: &mut Book<u16>,
@@ -262,7 +262,7 @@ const NO_CUT: usize = 4096;
 /// How many connections come: more than a cutting book has room for at once, and than its world has.
 const COME: u64 = 16;
 
-/// How many entries are kept after a coming or a request, by a book that cuts off so many or more.
+/// Returns how many entries are kept after a coming or a request, by a book that cuts off `cut` or more.
 fn kept_after(kept: usize, cut: usize) -> usize {
     if kept < cut {
         kept.saturating_add(1)
@@ -271,7 +271,7 @@ fn kept_after(kept: usize, cut: usize) -> usize {
     }
 }
 
-/// Whether as many connections come, and each is written down.
+/// Returns whether `COME` connections come, and each has an entry.
 fn all_come(book: &mut Book<u16>, cut: usize) -> bool {
     for number in 1..=COME {
         let kept = kept_after(book.kept(), cut);
@@ -282,7 +282,7 @@ fn all_come(book: &mut Book<u16>, cut: usize) -> bool {
     true
 }
 
-/// Whether all come, and what two of them ask is answered and written down.
+/// Returns whether all come, and the requests of two of them are answered and have entries.
 fn plays(rt: &impl Abort, book: &mut Book<u16>, alloc: Global, cut: usize) -> bool {
     if !all_come(book, cut) {
         return false;
@@ -296,7 +296,7 @@ fn plays(rt: &impl Abort, book: &mut Book<u16>, alloc: Global, cut: usize) -> bo
     true
 }
 
-/// A book of one seat that cuts so many entries off.
+/// A book of one seat that cuts off `cut` entries.
 fn book_of<R: RandomSource + Abort>(rt: &R, alloc: Global, cut: usize) -> Book<u16>
     requires { 1 ≤ cut }
 {
@@ -318,7 +318,7 @@ fn a_refused_cut_is_made_again(rt: HostRuntime) {
     assert!(rt; state_of(book.base().session_of(2)) == Some(State::Ready));
 }
 
-/// Whether a player leaves and its seat comes back once, and then its camera leaves.
+/// Returns whether a player leaves and its seat comes back once, and then its camera leaves.
 fn leave(book: &mut Book<u16>) -> bool {
     book.hangup(2) == Act::Stop { mount: 1, seat: 0 }
         && book.give_back(1, 0, 10).is_none()
@@ -328,7 +328,7 @@ fn leave(book: &mut Book<u16>) -> bool {
         && book.kept() == 25
 }
 
-/// A hang-up and the return of a seat take no memory. In a run in which the next request after them is refused they answer the
+/// A hang-up and the return of a seat take no memory. In a run in which the next request after them is refused they return the
 /// same.
 #[test]
 fn who_leaves_the_book_takes_no_memory(rt: HostRuntime) {
@@ -338,7 +338,8 @@ fn who_leaves_the_book_takes_no_memory(rt: HostRuntime) {
     let _next = Vec::from_elem(rt.alloc(), 0u8, 1).is_ok();
 }
 
-/// Whether a player's session expires, its seat comes back once, and it and its camera leave, where nothing of this cuts.
+/// Returns whether a player's session expires, its seat comes back once, and it and its camera leave. Nothing of this cuts
+/// entries off.
 fn leave_uncut(book: &mut Book<u16>) -> bool {
     book.expire(2, 0, 59_999).is_none()
         && book.expire(2, 0, 60_000) == Some(Act::Stop { mount: 1, seat: 0 })
@@ -352,14 +353,15 @@ fn leave_uncut(book: &mut Book<u16>) -> bool {
         && state_of(book.base().session_of(2)) == Some(State::Ready)
 }
 
-/// The status of what connection 3 asks of the mount that has ended.
+/// Returns the status of connection 3's DESCRIBE of the mount that has ended.
 fn status_after(rt: &impl Abort, book: &mut Book<u16>, alloc: Global) -> Option<u16> {
     let request = request_of(rt, alloc, b"DESCRIBE rtsp://h/a RTSP/1.0\nCSeq: 1\n\n");
     let answer = answer_at_last(book, alloc, 3, &request, None)?;
     Some(answer.reply.status.code())
 }
 
-/// So they do, and an expiry, where each coming and request cuts. The next coming makes the request for memory after them.
+/// The same holds, and also for an expiry, if each coming and request cuts. The next coming makes the request for memory after
+/// them.
 #[test]
 fn who_leaves_between_cuts_takes_no_memory(rt: HostRuntime) {
     let mut book = book_of(&rt, rt.alloc(), 1);

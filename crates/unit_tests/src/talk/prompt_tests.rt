@@ -1,4 +1,4 @@
-//! Each answer is written before more is read. No contract says this of the two devices of a talk, so it is tried.
+//! Each answer is written before more is read. No contract states this of the two devices of a talk, so it is tested.
 use crate::talk::devices::{Devices, Host, Still, in_pieces, made_host, outcome_of};
 use interleaved::{Reading, Writing};
 use relay_talk::{FixedWord, TalkEnd, run_talk};
@@ -116,7 +116,7 @@ fn end_over<'a>(host: Host, wire: &'a Wire<'a>) -> TalkEnd {
     end
 }
 
-/// Whether each answer of a talk is written before more is read, and the talk ends as it should.
+/// Returns whether each answer of a talk is written before more is read, and the talk ends as it should.
 fn answers_in_time(host: Host, row: &Row) -> bool {
     let wire = Wire {
         pieces: row.pieces.as_slice(),
@@ -161,7 +161,7 @@ fn long_request(alloc: Global) -> Result<Vec<u8>, Fail> {
     Ok(input)
 }
 
-/// Whether a talk ends well, and with an answer to OPTIONS.
+/// Returns whether a talk ends well, and with an answer to OPTIONS.
 fn is_answered<R: Read + Drop>(host: Host, reader: R) -> bool {
     let mut out = Vec::new(host.alloc);
     let mut writer = Writing::new(&mut out);

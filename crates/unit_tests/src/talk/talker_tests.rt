@@ -22,11 +22,11 @@ const ANNOUNCED: &[u8] =
 const RECORDED: &[u8] =
     b"$\x04\x00\x0c\x80\x00\x00\x00\x00\x00\x00\x00\x00\x00\x00\x01RECORD rtsp://h/a RTSP/1.0\nCSeq: 3\nSession: 000000010000abcd\n\n$\x04\x00\x0c\x80\x00\x00\x00\x00\x00\x00\x00\x00\x00\x00\x02PAUSE rtsp://h/a RTSP/1.0\nCSeq: 4\nSession: 000000010000abcd\n\n$\x04\x00\x0c\x80\x00\x00\x00\x00\x00\x00\x00\x00\x00\x00\x03ANNOUNCE rtsp://h/b RTSP/1.0\nCSeq: 5\nContent-Length: 26\n\nv=0\nm=audio 0 RTP/AVP 0  \nRECORD rtsp://h/a RTSP/1.0\nCSeq: 6\nSession: 000000010000abcd\n\n$\x05\x00\x01\x04$\x06\x00\x01\x05";
 
-/// What the player asks for.
+/// The player's requests.
 const PLAYED: &[u8] =
     b"SETUP rtsp://h/a/trackID=0 RTSP/1.0\nCSeq: 1\nTransport: RTP/AVP/TCP;interleaved=0-1\n\nPLAY rtsp://h/a RTSP/1.0\nCSeq: 2\nSession: 000000020000abcd\n\n";
 
-/// Whether a request is answered with 200.
+/// Returns whether a request is answered with 200.
 fn is_accepted(talker: &mut Talker, request: &Request) -> bool
     requires open { is_open 1 talker.old.book.history ≡ true }
     requires seats { talker.old.book.seats ≡ 1 }
@@ -38,7 +38,7 @@ fn is_accepted(talker: &mut Talker, request: &Request) -> bool
     }
 }
 
-/// Answers all that comes, and tells how many requests were accepted.
+/// Answers all that comes, and returns how many requests were accepted.
 fn count_accepted(talker: &mut Talker, intake: &mut Intake<ListSource>) -> Result<u64, Fail>
     requires { talker.old.book.seats ≡ 1 }
     ensures { talker.new.book.seats ≡ 1 }
@@ -58,7 +58,7 @@ fn count_accepted(talker: &mut Talker, intake: &mut Intake<ListSource>) -> Resul
     Err(Fail::from("no more than seven requests"))
 }
 
-/// Answers all that is sent, and tells how many requests were accepted.
+/// Answers all that is sent, and returns how many requests were accepted.
 fn accepted(talker: &mut Talker, alloc: Global, sent: &[u8]) -> Result<u64, Fail>
     requires { talker.old.book.seats ≡ 1 }
     ensures { talker.new.book.seats ≡ 1 }
@@ -126,7 +126,7 @@ fn joined(talker: &mut Talker, alloc: Global) -> Result<Subscriber, Fail>
     }
 }
 
-/// Adds the tag and the last byte of the next packet, or a full stop where more may come. Whether there was a packet.
+/// Adds the tag and the last byte of the next packet, or a full stop if more may come. Returns whether there was a packet.
 fn take_next(alloc: Global, seat: &mut Subscriber, bytes: &mut Vec<u8>) -> Result<bool, Fail> {
     let mut buf = Vec::from_elem(alloc, 0, seat.packet_bytes())?;
     match seat.take(buf.as_mut_slice()) {
@@ -143,7 +143,7 @@ fn take_next(alloc: Global, seat: &mut Subscriber, bytes: &mut Vec<u8>) -> Resul
     }
 }
 
-/// The tag and the last byte of each packet that there is, and a full stop where more may come.
+/// Returns the tag and the last byte of each packet that there is, and a full stop if more may come.
 fn taken(alloc: Global, seat: &mut Subscriber) -> Result<Vec<u8>, Fail> {
     let mut bytes = Vec::new(alloc);
     for _ in 0..8 {
@@ -154,7 +154,7 @@ fn taken(alloc: Global, seat: &mut Subscriber) -> Result<Vec<u8>, Fail> {
     Ok(bytes)
 }
 
-/// Whether a seat takes what comes while the session records, and nothing after the connection's end.
+/// Returns whether a seat takes what comes while the session records, and nothing after the connection's end.
 fn are_taken(talker: &mut Talker, alloc: Global, seat: &mut Subscriber) -> Result<bool, Fail>
     requires { talker.old.book.seats ≡ 1 }
 {

@@ -27,7 +27,7 @@ fn words_are_drawn_in_the_order_of_the_generator(rt: HostRuntime) {
     assert_eq!(rt; three_words(&mut others), want);
 }
 
-/// What stands after `--word`, and the word that it is.
+/// What comes after `--word`, and the word that it is.
 const WORDS: [(&str, Option<u32>); 11] = [
     ("0000abcd", Some(0xabcd)),
     ("0000ABCD", Some(0xabcd)),

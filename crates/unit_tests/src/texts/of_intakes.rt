@@ -65,12 +65,12 @@ fn watching<'a>(
 const UNITS: &[u8] =
     b"OPTIONS * RTSP/1.0\r\nCSeq: 1\r\n\r\n$\x02\x00\x03abcPLAY * RTSP/1.0\r\nCSeq: 2\r\n\r\n\r\n";
 
-/// So many pieces of this size have so many bytes.
+/// Returns how many pieces of `size` bytes have `bytes` bytes.
 fn pieces_of(size: usize, bytes: usize) -> usize {
     bytes.div_ceil(size.max(1))
 }
 
-/// How often the source was read when each of so many calls had been answered.
+/// Returns how often the source was read when each of `calls` calls had returned.
 fn counted<S: Source + Drop>(
     alloc: Global,
     intake: &mut Intake<S>,
@@ -85,7 +85,7 @@ fn counted<S: Source + Drop>(
     Ok(counts)
 }
 
-/// How often the source was read when each of so many calls had been answered. It gives at most `first` bytes in the
+/// Returns how often the source was read when each of `calls` calls had returned. It gives at most `first` bytes in the
 /// first read, and `piece` in each later one.
 fn reads_by_call(
     alloc: Global,
@@ -138,7 +138,7 @@ fn a_request_in_two_reads(rt: HostRuntime) -> Result<(), Fail> {
     Ok(())
 }
 
-/// The reader's room after a piece of so many pads and these bytes.
+/// Returns the reader's room after a piece of this number of pads and these bytes.
 fn room_after(alloc: Global, pads: usize, end: &[u8]) -> Result<usize, Fail> {
     let mut piece = Vec::from_elem(alloc, b'\n', pads)?;
     piece.extend_from_slice(end)?;
@@ -188,7 +188,7 @@ fn bytes_one_by_one_are_looked_at_a_few_times(rt: HostRuntime) -> Result<(), Fai
     Ok(())
 }
 
-/// What a reader tells of itself.
+/// Returns the numbers of a reader.
 fn told_by(reader: &Reader) -> (usize, usize, u64, u64) {
     (
         reader.waiting(),
@@ -198,8 +198,8 @@ fn told_by(reader: &Reader) -> (usize, usize, u64, u64) {
     )
 }
 
-/// How many units a piece brings, which is fed once more where memory is refused. Nothing where the refusal changed
-/// what the reader tells.
+/// Returns how many units a piece brings, which is fed once more if memory is refused. `None` if the refusal changed
+/// the reader's numbers.
 fn units_at_last(reader: &mut Reader, piece: &[u8]) -> Result<Option<usize>, Fail> {
     let before = told_by(reader);
     if let Ok(fed) = reader.feed(piece) {

@@ -69,7 +69,7 @@ fn a_broken_sink_stays_failed(rt: HostRuntime) {
     assert_eq!(rt; sink.into_inner().calls, 1);
 }
 
-/// What stands at the front of the bytes, where a frame may begin there.
+/// Returns what is at the front of the bytes, if a frame may begin there.
 fn at(bytes: &[u8]) -> Option<FrameAt> {
     match bytes {
         [] | [0x24, ..] => Some(frame_at(bytes)),
@@ -88,7 +88,7 @@ fn a_frame_by_its_bytes(rt: HostRuntime) -> Result<(), Fail> {
     Ok(())
 }
 
-/// How so much data is put, how long that is, and what stands at the front of it.
+/// Returns the result of putting `len` bytes of data, the length of the frame, and what is at its front.
 fn put(alloc: Global, len: usize) -> Result<(Result<(), PutFault>, usize, Option<FrameAt>), Fail> {
     let data = Vec::from_elem(alloc, 0x5a, len)?;
     let mut out = Vec::new(alloc);

@@ -1,4 +1,4 @@
-//! How much room there is for more than what is in units, in copies of requests and of replies, in the lists of them and in texts.
+//! The spare capacity of units, of copies of requests and of replies, of the lists of them and of texts.
 use base_syntax::{Bytes, Items};
 use rtsp_message::{Fields, Reader, Reply, Request, Status, Unit, put_reply};
 use std::alloc::{AllocError, Global};
@@ -8,7 +8,7 @@ use std::process::Abort;
 /// How many frames, and how many header fields, are read.
 const MANY: usize = 2_000;
 
-/// Whether so much room is for at most twice as many as are in it, and a few.
+/// Returns whether a capacity is at most twice the length, and a few more.
 fn is_close(capacity: usize, len: usize) -> bool {
     capacity / 2 <= len.saturating_add(4)
 }
@@ -96,7 +96,7 @@ fn all_fields(rt: &impl Abort, alloc: Global) -> Fields {
     }
 }
 
-/// A reply with each field, and a body of so many bytes as many frames have.
+/// A reply with each field, and a body of `MANY` bytes.
 fn long_reply(rt: &impl Abort, alloc: Global) -> Reply {
     Reply {
         status: Status::Ok,

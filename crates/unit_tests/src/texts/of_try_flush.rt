@@ -11,7 +11,7 @@ const FRAMES: [u8; 18] = [
 
 const REPLY: &[u8] = b"RTSP/1.0 200 OK\r\n\r\n";
 
-/// How much a sink takes at once where it doesn't take all.
+/// How much a sink takes at once if it doesn't take all.
 #[derive(Clone, Copy, Debug)]
 enum Short {
     None,
@@ -19,7 +19,7 @@ enum Short {
     AllButOne,
 }
 
-/// A sink in memory that takes all at once but at one of its tries, and all where it may wait.
+/// A sink in memory that takes all at once, except at one of its tries. A write that may wait takes all.
 #[derive(Drop)]
 struct ShortOnce {
     sink: ListSink,

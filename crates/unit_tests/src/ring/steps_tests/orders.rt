@@ -27,7 +27,7 @@ fn call_of(rt: &impl Abort, alloc: Global, event: &TraceEvent, byte: u8) -> Call
 }
 
 /// Makes the calls of these events on a plain log, and compares the answers. A refused publish is left
-/// out, since it changes nothing.
+/// out, because it changes nothing.
 fn compare(rt: &impl Abort, alloc: Global, config: &Config, published: &[u8], trace: &Trace) {
     let mut calls = Vec::new(alloc);
     let mut wanted = Vec::new(alloc);
@@ -62,7 +62,7 @@ fn compare(rt: &impl Abort, alloc: Global, config: &Config, published: &[u8], tr
     }
 }
 
-/// Whether an actor has a call that this run didn't answer.
+/// Returns whether an actor has a call that this run didn't answer.
 fn has_call(script: &Script, trace: &Trace, actor: Actor) -> bool {
     let calls = match actor {
         Actor::P => script.publisher.len(),
@@ -132,7 +132,7 @@ fn one_run(trace: &Trace, whole: bool) -> Tried {
     }
 }
 
-/// Tries each order in which the actors may make so many steps more. None of these runs is refused.
+/// Tries each order in which the actors may make this number of steps more. None of these runs is refused.
 fn explore(
     rt: &impl Abort,
     alloc: Global,

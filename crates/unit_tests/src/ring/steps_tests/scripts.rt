@@ -1,4 +1,4 @@
-//! Scripts and schedules as the command `steps` writes them, and what their runs tell.
+//! Scripts and schedules as the command `steps` writes them, and the events of their runs.
 use cursor::{Answer, Delivery};
 use ring_steps::{
     Actor, Bytes, Observed, PublisherCall, Script, Seat, SeatCall, SeatCalls, Trace, TraceEvent,
@@ -62,7 +62,7 @@ pub(super) fn schedule(rt: &impl Abort, alloc: Global, letters: &str) -> Vec<Act
     actors
 }
 
-/// An answer as the command writes it, but for the pins of a refusal.
+/// An answer as the command writes it, without the pins of a refusal.
 pub(super) fn answer_told(alloc: Global, answer: &Answer) -> Result<String, AllocError> {
     match answer {
         Answer::Appended(n) => format!(in alloc; "appended {n}"),
@@ -85,7 +85,7 @@ pub(super) fn answer_told(alloc: Global, answer: &Answer) -> Result<String, Allo
     }
 }
 
-/// An event as the command writes it. A refusal tells the pins that its step saw.
+/// An event as the command writes it. A refusal has the pins that its step saw.
 pub(super) fn event_told(
     alloc: Global,
     trace: &Trace,

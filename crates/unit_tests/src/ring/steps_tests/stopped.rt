@@ -7,7 +7,7 @@ use std::process::Abort;
 /// A ring that keeps two packets, with one seat.
 const CONFIG: Config = Config { keep: 2, seats: 1 };
 
-/// The trace of a run of this schedule, behind which an actor stops.
+/// Returns the trace of a run of this schedule, after which an actor stops.
 fn run_out_told(
     rt: &impl Abort,
     alloc: Global,
@@ -21,7 +21,7 @@ fn run_out_told(
     }
 }
 
-/// Its events from this one on, as the command writes them.
+/// Returns its events from this one on, as the command writes them.
 fn last_events(rt: &impl Abort, alloc: Global, trace: &Trace, from: usize) -> String {
     let mut text = String::new(alloc);
     for event in trace.events.iter().skip(from) {
@@ -62,7 +62,7 @@ fn a_publisher_stops_within_a_publish(rt: HostRuntime) {
     );
 }
 
-/// How many events are an actor's.
+/// Returns how many events are an actor's.
 fn events_by(trace: &Trace, actor: Actor) -> usize {
     trace
         .events
@@ -71,8 +71,8 @@ fn events_by(trace: &Trace, actor: Actor) -> usize {
         .count()
 }
 
-/// Wherever the schedule ends and whoever stops there, the other's calls are all answered, and the one that stopped takes no
-/// step more.
+/// Wherever the schedule ends and whichever actor stops there, all calls of the other actor are answered, and the one that
+/// stopped makes no more steps.
 fn stops_anywhere(rt: &impl Abort, alloc: Global, calls: &Script, actors: &[Actor]) {
     let seat_calls = calls.seats.first().expect(rt, "a seat");
     for end in 0..actors.len() + 1 {
@@ -102,7 +102,7 @@ fn who_stops_holds_nobody_up(rt: HostRuntime) {
     stops_anywhere(&rt, alloc, &pinned, actors.as_slice());
 }
 
-/// Nobody else than the publisher and the ring's seats can stop.
+/// Only the publisher and the ring's seats can stop.
 #[test]
 fn no_other_stops(rt: HostRuntime) {
     let alloc = rt.alloc();
