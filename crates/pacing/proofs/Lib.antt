@@ -1,2 +1,3 @@
 mod Bounding
 mod GivingUp
+mod Remembering

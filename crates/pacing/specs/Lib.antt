@@ -3,3 +3,4 @@ pub mod ReadRates
 pub mod Rounds
 pub mod Allowances
 pub mod Insisting
+pub mod Recent

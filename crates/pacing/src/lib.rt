@@ -1,12 +1,13 @@
 //! How a publisher gives way to its players, within bounds: which of them it waits for, and for how long, and a publish that
-//! meets one in the middle of its copy; and how fast a connection is read that doesn't record. Moments, counts and pauses are
-//! handed in.
+//! meets one in the middle of its copy; how fast a connection is read that doesn't record; and where a player starts that is sent
+//! what was published before it came. Moments, counts and pauses are handed in.
 #![tactic(auto)]
 
 mod allowance;
 mod insisting;
 mod patience;
 mod read_rate;
+mod recent;
 mod round;
 mod standing;
 
@@ -14,5 +15,6 @@ pub use allowance::Allowance;
 pub use insisting::{Insisting, Pause};
 pub use patience::Patience;
 pub use read_rate::ReadRate;
+pub use recent::{Back, Mark, Recent, Start};
 pub use round::Round;
 pub use standing::Standing;
