@@ -1,6 +1,7 @@
 //! Clients over loopback, for tests.
 use crate::dial::{Dial, Told};
 use log::Log;
+use pacing::Back;
 use packet_ring::Pass;
 use relay_server::{
     Accepts, Access, Gate, Options, RingMaker, Seat, SharedBook, Stopping, run_server,
@@ -268,7 +269,7 @@ impl Set {
         Options {
             accept: Some(self.accept),
             gather: self.gather,
-            back: 0,
+            back: Back::Packets(0),
             after_end: None,
             write_wait: Some(20_000),
             end_wait: 20_000,

@@ -1,5 +1,7 @@
 -- What the command line of the server may ask for.
 use Rattle.std.specs.Prelude.{◌≡◌, ◌≤◌, ⊤, true, IfSome}
+use Rattle.pacing.specs.declared.recent.Back.{Back}
+use Rattle.pacing.specs.declared.recent.Back.TheVariants as back
 use Rattle.relay_command.specs.declared.settings.Settings.{Settings}
 use Rattle.relay_command.specs.declared.settings.SendBuffer.{SendBuffer}
 use Rattle.relay_command.specs.declared.settings.SendBuffer.TheVariants as buffer
@@ -12,6 +14,11 @@ IsBounded buffer.Default = ⊤
 IsBounded buffer.System = ⊤
 IsBounded (buffer.Bytes bytes) = bytes ≤ 4194304
 
+-- a PLAY begins with 4,095 packets from before at most, or with those of ten seconds
+abbrev pub IsShortBack : Back → Type 0
+IsShortBack (back.Packets count) = count ≤ 4095
+IsShortBack (back.Milliseconds milliseconds) = milliseconds ≤ 10000
+
 -- the ranges of a ring's numbers, of the time that packets gather for, in milliseconds, of how many threads send frames, of
 -- the seconds between reports and of silence, of what one address may have, and of the bytes of a send buffer
 pub record IsInRange (settings : Settings) : Type 0 where
@@ -19,7 +26,7 @@ pub record IsInRange (settings : Settings) : Type 0 where
   pub seated : (1 ≤ settings.seats) × (settings.seats ≤ 1024)
   pub bounded : (12 ≤ settings.packet_bytes) × (settings.packet_bytes ≤ 65535)
   pub gathers : settings.gather ≤ 100
-  pub goes_back : settings.back ≤ 4095
+  pub goes_back : IsShortBack settings.back
   pub writes : IfSome settings.writers (λ count. count ≤ 64)
   pub reports : IfSome settings.report (λ seconds. (1 ≤ seconds) × (seconds ≤ 86400))
   pub silences : IfSome settings.silent (λ seconds. (1 ≤ seconds) × (seconds ≤ 86400))

@@ -14,7 +14,9 @@ printf 'OPTIONS * RTSP/1.0\\r\\nCSeq: 1\\r\\n\\r\\n' | ./relay talk --word 0000a
 const STEPS_EXAMPLE: &str =
     "Example: a seat loses the first of three packets, since the ring keeps two
 
-printf 'keep 2\\nseats 1\\np 41\\np 42\\np 43\\n0 attach\\n0 take\\n0 take\\n0 detach\\ngo 0 p*15 0 0*5 0\\n' | ./relay steps";
+printf \\
+'keep 2\\nseats 1\\np 41\\np 42\\np 43\\n0 attach\\n0 take\\n0 take\\n0 detach\\ngo 0 p*15 0 0*5 0\\n' |
+./relay steps";
 
 /// The command line: `relay serve`, `relay talk` and `relay steps`.
 pub(crate) fn command<'a>(alloc: Global) -> Result<Command<'a>, AllocError> {
@@ -32,7 +34,7 @@ pub(crate) fn command<'a>(alloc: Global) -> Result<Command<'a>, AllocError> {
 
 fn talk_command<'a>(alloc: Global) -> Result<Command<'a>, AllocError> {
     let word = Arg::new(alloc, "word").long("word").value_name("HEX8").help(
-        "The last eight hexadecimal digits of each session identifier [default: drawn at random]",
+        "The last eight hexadecimal digits of each session identifier{n}[default: drawn at random]",
     );
     Command::new(alloc, "talk")
         .about("Answers one connection on standard input and standard output")
@@ -56,7 +58,7 @@ pub(crate) fn steps_command<'a>(alloc: Global) -> Result<Command<'a>, AllocError
 const SERVE_EXAMPLE: &str = "Examples:
 
 ./relay serve 127.0.0.1:8554
-./relay serve 0.0.0.0:554 --keep 2048 --seats 500 --hang-up-ended";
+./relay serve 0.0.0.0:554 --keep 2048 --seats 500 --back-ms 2000";
 
 /// `relay serve ADDR`, with its options, their ranges and their defaults.
 pub(crate) fn serve_command<'a>(alloc: Global) -> Result<Command<'a>, AllocError> {
@@ -70,7 +72,9 @@ pub(crate) fn serve_command<'a>(alloc: Global) -> Result<Command<'a>, AllocError
         .arg(accept_arg(alloc))?
         .arg(gather_arg(alloc))?
         .arg(back_arg(alloc))?
-        .arg(hang_up_ended_arg(alloc))?
+        .arg(back_ms_arg(alloc)?)?
+        .arg(keep_ended_arg(alloc)?)?
+        .arg(hang_up_ended_arg(alloc)?)?
         .arg(idle_arg(alloc))?
         .arg(silent_arg(alloc))?
         .arg(per_address_arg(alloc))?
@@ -100,7 +104,7 @@ fn keep_arg<'a>(alloc: Global) -> Arg<'a> {
         .value_name("N")
         .default_value("512")
         .value_parser(clap::value_parser!(u16).range(1..4096))
-        .help("How many packets a mount keeps for players that are slow, 1 to 4095")
+        .help("How many packets a mount keeps for slow players,{n}1 to 4095")
 }
 
 fn seats_arg<'a>(alloc: Global) -> Arg<'a> {
@@ -135,7 +139,7 @@ fn gather_arg<'a>(alloc: Global) -> Arg<'a> {
         .value_name("MS")
         .default_value("5")
         .value_parser(clap::value_parser!(u16).range(0..101))
-        .help("For how long packets gather before players are woken, 0 to 100 milliseconds")
+        .help("For how long packets gather before players are woken,{n}0 to 100 milliseconds")
 }
 
 fn back_arg<'a>(alloc: Global) -> Arg<'a> {
@@ -145,15 +149,37 @@ fn back_arg<'a>(alloc: Global) -> Arg<'a> {
         .default_value("0")
         .value_parser(clap::value_parser!(u16).range(0..4096))
         .help(
-            "How many of the kept packets a new player is sent at once, 0 to 4095; above 0 without RTP-Info; near --keep a fast publisher makes it lose some, and has packets refused while it copies",
+            "How many of the kept packets each PLAY begins with, 0 to 4095;{n}above 0 without RTP-Info; near --keep it loses some of them,{n}and packets are refused for all while it copies",
         )
 }
 
-fn hang_up_ended_arg<'a>(alloc: Global) -> Arg<'a> {
+fn back_ms_arg<'a>(alloc: Global) -> Result<Arg<'a>, AllocError> {
+    Arg::new(alloc, "back-ms")
+        .long("back-ms")
+        .value_name("MS")
+        .value_parser(clap::value_parser!(u16).range(0..10_001))
+        .help(
+            "Begin each PLAY with the packets of the last MS milliseconds,{n}0 to 10000, at most half of --keep; above 0 without RTP-Info{n}[default: 0]",
+        )
+        .conflicts_with("back")
+}
+
+fn keep_ended_arg<'a>(alloc: Global) -> Result<Arg<'a>, AllocError> {
+    Arg::new(alloc, "keep-ended")
+        .long("keep-ended")
+        .action(ArgAction::SetTrue)
+        .help("Let a playing player stay when its mount has ended")
+        .overrides_with("hang-up-ended")
+}
+
+fn hang_up_ended_arg<'a>(alloc: Global) -> Result<Arg<'a>, AllocError> {
     Arg::new(alloc, "hang-up-ended")
         .long("hang-up-ended")
         .action(ArgAction::SetTrue)
-        .help("Disconnect a player after the last packet of its mount was written")
+        .help(
+            "Send a playing player its mount's end, and disconnect it ten{n}seconds later: the default, and after --keep-ended its undoing",
+        )
+        .overrides_with("keep-ended")
 }
 
 fn idle_arg<'a>(alloc: Global) -> Arg<'a> {
@@ -163,7 +189,7 @@ fn idle_arg<'a>(alloc: Global) -> Arg<'a> {
         .default_value("300")
         .value_parser(clap::value_parser!(u16))
         .help(
-            "Disconnect clients that have no session after SECONDS of silence, 0 to 65535; 0 is never",
+            "Disconnect clients that have no session after SECONDS of{n}silence, 0 to 65535; 0 is never",
         )
 }
 
@@ -173,7 +199,7 @@ fn silent_arg<'a>(alloc: Global) -> Arg<'a> {
         .value_name("SECONDS")
         .value_parser(clap::value_parser!(u64).range(1..86_401))
         .help(
-            "Disconnect a publisher that sends nothing, no packet and no request, for SECONDS while it records, within two more, 1 to 86400 [default: its session expires after 60]",
+            "Disconnect a publisher that sends nothing, no packet and no{n}request, for SECONDS while it records, within two more,{n}1 to 86400 [default: its session expires after 60]",
         )
 }
 
@@ -183,7 +209,7 @@ fn per_address_arg<'a>(alloc: Global) -> Arg<'a> {
         .value_name("N")
         .value_parser(clap::value_parser!(u16).range(1..1025))
         .help(
-            "How many connections an address may have, 1 to 1024; IPv6 counts by /64; a wall behind NAT is one address [default: any number]",
+            "How many connections an address may have, 1 to 1024; IPv6{n}counts by /64; a wall behind NAT is one address{n}[default: any number]",
         )
 }
 
@@ -193,7 +219,7 @@ fn mounts_per_address_arg<'a>(alloc: Global) -> Arg<'a> {
         .value_name("N")
         .value_parser(clap::value_parser!(u16).range(1..65))
         .help(
-            "How many mounts an address may publish, 1 to 64; a recorder is one address [default: any number]",
+            "How many mounts an address may publish, 1 to 64; a recorder is{n}one address [default: any number]",
         )
 }
 
@@ -202,7 +228,7 @@ fn limit_exempt_arg<'a>(alloc: Global) -> Arg<'a> {
         .long("limit-exempt")
         .value_name("NET")
         .help(
-            "Networks that --per-address and --mounts-per-address don't apply to, as 10.0.0.5,192.168.7.0/24",
+            "Networks that --per-address and --mounts-per-address don't{n}apply to, as 10.0.0.5,192.168.7.0/24",
         )
 }
 
@@ -211,7 +237,7 @@ fn publish_from_arg<'a>(alloc: Global) -> Arg<'a> {
         .long("publish-from")
         .value_name("NET")
         .help(
-            "Networks from which mounts may be published, as 10.0.0.0/8,fd00::/8; others get 403; it is no authentication [default: all]",
+            "Networks from which mounts may be published, as{n}10.0.0.0/8,fd00::/8; others get 403; it is no authentication{n}[default: all]",
         )
 }
 
@@ -220,7 +246,7 @@ fn play_from_arg<'a>(alloc: Global) -> Arg<'a> {
         .long("play-from")
         .value_name("NET")
         .help(
-            "Networks from which mounts may be played; others get 403; it is no authentication [default: all]",
+            "Networks from which mounts may be played; others get 403; it{n}is no authentication [default: all]",
         )
 }
 
@@ -230,7 +256,7 @@ fn writers_arg<'a>(alloc: Global) -> Arg<'a> {
         .value_name("N")
         .value_parser(clap::value_parser!(u16).range(0..65))
         .help(
-            "How many threads send frames, 0 to 64; 0 gives each player its own [default: one a processor]",
+            "How many threads send frames, 0 to 64; 0 gives each player its{n}own [default: one a processor]",
         )
 }
 
@@ -239,7 +265,7 @@ fn direct_arg<'a>(alloc: Global) -> Arg<'a> {
         .long("direct")
         .action(ArgAction::SetTrue)
         .help(
-            "Copy each packet once, from its place in the ring, with --writers 0: a player that stops reading can then block its mount, whose packets are refused, for 20 seconds, a slow one for longer",
+            "Copy each packet once, from its place in the ring, with{n}--writers 0: a player that stops reading can then block its{n}mount, whose packets are refused, for 20 seconds, a slow one{n}for longer",
         )
 }
 
@@ -256,7 +282,7 @@ fn report_arg<'a>(alloc: Global) -> Arg<'a> {
         .value_name("SECONDS")
         .value_parser(clap::value_parser!(u64).range(1..86_401))
         .help(
-            "Log each mount's packets and each player's losses every SECONDS on standard error, 1 to 86400",
+            "Log each mount's packets and each player's losses every{n}SECONDS on standard error, 1 to 86400",
         )
 }
 
@@ -266,7 +292,7 @@ fn send_buffer_arg<'a>(alloc: Global) -> Arg<'a> {
         .value_name("BYTES")
         .value_parser(clap::value_parser!(u64).range(0..4_194_305))
         .help(
-            "The send buffer that the system is asked for, in bytes, 16384 to 4194304, or 0 for its own; Linux holds up to twice as many: more keeps bursts, less keeps the picture live [default: 524288 if the system grants it, else 0]",
+            "The send buffer that the system is asked for, in bytes, 16384{n}to 4194304, or 0 for its own; Linux holds up to twice as many:{n}more keeps bursts, less keeps the picture live{n}[default: 524288 if the system grants it, else 0]",
         )
 }
 
@@ -275,6 +301,6 @@ fn until_eof_arg<'a>(alloc: Global) -> Arg<'a> {
         .long("until-eof")
         .action(ArgAction::SetTrue)
         .help(
-            "End when standard input ends, and first log what each connection lost and a last report",
+            "End when standard input ends, and first log what each{n}connection lost and a last report",
         )
 }

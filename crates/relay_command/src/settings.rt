@@ -4,6 +4,7 @@ ghost use Rattle.relay_command.specs.Serving.{IsInRange};
 
 use clap::ArgMatches;
 use networks::Networks;
+use pacing::Back;
 
 /// The send buffer of a connection: what the system may hold for a peer that is behind.
 #[derive(Clone, Copy, Debug, PartialEq, Eq, Drop)]
@@ -29,8 +30,8 @@ pub struct Settings {
     pub accept: Option<u64>,
     /// For how long packets gather before players are woken, 0 to 100 milliseconds.
     pub gather: u64,
-    /// How many of the kept packets a player is sent when it starts to play, 0 to 4095.
-    pub back: u64,
+    /// With which packets from before each PLAY begins that takes a seat: 0 to 4,095 packets, or those of 0 to 10,000 milliseconds.
+    pub back: Back,
     /// Whether a player is disconnected after the last packet of its mount.
     pub hang_up_ended: bool,
     /// After how many seconds of silence a connection without a session is disconnected; `None` for never.
@@ -80,8 +81,11 @@ impl Settings {
             packet_bytes: number(matches, "packet-bytes").clamp(12, 65_535),
             accept: matches.get_one::<u64>("accept"),
             gather: number(matches, "gather").min(100) as u64,
-            back: number(matches, "back").min(4095) as u64,
-            hang_up_ended: matches.get_flag("hang-up-ended"),
+            back: match matches.get_one::<u16>("back-ms") {
+                None => Back::Packets(number(matches, "back").min(4095) as u64),
+                Some(milliseconds) => Back::Milliseconds(u64::from(milliseconds).min(10_000)),
+            },
+            hang_up_ended: !matches.get_flag("keep-ended"),
             idle: match number(matches, "idle") {
                 0 => None,
                 seconds => Some(seconds as u64),

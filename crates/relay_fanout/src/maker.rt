@@ -3,6 +3,7 @@ ghost use Rattle.std.specs.Prelude.{◌≤◌};
 
 use crate::mount_signal::MountSignal;
 use cursor::{Feed, Left, Lend};
+use pacing::Back;
 use packet_ring::{Pass, Publisher, Subscriber};
 use std::alloc::{AllocError, Global};
 use std::sync::Arc;
@@ -32,7 +33,7 @@ pub trait Maker {
     fn make(&self, alloc: Global) -> Result<(Self::In, Vec<Self::Pass>), AllocError>;
 
     /// Attaches a seat: what is published from now on comes out of the tap, and `back` packets before it.
-    fn attach(&self, pass: Self::Pass) -> Self::Out;
+    fn attach(&self, pass: Self::Pass, back: u64) -> Self::Out;
 
     /// Detaches it again.
     fn detach(&self, out: Self::Out) -> (Self::Pass, Left);
@@ -43,8 +44,8 @@ pub trait Maker {
     /// Returns how many bytes the longest packet has.
     fn packet_bytes(&self) -> usize;
 
-    /// Returns how many of the kept packets come out of a tap that is attached, before those that are published from then on.
-    fn back(&self) -> u64;
+    /// Returns with which packets from before each PLAY begins.
+    fn back(&self) -> Back;
 
     /// Returns whether a frame thread writes packets from where they lie in the ring.
     fn is_direct(&self) -> bool {
@@ -58,7 +59,7 @@ pub struct RingMaker {
     keep: usize,
     seats: usize,
     packet_bytes: usize,
-    back: u64,
+    back: Back,
     is_direct: bool,
     ghost keeps: { (1 ≤ keep) × (keep ≤ 4095) },
     ghost seated: { seats ≤ 1024 },
@@ -76,13 +77,13 @@ impl RingMaker {
             keep,
             seats,
             packet_bytes,
-            back: 0,
+            back: Back::Packets(0),
             is_direct: false,
         }
     }
 
-    /// The same, with the last `back` kept packets for a seat that is attached.
-    pub fn going_back(self, back: u64) -> RingMaker {
+    /// The same, for players that begin with these packets from before.
+    pub fn going_back(self, back: Back) -> RingMaker {
         RingMaker {
             keep: self.keep,
             seats: self.seats,
@@ -115,8 +116,8 @@ impl Maker for RingMaker {
         packet_ring::new(alloc, self.keep, self.seats, self.packet_bytes)
     }
 
-    fn attach(&self, pass: Pass) -> Subscriber {
-        pass.attach_back(self.back)
+    fn attach(&self, pass: Pass, back: u64) -> Subscriber {
+        pass.attach_back(back)
     }
 
     fn detach(&self, out: Subscriber) -> (Pass, Left) {
@@ -131,7 +132,7 @@ impl Maker for RingMaker {
         self.packet_bytes
     }
 
-    fn back(&self) -> u64 {
+    fn back(&self) -> Back {
         self.back
     }
 

@@ -6,6 +6,7 @@ use crate::tallies::Tallies;
 use crate::wake_signal::WakeSignal;
 use crate::writing_side::TAKES;
 use base_syntax::Items;
+use pacing::Start;
 use publisher::Fate;
 use relay_accounts::{MountTally, lost_so_far};
 use std::alloc::{AllocError, Global};
@@ -163,6 +164,12 @@ impl MountSignal {
     /// Returns the moment of its last packet, or of its first RECORD if no packet came, in milliseconds.
     pub fn last_packet(&self, rt: &impl Wait) -> u64 {
         self.tallies.last(rt)
+    }
+
+    /// Returns where a player starts at this moment, in milliseconds, that is to be sent the packets of the last `milliseconds`, at
+    /// most half of the `keep` that the ring keeps; and whether it is the first player of the mount whose start is shortened so.
+    pub fn start(&self, rt: &impl Wait, now: u64, milliseconds: u64, keep: u64) -> (Start, bool) {
+        self.tallies.start(rt, now, milliseconds, keep)
     }
 
     /// Returns the figures of the player in a seat, of a ring that keeps `keep` packets. It has lost at least what was reported

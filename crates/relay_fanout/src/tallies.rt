@@ -1,4 +1,5 @@
 //! The figures of a mount, for any thread that reads them meanwhile.
+use pacing::{Recent, Start};
 use publisher::Fate;
 use relay_accounts::MountTally;
 use std::alloc::{AllocError, Global};
@@ -23,11 +24,15 @@ impl Drop for Tallies {
     }
 }
 
-/// What came to a mount, and when its last packet did, in milliseconds of the server's clock.
-#[derive(Clone, Copy, Drop)]
+/// What came to a mount, when its last packet did, in milliseconds of the server's clock, and where its log was in the last ten
+/// seconds.
+#[derive(Drop)]
 struct Came {
     tally: MountTally,
     last: u64,
+    recent: Recent,
+    /// Whether a player's start was shortened.
+    is_shortened: bool,
 }
 
 /// What the player in a seat was sent and lost.
@@ -51,6 +56,8 @@ impl Tallies {
             came: Mutex::new(Came {
                 tally: MountTally::new(),
                 last: 0,
+                recent: Recent::new(alloc)?,
+                is_shortened: false,
             }),
             players,
         })
@@ -59,9 +66,11 @@ impl Tallies {
     /// Counts a frame with `bytes` bytes of data that came at this moment and met this fate.
     pub(crate) fn add(&self, rt: &impl Wait, fate: Fate, bytes: usize, now: u64) {
         let mut came = self.came.lock(rt);
+        let number = came.tally.packets;
         came.tally.add(fate, bytes as u64);
         if let Fate::Published { .. } = fate {
             came.last = now;
+            came.recent.note(now, number);
         }
     }
 
@@ -83,6 +92,24 @@ impl Tallies {
     /// Returns the moment of its last packet, or of its first RECORD if no packet came.
     pub(crate) fn last(&self, rt: &impl Wait) -> u64 {
         self.came.lock(rt).last
+    }
+
+    /// Returns where a player starts at this moment that is to be sent the packets of the last `milliseconds`, of a ring that keeps
+    /// `keep`, and whether it is the first player of the mount whose start is shortened.
+    pub(crate) fn start(
+        &self,
+        rt: &impl Wait,
+        now: u64,
+        milliseconds: u64,
+        keep: u64,
+    ) -> (Start, bool) {
+        let mut came = self.came.lock(rt);
+        let start = came
+            .recent
+            .start(now, milliseconds, came.tally.packets, keep);
+        let is_first = start.packets < start.wanted && !came.is_shortened;
+        came.is_shortened |= is_first;
+        (start, is_first)
     }
 
     /// Sets how many packets the player in a seat was sent, and how many were reported lost to it, in total.

@@ -3,7 +3,7 @@ ghost use Rattle.std.specs.Prelude.{◌≡◌};
 ghost use Rattle.relay_command.specs.Serving.{IsInRange};
 ghost use Rattle.relay_main.specs.Served.{milliseconds_of, told_to};
 
-use log::{Log, warn};
+use log::{Log, error, warn};
 use rand::make_rng;
 use rand::rngs::StdRng;
 use relay_command::{Origins, SendBuffer, Settings};
@@ -27,7 +27,7 @@ const CANNOT_LISTEN: &str = "relay: cannot listen";
 
 const OUT_OF_MEMORY: &str = "relay: out of memory";
 
-/// With `--hang-up-ended`, for how many milliseconds a player may stay after the last packet of its mount.
+/// Without `--keep-ended`, for how many milliseconds a player may stay after the last packet of its mount.
 const AFTER_END: u64 = 10_000;
 
 /// For how many milliseconds a write may move no byte, if the system doesn't disconnect peers that acknowledge nothing.
@@ -143,6 +143,31 @@ fn warn_of_peers<R: Log>(rt: &R) {
     warn!(rt; "the system disconnects no peer that acknowledges nothing: such a player is disconnected once its send buffer has been full for 20 s, such a publisher when its session expires")
 }
 
+/// Logs why nothing can be bound to an address, and if the text has no form of one what is asked for.
+fn log_no_listener<R: Log>(rt: &R, addr: &str, error: io::Error) {
+    if is_address(addr) {
+        error!(rt; "{addr}: {error}");
+    } else {
+        error!(rt; "{addr}: {error}: ADDRESS:PORT is asked for, as 127.0.0.1:8554, or 0.0.0.0:8554 for all addresses");
+    }
+}
+
+/// Whether a text has the form of a host and a port.
+fn is_address(text: &str) -> bool {
+    match text.rsplit_once(':') {
+        Some((host, port)) => is_host(host) && port.parse::<u16>().is_ok(),
+        None => false,
+    }
+}
+
+/// Whether a text has the form of a name, of an IPv4 address or of an IPv6 address in brackets (RFC 3986, 3.2.2).
+fn is_host(text: &str) -> bool {
+    match text.strip_prefix('[') {
+        Some(rest) => rest.ends_with(']'),
+        None => !text.is_empty() && !text.contains(':') && !text.contains('/') && text != "*",
+    }
+}
+
 /// Starts a thread that reads this input to its end, and then has the server stop.
 fn stop_at_end<R, I>(
     rt: R,
@@ -203,7 +228,7 @@ where
     let listener = match TcpListener::bind(&rt, addr) {
         Ok(listener) => listener,
         Err(error) => {
-            warn!(rt; "{addr}: {error}");
+            log_no_listener(&rt, addr, error);
             return Err(CANNOT_LISTEN);
         }
     };

@@ -4,8 +4,9 @@ use crate::published::PublishedMounts;
 use crate::refusing::Refusing;
 use crate::reports::{ReportedMount, ReportedSeat, Reports};
 use base_syntax::Bytes;
-use log::{Log, info};
+use log::{Log, info, warn};
 use mounts::{Uri, read_uri};
+use pacing::Start;
 use relay_accounts::{Counts, LineRate, Part, SeatAccount};
 use relay_fanout::MountSignal;
 use rtsp_message::{Request, Status};
@@ -24,6 +25,8 @@ pub struct Events<R> {
     mount: Option<Announced>,
     /// How many accounts of its sessions were logged in a second.
     accounts: LineRate,
+    /// How many starts that were shortened.
+    starts: LineRate,
 }
 
 impl<R: Drop> Drop for Events<R> {
@@ -32,6 +35,7 @@ impl<R: Drop> Drop for Events<R> {
             teller: _,
             mount: _,
             accounts: _,
+            starts: _,
         } = self;
     }
 }
@@ -80,6 +84,7 @@ impl<R> Events<R> {
             teller: None,
             mount: None,
             accounts: LineRate::new(),
+            starts: LineRate::new(),
         }
     }
 
@@ -89,6 +94,7 @@ impl<R> Events<R> {
             teller: Some(teller),
             mount: None,
             accounts: LineRate::new(),
+            starts: LineRate::new(),
         }
     }
 
@@ -274,6 +280,25 @@ impl<R: Wait + Clock> Events<R> {
         if teller.is_verbose {
             info!(teller.lines; "{peer}: plays {} from seat {seat}", name.escape_ascii());
         }
+    }
+
+    /// The connection, which has this part in its mount, starts with fewer packets than those of the last `milliseconds`, as the
+    /// first player of that mount. At most ten such lines are logged in a second.
+    pub(crate) fn shortened(
+        &mut self,
+        rt: &R,
+        part: Option<&Part>,
+        milliseconds: u64,
+        start: &Start,
+    ) {
+        let (Some(teller), Some(part)) = (&self.teller, part) else {
+            return;
+        };
+        if !self.starts.tell(teller.refusing.now(rt)) {
+            return;
+        }
+        let Start { packets, wanted } = *start;
+        warn!(teller.lines; "mount {}: players start with {packets} packets, half of --keep, and not with the {wanted} of the last {milliseconds} ms", part.name.as_slice().escape_ascii());
     }
 
     /// The connection gives up its seat: the next report has what it has lost by now, and no later one has it.

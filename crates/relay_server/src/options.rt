@@ -1,4 +1,5 @@
 //! What a server does, as its command line says.
+use pacing::Back;
 
 /// What a server does, as its command line says.
 #[derive(Clone, Copy, Debug, Drop)]
@@ -7,8 +8,8 @@ pub struct Options {
     pub accept: Option<u64>,
     /// For how many milliseconds packets gather before the players of their mount are woken.
     pub gather: u64,
-    /// How many of the kept packets a player is sent when it starts to play.
-    pub back: u64,
+    /// With which packets from before each PLAY begins that takes a seat.
+    pub back: Back,
     /// A player is sent the end of its stream after the last packet of its mount was written, and disconnected if it is still
     /// there this many milliseconds later. `None` lets it stay.
     pub after_end: Option<u64>,

@@ -143,7 +143,7 @@ impl Refusing {
     }
 
     /// How many milliseconds have passed since it was made. If the clock can't be read each moment has come.
-    fn now<R: Clock>(&self, rt: &R) -> u64 {
+    pub(crate) fn now<R: Clock>(&self, rt: &R) -> u64 {
         match (self.began, Instant::now(rt)) {
             (Some(began), Ok(now)) => {
                 u64::try_from(now.duration_since(began).as_millis()).unwrap_or(u64::MAX)

@@ -1,6 +1,7 @@
 //! Rings for tests. Some are refused memory, and a flag is set when a ring's last owner is dropped.
 use crate::devices::{Count, Flag, count, flag};
 use cursor::{Account, Feed, Left, Lend, Refused, Taken, Tap, Visit};
+use pacing::Back;
 use packet_ring::{Pass, Publisher, Subscriber};
 use relay_fanout::{Leave, Maker, RingMaker};
 use std::alloc::{AllocError, Global};
@@ -206,10 +207,10 @@ impl Maker for Rings {
         Ok((Owned { inner, owner }, owned))
     }
 
-    fn attach(&self, pass: Owned<Pass>) -> Owned<Subscriber> {
+    fn attach(&self, pass: Owned<Pass>, back: u64) -> Owned<Subscriber> {
         let Owned { inner, owner } = pass;
         Owned {
-            inner: self.maker.attach(inner),
+            inner: self.maker.attach(inner, back),
             owner,
         }
     }
@@ -228,7 +229,7 @@ impl Maker for Rings {
         self.maker.packet_bytes()
     }
 
-    fn back(&self) -> u64 {
+    fn back(&self) -> Back {
         self.maker.back()
     }
 }

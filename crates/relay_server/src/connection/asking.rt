@@ -5,6 +5,7 @@ use crate::frame_notes::{FrameNotes, Publishing};
 use crate::gate::Gate;
 use base_syntax::{Bytes, Items};
 use interleaved::Sink;
+use pacing::Back;
 use relay_accounts::Part;
 use relay_fanout::{Busy, HangUp, Maker, MountSignal, Offer, Posting, Seat, WakeSignal};
 use rtsp_message::Request;
@@ -210,8 +211,12 @@ where
 
     /// The points of the tracks of the session's mount: none if players begin with packets from before.
     fn points(&self) -> Result<Items<Option<Point>>, AllocError> {
+        let starts_at_end = matches!(
+            self.shared.maker.back(),
+            Back::Packets(0) | Back::Milliseconds(0)
+        );
         match &self.session {
-            Some(session) if self.shared.maker.back() == 0 => self
+            Some(session) if starts_at_end => self
                 .shared
                 .recording
                 .points(&self.rt, self.alloc, session.mount),

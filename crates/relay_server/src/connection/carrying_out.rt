@@ -4,8 +4,9 @@ use crate::frame_notes::Publishing;
 use crate::gate::Gate;
 use cursor::{Left, Tap};
 use interleaved::Sink;
+use pacing::Back;
 use relay_accounts::{ConnectionEnd, FrameEnd, Handover, Part, SeatAccount};
-use relay_fanout::{Frames, HangUp, Maker, Posting, Seat, SentFrames, TapPlace};
+use relay_fanout::{Frames, HangUp, Maker, MountSignal, Posting, Seat, SentFrames, TapPlace};
 use rtsp_message::{Reply, Status, put_reply};
 use session_lock::Answer;
 use session_state::{Act, Moments, Words};
@@ -115,12 +116,30 @@ where
             return;
         };
         self.is_over = false;
-        let tap = self.shared.maker.attach(pass);
+        let back = self.packets_back(&signal);
+        let tap = self.shared.maker.attach(pass, back);
         signal.attached(seat, tap.cursor());
         self.player.put(&self.rt, tap);
         self.events
             .plays(&self.rt, self.alloc, mount, &self.part, seat, &signal);
         self.frames = Some(Frames::new(mount, seat, signal));
+    }
+
+    /// Returns how many packets before the end of its mount's log a player starts.
+    fn packets_back(&mut self, signal: &MountSignal) -> u64 {
+        let milliseconds = match self.shared.maker.back() {
+            Back::Packets(count) => return count,
+            Back::Milliseconds(0) => return 0,
+            Back::Milliseconds(milliseconds) => milliseconds,
+        };
+        let now = self.hearing.watch().heard.now();
+        let keep = self.shared.maker.keep();
+        let (start, is_first) = signal.start(&self.rt, now, milliseconds, keep);
+        if is_first {
+            self.events
+                .shortened(&self.rt, self.part.as_ref(), milliseconds, &start);
+        }
+        start.packets
     }
 
     fn start_frames(&mut self) -> Result<(), ConnectionEnd> {

@@ -63,7 +63,7 @@ impl<R: Wait + Clock + Abort + Copy + Drop> Mount<R> {
     /// A player in the last seat that is free, each write to which takes `wait` milliseconds.
     pub(crate) fn seat(&mut self, rt: R, alloc: Global, wait: u64) -> Seated<R> {
         let pass = self.passes.pop().expect(&rt, "a seat");
-        let tap = self.maker.attach(pass);
+        let tap = self.maker.attach(pass, 0);
         Seated::new(rt, alloc, &self.signal, self.passes.len(), tap, wait)
     }
 }

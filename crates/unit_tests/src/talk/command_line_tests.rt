@@ -1,5 +1,6 @@
 //! Command lines, accepted and refused, and what they ask for.
 use clap::Error;
+use pacing::Back;
 use relay_command::{Asked, SendBuffer, Settings, Task, exit_code, read_words, task_named};
 use relay_talk::{NoWords, WordSource, word_source};
 use ring_steps::Actor;
@@ -14,8 +15,8 @@ const DEFAULTS: Settings = Settings {
     packet_bytes: 16_384,
     accept: None,
     gather: 5,
-    back: 0,
-    hang_up_ended: false,
+    back: Back::Packets(0),
+    hang_up_ended: true,
     idle: Some(300),
     silent: None,
     per_address: None,
@@ -48,7 +49,7 @@ fn settings(alloc: Global, line: &str) -> Result<Option<Settings>, Fail> {
 }
 
 /// Lines of `serve`, and what they ask for.
-const ACCEPTED: [(&str, Settings); 16] = [
+const ACCEPTED: [(&str, Settings); 21] = [
     (
         "relay serve a --send-buffer 0",
         Settings {
@@ -65,14 +66,14 @@ const ACCEPTED: [(&str, Settings); 16] = [
     ),
     ("relay serve 127.0.0.1:8554", DEFAULTS),
     (
-        "relay serve a --keep 1 --seats 1 --packet-bytes 12 --accept 1 --gather 0 --back 0 --idle 0 --silent 1 --per-address 1 --mounts-per-address 1 --publish-from 10.0.0.0/8 --play-from ::/0 --limit-exempt 0.0.0.0/0,::/0 --writers 0 --direct --report 1 --send-buffer 16384",
+        "relay serve a --keep 1 --seats 1 --packet-bytes 12 --accept 1 --gather 0 --back 0 --keep-ended --idle 0 --silent 1 --per-address 1 --mounts-per-address 1 --publish-from 10.0.0.0/8 --play-from ::/0 --limit-exempt 0.0.0.0/0,::/0 --writers 0 --direct --report 1 --send-buffer 16384",
         Settings {
             keep: 1,
             seats: 1,
             packet_bytes: 12,
             accept: Some(1),
             gather: 0,
-            back: 0,
+            back: Back::Packets(0),
             hang_up_ended: false,
             idle: None,
             silent: Some(1),
@@ -94,7 +95,7 @@ const ACCEPTED: [(&str, Settings); 16] = [
             packet_bytes: 65_535,
             accept: Some(18_446_744_073_709_551_615),
             gather: 100,
-            back: 4095,
+            back: Back::Packets(4095),
             hang_up_ended: true,
             idle: Some(65_535),
             silent: Some(86_400),
@@ -139,7 +140,7 @@ const ACCEPTED: [(&str, Settings); 16] = [
     (
         "relay serve a --back 7",
         Settings {
-            back: 7,
+            back: Back::Packets(7),
             ..DEFAULTS
         },
     ),
@@ -165,9 +166,32 @@ const ACCEPTED: [(&str, Settings); 16] = [
         },
     ),
     (
-        "relay serve a --hang-up-ended",
+        "relay serve a --back-ms 0",
         Settings {
-            hang_up_ended: true,
+            back: Back::Milliseconds(0),
+            ..DEFAULTS
+        },
+    ),
+    (
+        "relay serve a --back-ms 10000",
+        Settings {
+            back: Back::Milliseconds(10_000),
+            ..DEFAULTS
+        },
+    ),
+    (
+        "relay serve a --keep-ended",
+        Settings {
+            hang_up_ended: false,
+            ..DEFAULTS
+        },
+    ),
+    ("relay serve a --hang-up-ended", DEFAULTS),
+    ("relay serve a --keep-ended --hang-up-ended", DEFAULTS),
+    (
+        "relay serve a --hang-up-ended --keep-ended",
+        Settings {
+            hang_up_ended: false,
             ..DEFAULTS
         },
     ),
@@ -196,7 +220,7 @@ fn a_server_does_what_its_line_says(rt: HostRuntime) -> Result<(), Fail> {
 }
 
 /// Lines of `serve` that are refused: no address, two of them, a number that is out of its range or none.
-const REFUSED: [&str; 42] = [
+const REFUSED: [&str; 48] = [
     "relay serve a --silent 0",
     "relay serve a --silent 86401",
     "relay serve a --per-address 0",
@@ -227,6 +251,12 @@ const REFUSED: [&str; 42] = [
     "relay serve a --gather 101",
     "relay serve a --gather -1",
     "relay serve a --hang-up-ended yes",
+    "relay serve a --keep-ended yes",
+    "relay serve a --back-ms 10001",
+    "relay serve a --back-ms x",
+    "relay serve a --back 5 --back-ms 5",
+    "relay serve a --back-ms 0 --back 0",
+    "relay serve a --back-ms 5 --back-ms 6",
     "relay serve a --back 4096",
     "relay serve a --writers 65",
     "relay serve a --idle 65536",
@@ -371,32 +401,60 @@ Arguments:
   <ADDR>  Where to listen, as 127.0.0.1:8554; port 0 takes a free one
 
 Options:
-      --keep <N>                How many packets a mount keeps for players that are slow, 1 to 4095 [default: 512]
+      --keep <N>                How many packets a mount keeps for slow players,
+                                1 to 4095 [default: 512]
       --seats <N>               How many players a mount has, 1 to 1024 [default: 64]
       --packet-bytes <N>        The longest packet, in bytes, 12 to 65535 [default: 16384]
       --accept <N>              End when N connections were accepted and have ended
-      --gather <MS>             For how long packets gather before players are woken, 0 to 100 milliseconds [default: 5]
-      --back <N>                How many of the kept packets a new player is sent at once, 0 to 4095; above 0 without RTP-Info; near --keep a fast publisher makes it lose some, and has packets refused while it copies [default: 0]
-      --hang-up-ended           Disconnect a player after the last packet of its mount was written
-      --idle <SECONDS>          Disconnect clients that have no session after SECONDS of silence, 0 to 65535; 0 is never [default: 300]
-      --silent <SECONDS>        Disconnect a publisher that sends nothing, no packet and no request, for SECONDS while it records, within two more, 1 to 86400 [default: its session expires after 60]
-      --per-address <N>         How many connections an address may have, 1 to 1024; IPv6 counts by /64; a wall behind NAT is one address [default: any number]
-      --mounts-per-address <N>  How many mounts an address may publish, 1 to 64; a recorder is one address [default: any number]
-      --limit-exempt <NET>      Networks that --per-address and --mounts-per-address don't apply to, as 10.0.0.5,192.168.7.0/24
-      --publish-from <NET>      Networks from which mounts may be published, as 10.0.0.0/8,fd00::/8; others get 403; it is no authentication [default: all]
-      --play-from <NET>         Networks from which mounts may be played; others get 403; it is no authentication [default: all]
-      --writers <N>             How many threads send frames, 0 to 64; 0 gives each player its own [default: one a processor]
-      --direct                  Copy each packet once, from its place in the ring, with --writers 0: a player that stops reading can then block its mount, whose packets are refused, for 20 seconds, a slow one for longer
+      --gather <MS>             For how long packets gather before players are woken,
+                                0 to 100 milliseconds [default: 5]
+      --back <N>                How many of the kept packets each PLAY begins with, 0 to 4095;
+                                above 0 without RTP-Info; near --keep it loses some of them,
+                                and packets are refused for all while it copies [default: 0]
+      --back-ms <MS>            Begin each PLAY with the packets of the last MS milliseconds,
+                                0 to 10000, at most half of --keep; above 0 without RTP-Info
+                                [default: 0]
+      --keep-ended              Let a playing player stay when its mount has ended
+      --hang-up-ended           Send a playing player its mount's end, and disconnect it ten
+                                seconds later: the default, and after --keep-ended its undoing
+      --idle <SECONDS>          Disconnect clients that have no session after SECONDS of
+                                silence, 0 to 65535; 0 is never [default: 300]
+      --silent <SECONDS>        Disconnect a publisher that sends nothing, no packet and no
+                                request, for SECONDS while it records, within two more,
+                                1 to 86400 [default: its session expires after 60]
+      --per-address <N>         How many connections an address may have, 1 to 1024; IPv6
+                                counts by /64; a wall behind NAT is one address
+                                [default: any number]
+      --mounts-per-address <N>  How many mounts an address may publish, 1 to 64; a recorder is
+                                one address [default: any number]
+      --limit-exempt <NET>      Networks that --per-address and --mounts-per-address don't
+                                apply to, as 10.0.0.5,192.168.7.0/24
+      --publish-from <NET>      Networks from which mounts may be published, as
+                                10.0.0.0/8,fd00::/8; others get 403; it is no authentication
+                                [default: all]
+      --play-from <NET>         Networks from which mounts may be played; others get 403; it
+                                is no authentication [default: all]
+      --writers <N>             How many threads send frames, 0 to 64; 0 gives each player its
+                                own [default: one a processor]
+      --direct                  Copy each packet once, from its place in the ring, with
+                                --writers 0: a player that stops reading can then block its
+                                mount, whose packets are refused, for 20 seconds, a slow one
+                                for longer
       --verbose                 Log each mount, each player and each refusal on standard error
-      --report <SECONDS>        Log each mount's packets and each player's losses every SECONDS on standard error, 1 to 86400
-      --send-buffer <BYTES>     The send buffer that the system is asked for, in bytes, 16384 to 4194304, or 0 for its own; Linux holds up to twice as many: more keeps bursts, less keeps the picture live [default: 524288 if the system grants it, else 0]
-      --until-eof               End when standard input ends, and first log what each connection lost and a last report
+      --report <SECONDS>        Log each mount's packets and each player's losses every
+                                SECONDS on standard error, 1 to 86400
+      --send-buffer <BYTES>     The send buffer that the system is asked for, in bytes, 16384
+                                to 4194304, or 0 for its own; Linux holds up to twice as many:
+                                more keeps bursts, less keeps the picture live
+                                [default: 524288 if the system grants it, else 0]
+      --until-eof               End when standard input ends, and first log what each
+                                connection lost and a last report
   -h, --help                    Print help
 
 Examples:
 
 ./relay serve 127.0.0.1:8554
-./relay serve 0.0.0.0:554 --keep 2048 --seats 500 --hang-up-ended
+./relay serve 0.0.0.0:554 --keep 2048 --seats 500 --back-ms 2000
 ";
 
 const TALK_HELP: &str = "Answers one connection on standard input and standard output
@@ -404,7 +462,8 @@ const TALK_HELP: &str = "Answers one connection on standard input and standard o
 Usage: relay talk [OPTIONS]
 
 Options:
-      --word <HEX8>  The last eight hexadecimal digits of each session identifier [default: drawn at random]
+      --word <HEX8>  The last eight hexadecimal digits of each session identifier
+                     [default: drawn at random]
   -h, --help         Print help
 
 Example: the methods that the relay knows
@@ -422,7 +481,9 @@ Options:
 
 Example: a seat loses the first of three packets, since the ring keeps two
 
-printf 'keep 2\\nseats 1\\np 41\\np 42\\np 43\\n0 attach\\n0 take\\n0 take\\n0 detach\\ngo 0 p*15 0 0*5 0\\n' | ./relay steps
+printf \\
+'keep 2\\nseats 1\\np 41\\np 42\\np 43\\n0 attach\\n0 take\\n0 take\\n0 detach\\ngo 0 p*15 0 0*5 0\\n' |
+./relay steps
 ";
 
 /// The error of a line whose actor isn't one.
@@ -454,6 +515,8 @@ fn is_helped(alloc: Global, line: &str, help: &str) -> Result<bool, Fail> {
 fn the_help_of_a_command_tells_its_options_and_an_example(rt: HostRuntime) -> Result<(), Fail> {
     for (line, want) in &HELPS {
         expect(&rt, line, is_helped(rt.alloc(), line, want)?);
+        let is_narrow = want.lines().all(|line| line.chars().count() <= 100);
+        expect(&rt, line, is_narrow);
     }
     Ok(())
 }
