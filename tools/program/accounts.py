@@ -103,7 +103,7 @@ def sums_close(program, *options):
         camera.publish(range(BEFORE), LARGE)
         camera.is_read()
         viewers = [peers.enter_context(Viewer(server, *row)) for row in PLAYERS]
-        total = watch(server, camera, viewers, "--hang-up-ended" in options)
+        total = watch(server, camera, viewers, "--keep-ended" not in options)
     yield from camera_adds_up(server, name, total)
     published = list(range(total))
     if counts(server, name, "publisher of cam").get("pinned"):
@@ -237,12 +237,12 @@ def skipped_packets_are_counted(program, *options):
 
 
 LONG = [(disconnected_accounts_add_up, options) for options in (*MODES, ("--direct",))]
-LONG += [(accounts_after_the_end_add_up, (*mode, *more)) for mode in MODES for more in ((), ("--hang-up-ended",))]
+LONG += [(accounts_after_the_end_add_up, (*mode, *more)) for mode in MODES for more in ((), ("--keep-ended",))]
 # Players that read nothing stop their mount for a while.
 LONG += [(sums_close, ("--direct",))]
 
-# To players that are hung up, with the least ring, and with packets from before.
-OTHERS = (), ("--hang-up-ended",), ("--keep", "1"), ("--back", "64")
+# To players that stay when their mount has ended, with the least ring, and with packets from before.
+OTHERS = (), ("--keep-ended",), ("--keep", "1"), ("--back", "64")
 
 PARTS = [(sums_close, (*mode, *others)) for mode in MODES for others in OTHERS]
 PARTS += [(skipped_packets_are_counted, mode) for mode in MODES]

@@ -133,7 +133,7 @@ def slow_players_cost_no_other(program, *options):
     """Slow players cost no other one a packet, one time of four: a thread that has no processor for 20 milliseconds in the middle of
     its copy costs all others one."""
     for _ in range(4):
-        with ending(program, 9, "--keep", str(KEEP), "--seats", "8", "--hang-up-ended", *GATHER, *options) as server:
+        with ending(program, 9, "--keep", str(KEEP), "--seats", "8", *GATHER, *options) as server:
             if two_read_beside_six(server):
                 return
     yield "four times one of the two misses a packet, or one of the six slow players none"
@@ -145,7 +145,7 @@ SPEEDS = 0, 0.0005, 0.001, 0.003
 
 def accounts_add_up_at_four_speeds(program, *options):
     """Four players that read at four speeds are sent rising numbers, and what is told of each adds up to all that was published."""
-    with ending(program, 5, "--keep", "16", "--seats", "4", "--hang-up-ended", *GATHER, *options) as server:
+    with ending(program, 5, "--keep", "16", "--seats", "4", *GATHER, *options) as server:
         with contextlib.ExitStack() as peers, concurrent.futures.ThreadPoolExecutor(4) as pool:
             with Camera(server) as camera:
                 players = [peers.enter_context(Player(server)) for _ in SPEEDS]

@@ -59,7 +59,7 @@ def plays_soon(player):
 
 def mount_ends_where_its_publisher_closes(program, *options):
     """Where a camera just closes its player sees the end, nobody finds the mount, and its name is free."""
-    with serving(program, "--accept", "3", "--seats", "1", "--hang-up-ended", *options) as server:
+    with serving(program, "--accept", "3", "--seats", "1", *options) as server:
         with Camera(server) as camera, Player(server) as player, Peer(server) as other:
             camera.publish([7])
             yield from has_frame(player)
@@ -86,7 +86,7 @@ def seat_is_free_where_its_player_closes(program, *options):
 
 def silent_player_is_hung_up_behind_the_end(program, *options):
     """A player that neither speaks nor closes is hung up ten seconds after its mount's end, so that the server ends."""
-    with serving(program, "--accept", "2", "--seats", "1", "--hang-up-ended", *options) as server:
+    with serving(program, "--accept", "2", "--seats", "1", *options) as server:
         with Camera(server) as camera, Player(server) as silent:
             camera.publish([7])
             begun = time.monotonic()
@@ -102,7 +102,7 @@ def silent_player_is_hung_up_behind_the_end(program, *options):
 
 def player_that_closes_behind_the_end(program, *options):
     """A player that sees its mount's end and closes isn't waited for: the server ends before ten seconds have passed."""
-    with serving(program, "--accept", "2", "--seats", "1", "--hang-up-ended", *options) as server:
+    with serving(program, "--accept", "2", "--seats", "1", "--keep-ended", "--hang-up-ended", *options) as server:
         with Camera(server) as camera, Player(server) as player:
             wanted(camera.ask("TEARDOWN", camera.url))
             if not is_closed(player):
@@ -111,8 +111,8 @@ def player_that_closes_behind_the_end(program, *options):
 
 
 def player_may_stay_behind_the_end(program, *options):
-    """Without `--hang-up-ended` a player stays when its mount has ended, and can end its session, once."""
-    with serving(program, "--accept", "2", "--seats", "1", *options) as server:
+    """With `--keep-ended` a player stays when its mount has ended, and can end its session, once."""
+    with serving(program, "--accept", "2", "--seats", "1", "--hang-up-ended", "--keep-ended", *options) as server:
         with Camera(server) as camera, Player(server) as player:
             camera.publish([7])
             camera.close()

@@ -146,7 +146,7 @@ def two_read_all(camera, players):
 
 def a_player_that_reads_nothing_hurts_no_other(program, *options):
     """Two players read all, while a third one reads nothing, and then what was kept for it, the last packet too."""
-    with serving(program, "--accept", "4", "--seats", "3", "--hang-up-ended", *options) as server:
+    with serving(program, "--accept", "4", "--seats", "3", *options) as server:
         with Camera(server) as camera, Player(server) as first, Player(server) as second, Player(server) as stalled:
             yield from two_read_all(camera, (first, second))
             came = stalled.numbers(PUBLISHED)
