@@ -1,7 +1,6 @@
 """How peers leave, and what is free after them."""
 import contextlib
 import resource
-import subprocess
 import time
 
 from peers import MODES, NO_ACKNOWLEDGEMENT, OPTIONS, SDP, Camera, Frame, Peer, Player, ends_told, frame, leave_out, packet, serving, until
@@ -336,16 +335,6 @@ def server_ends_while_packets_gather(program, *options):
         yield from ends(server)
 
 
-def cannot_be_bound(program):
-    """No port, and an address that is no machine's own: a line says why, and the last one that it can't listen."""
-    for address in ("127.0.0.1", "192.0.2.1:8554"):
-        ran = subprocess.run([program, "serve", address], capture_output=True, text=True, timeout=30)
-        why, last = (ran.stderr.splitlines() + ["", ""])[:2]
-        is_told = why.startswith(f"[WARN  relay_main::serve] {address}: ") and last == "relay: cannot listen"
-        if (ran.returncode, ran.stdout) != (1, "") or not is_told:
-            yield f"{address}: {ran}"
-
-
 def has_descriptors(part):
     """Whether all places may be taken. If not, what of a part needs that is left out, which is printed."""
     if resource.getrlimit(resource.RLIMIT_NOFILE)[0] >= 1300:
@@ -441,7 +430,7 @@ PARTS = in_modes(mount_ends_where_its_publisher_closes, seat_is_free_where_its_p
 PARTS += in_modes(player_that_closes_behind_the_end, player_may_stay_behind_the_end)
 PARTS += in_modes(stalled_player_that_sends_a_fault, stalled_player_that_falls_silent, stalled_player_that_tears_down)
 PARTS += [(part, ()) for part in (flood_is_answered, silent_peer_is_closed, reset_ends_one_connection)]
-PARTS += [(part, ()) for part in (server_ends_with_its_last_connection, cannot_be_bound)]
+PARTS += [(server_ends_with_its_last_connection, ())]
 
 # For their descriptors, and one for its time.
 ALONE = in_modes(places_are_free_again) + [(part, ()) for part in (cannot_be_served, refused_peers_read_why, crowd_of_refused_peers)]

@@ -91,7 +91,7 @@ def checks_of_the_request_come_first(program):
 def owner_sets_up_its_own_mount_alone(program):
     """A peer that may publish and not play sets up its mount while that lives, and neither describes it nor sets up another one. The same
     SETUP of a peer that may play is answered 200."""
-    with serving(program, *NETWORKS) as server, Camera(server, "other", source=BOTH) as other:
+    with serving(program, "--keep-ended", *NETWORKS) as server, Camera(server, "other", source=BOTH) as other:
         with Camera(server, source=PUBLISHER) as owner, Player(server, source=PLAYER) as player:
             owner.publish([7])
             if (came := player.next()) != Frame(4, packet(7)):

@@ -329,7 +329,7 @@ def each_pause_of_a_stalled_player_is_answered(program, *options):
 
 def each_mount_has_its_own_packets(program, *options):
     """Each player has the packets of its own mount alone, and keeps on having them when the other mount ends."""
-    with serving(program, "--accept", "4", "--seats", "1", *options) as server, contextlib.ExitStack() as peers:
+    with serving(program, "--accept", "4", "--seats", "1", "--keep-ended", *options) as server, contextlib.ExitStack() as peers:
         cameras = [peers.enter_context(Camera(server, mount)) for mount in ("first", "second")]
         players = [peers.enter_context(Player(server, mount)) for mount in ("first", "second")]
         for number in range(20):
@@ -362,8 +362,9 @@ def rows_hold(peers, rows):
 
 
 def a_track_has_its_owners_name_and_its_players(program, *options):
-    """A track is its owner's `trackID=1` and its players' `trackID=0`, and the mount's end leaves its player's connection open."""
-    with serving(program, "--accept", "2", "--seats", "1", "--gather", "0", *options) as server:
+    """A track is its owner's `trackID=1` and its players' `trackID=0`, and with `--keep-ended` the mount's end leaves its player's
+    connection open."""
+    with serving(program, "--accept", "2", "--seats", "1", "--gather", "0", "--keep-ended", *options) as server:
         with Peer(server) as owner, Peer(server) as player:
             yield from rows_hold((owner, player), OWNER_AND_CONTROL_NAMES)
             # The track that its owner set up as 1 is the one that its player set up as 0.
