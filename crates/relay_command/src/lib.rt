@@ -3,6 +3,7 @@
 
 mod asked;
 mod commands;
+mod serve_options;
 mod settings;
 mod task;
 

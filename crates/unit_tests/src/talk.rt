@@ -5,6 +5,7 @@ mod command_line_tests;
 mod devices;
 mod exchange_tests;
 mod expiry_tests;
+mod help_tests;
 mod memory_tests;
 mod prompt_tests;
 mod talker_tests;

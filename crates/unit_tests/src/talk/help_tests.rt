@@ -1,0 +1,152 @@
+//! What command lines print that ask for help or the version, or whose actor isn't one.
+use relay_command::read_words;
+use std::alloc::Global;
+use std::process::Abort;
+use std::test::Fail;
+
+const RELAY_HELP: &str = "A live relay for RTSP 1.0 (RFC 2326)
+
+Usage: relay <COMMAND>
+
+Commands:
+  serve  Relays streams from publishers to players over TCP
+  talk   Answers one RTSP connection on standard input and standard output
+  steps  Runs a schedule of the ring's atomic steps from standard input, and prints each step
+  help   Print this message or the help of the given subcommand(s)
+
+Options:
+  -h, --help     Print help
+  -V, --version  Print version
+
+Example: a server for clients on this machine
+
+./relay serve 127.0.0.1:8554
+";
+
+const SERVE_HELP: &str = "Relays streams from publishers to players over TCP
+
+Usage: relay serve [OPTIONS] <ADDR>
+
+Arguments:
+  <ADDR>  The address and port to listen on, as 127.0.0.1:8554; port 0: a free one
+
+Options:
+      --keep <N>                How many packets a mount keeps for players that are behind
+                                (1 to 4095) [default: 512]
+      --seats <N>               How many players a mount can have (1 to 1024) [default: 64]
+      --packet-bytes <N>        The longest packet that is relayed, in bytes
+                                (12 to 65535) [default: 16384]
+      --gather <MS>             How many milliseconds packets wait for more packets before they
+                                are sent, unless 16 have come (0 to 100) [default: 5]
+      --writers <N>             How many threads send packets; 0: one thread per player
+                                (0 to 64) [default: one per processor]
+      --direct                  Copy each packet once, from the ring, and imply --writers 0.
+                                If 16 packets exceed 32 KB, a player that stops reading can
+                                block its mount for 20 seconds, a slow one for longer
+      --back-ms <MS>            Start each PLAY with the packets of the last MS milliseconds,
+                                at most half of --keep; not with --back (0 to 10000)
+                                [default: 0]
+      --back <N>                Start each PLAY with the last N packets of all tracks. If N is
+                                near --keep, some are lost (0 to 4095) [default: 0]
+      --keep-ended              Keep players connected after their mount's end
+      --hang-up-ended           Disconnect players ten seconds after their mount's end, which
+                                is the default, and undo --keep-ended
+      --idle <SECONDS>          Disconnect clients that have no session after SECONDS of
+                                silence; 0: never (0 to 65535) [default: 300]
+      --silent <SECONDS>        Disconnect a publisher that sends nothing for SECONDS while it
+                                records (1 to 86400)
+                                [default: its session expires after 60 seconds]
+      --per-address <N>         How many connections an address can have; IPv6 counts by /64
+                                (1 to 1024) [default: no limit]
+      --mounts-per-address <N>  How many mounts an address can publish (1 to 64)
+                                [default: no limit]
+      --limit-exempt <NET>      Networks that --per-address and --mounts-per-address don't
+                                apply to, as 10.0.0.5,fd00::/8 [default: none]
+      --publish-from <NET>      Networks that can publish; others get 403. This is no
+                                authentication [default: all]
+      --play-from <NET>         Networks that can play; others get 403. This is no
+                                authentication [default: all]
+      --send-buffer <BYTES>     The send buffer of a connection, in bytes; Linux holds up to
+                                twice as much (16384 to 4194304, or 0 for the system's own)
+                                [default: 524288 if the system grants it, else 0]
+      --verbose                 Log mounts, players, their accounts and refused requests
+      --report <SECONDS>        Log every SECONDS what each mount received and what each player
+                                lost (1 to 86400) [default: off]
+      --until-eof               End when standard input ends, and first log what each
+                                connection lost and, with --report, a last report
+      --accept <N>              End after N connections were accepted and have ended
+                                (1 or more) [default: no end]
+  -h, --help                    Print help
+
+Example: on all addresses, and players start with a picture at once
+
+./relay serve 0.0.0.0:8554 --keep 2048 --back-ms 2000
+";
+
+const TALK_HELP: &str = "Answers one RTSP connection on standard input and standard output
+
+Usage: relay talk [OPTIONS]
+
+Options:
+      --word <HEX8>  The last eight hexadecimal digits of each session identifier
+                     [default: random]
+  -h, --help         Print help
+
+Example: the methods that the relay knows
+
+printf 'OPTIONS * RTSP/1.0\\r\\nCSeq: 1\\r\\n\\r\\n' | ./relay talk --word 0000abcd
+";
+
+const STEPS_HELP: &str =
+    "Runs a schedule of the ring's atomic steps from standard input, and prints each step
+
+Usage: relay steps [OPTIONS]
+
+Options:
+      --stopped <A>  Stop an actor after the schedule, p or the number of a seat, and let
+                     the others finish their calls
+  -h, --help         Print help
+
+Example: a seat loses the first of three packets, since the ring keeps two
+
+printf \\
+'keep 2\\nseats 1\\np 41\\np 42\\np 43\\n0 attach\\n0 take\\n0 take\\n0 detach\\ngo 0 p*15 0 0*5 0\\n' |
+./relay steps
+";
+
+/// The error of a line whose actor isn't one.
+const NO_ACTOR: &str = "error: invalid value '1x' for '--stopped <A>': not p and no seat's number
+
+Usage: relay steps [OPTIONS]
+
+For more information, try '--help'.
+";
+
+/// Lines, and what they print.
+const PRINTED: [(&str, &str); 6] = [
+    ("relay --help", RELAY_HELP),
+    ("relay serve --help", SERVE_HELP),
+    ("relay talk --help", TALK_HELP),
+    ("relay steps --help", STEPS_HELP),
+    ("relay steps --stopped 1x", NO_ACTOR),
+    ("relay --version", "relay 0.1.0\n"),
+];
+
+/// Returns whether a line is answered by this text.
+fn prints(alloc: Global, line: &str, text: &str) -> Result<bool, Fail> {
+    let words: Vec<&str> = line.split(' ').collect(alloc)?;
+    match read_words(alloc, words.as_slice()) {
+        Ok(_) => Ok(false),
+        Err(error) => Ok(format!(in alloc; "{error}")?.as_str() == text),
+    }
+}
+
+#[test]
+fn each_command_prints_its_options_and_an_example(rt: HostRuntime) -> Result<(), Fail> {
+    for (line, want) in &PRINTED {
+        assert!(rt; prints(rt.alloc(), line, want)?, "{line}");
+        let is_narrow = want.lines().all(|line| line.chars().count() <= 100);
+        assert!(rt; is_narrow, "{line}");
+    }
+    Ok(())
+}

@@ -1,0 +1,122 @@
+"""What README.md says of numbers, versions, crates and measurements, against the files that have them: for `tools/check-docs`."""
+import collections
+import glob
+import math
+import os
+import re
+
+from readme import parts, sentences, spans, table
+
+STAMP, CRATES, MEASUREMENTS = "dist/relay-x86_64-linux.stamp", "crates.txt", "docs/MEASUREMENTS.md"
+
+# A constant of the sources: its file, its name, and what it is divided by for the unit that README has.
+Constant = collections.namedtuple("Constant", "path name unit", defaults=[1])
+
+# A second and a minute in milliseconds, a millisecond in microseconds.
+SECOND, MINUTE, MILLISECOND = 1_000, 60_000, 1_000
+
+# A publisher's waits count in five windows, of which the last may just have begun: the four before it have 200 milliseconds.
+FOURTH = MILLISECOND / 4
+
+# Words of README, with the place of each constant that they have.
+SAID = [
+    ("Mounts; tracks of a mount; bytes of its name | {}; {}; {} |",
+     Constant("mounts/src/mounts", "MAX_MOUNTS"), Constant("sdp/src/lib", "MAX_TRACKS"), Constant("mounts/src/names", "MAX_NAME")),
+    ("A name has 1 to {} bytes", Constant("mounts/src/names", "MAX_NAME")),
+    ("| Connections | {:,}, ", Constant("session_state/src/world", "MAX_CONNECTIONS")),
+    ("Request head; body; packet | {:,} bytes; {:,} bytes;",
+     Constant("rtsp_message/src/lib", "MAX_HEAD"), Constant("rtsp_message/src/lib", "MAX_BODY")),
+    ("A session expires {} seconds after ", Constant("session_state/src/world/expiring", "SESSION_LIFE", SECOND)),
+    ("`session expired after {} s of silence`", Constant("session_state/src/world/expiring", "SESSION_LIFE", SECOND)),
+    ("acknowledges nothing for {} seconds", Constant("relay_fanout/src/listening", "UNACKNOWLEDGED", SECOND)),
+    ("`no acknowledgement for {} s`", Constant("relay_fanout/src/listening", "UNACKNOWLEDGED", SECOND)),
+    ("disconnected {:in_words} seconds later", Constant("relay_main/src/serve", "AFTER_END", SECOND)),
+    ("Disconnect players {:in_words} seconds after ", Constant("relay_main/src/serve", "AFTER_END", SECOND)),
+    ("`no SETUP for {} s after its ANNOUNCE`", Constant("relay_server/src/watched", "SETUP_WAIT", SECOND)),
+    ("A report has at most {} lines", Constant("relay_server/src/reports", "MOST_LINES")),
+    ("Memory of the last {} requests", Constant("relay_server/src/shared", "KEPT")),
+    ("more than {:in_words} a second", Constant("relay_accounts/src/line_rate", "MOST")),
+    ("once {:in_words} minute for each mount", Constant("relay_accounts/src/refused_requests", "KNOWN", MINUTE)),
+    ("and why, once {:in_words} minute", Constant("relay_accounts/src/tally", "WHILE", MINUTE)),
+    ("| {} if the system grants it", Constant("relay_main/src/serve", "SEND_BUFFER")),
+    ("at most {} milliseconds in any {}.",
+     Constant("pacing/src/allowance", "MOST", MILLISECOND), Constant("pacing/src/allowance", "WINDOW", FOURTH)),
+    ("its place in the ring after {} milliseconds", Constant("relay_fanout/src/pauses", "MOST")),
+    ("unless {} have come", Constant("relay_fanout/src/writing_side", "TAKES")),
+    ("If {} packets exceed {} KB",
+     Constant("relay_fanout/src/writing_side", "TAKES"), Constant("relay_fanout/src/writing_side", "GATHERED", 1_024)),
+]
+
+# The words of numbers that README doesn't have in digits; one minute is `a minute`.
+IN_WORDS = {1: "a", 10: "ten"}
+
+# A number with a decimal point or with a comma after its thousands.
+FIGURE = re.compile(r"(?<![\w.,])(?:\d{1,3}(?:,\d{3})+(?:\.\d+)?|\d+\.\d+)(?!\w|[.,]\d)")
+
+# What may be in the sentence that names the crates of the kit, and isn't in `crates.txt`.
+BESIDE = {"std"}
+
+
+class Number(int):
+    def __format__(self, form):
+        return IN_WORDS.get(self, str(self)) if form == "in_words" else super().__format__(form)
+
+
+def number_of(constant, text_of):
+    """Returns a constant in README's unit, or `None` if the file has no such constant or if it is no whole number of that unit."""
+    path = f"crates/{constant.path}.rt"
+    found = os.path.exists(path) and re.search(rf"\bconst {constant.name}: \w+ = (\d[\d_]*(?: \* \d[\d_]*)*);", text_of(path))
+    number = found and math.prod(map(int, found[1].split(" * "))) / constant.unit
+    return Number(number) if number and number.is_integer() else None
+
+
+def wrong_constants(text, text_of):
+    """Numbers of the sources that README doesn't have in its words."""
+    for words, *constants in SAID:
+        numbers = [number_of(it, text_of) for it in constants]
+        for constant in (constant for constant, number in zip(constants, numbers) if number is None):
+            yield f"crates/{constant.path}.rt has no number {constant.name} as tools/program/facts.py has it for {words!r}"
+        if None not in numbers and (said := words.format(*numbers)) not in text:
+            yield f"it has no words {said!r}, as {', '.join(it.name for it in constants)} of the sources would have it"
+
+
+def wrong_versions(text, text_of):
+    """Another kit, or another least version of glibc, than those of the program in `dist/`."""
+    stamp = dict(line.split(" ", 1) for line in text_of(STAMP).splitlines())
+    for key, pattern in (("kit", r"Proved with `([^`]*)`"), ("glibc", r"\bglibc (\d+(?:\.\d+)*)")):
+        said = re.findall(pattern, text)
+        if set(said) != {stamp.get(key)}:
+            yield f"{said} is said of {key}, and {STAMP} has {stamp.get(key)}"
+
+
+def wrong_crates(text, text_of):
+    """Other crates in the sentence that names those of the kit than `crates.txt` has."""
+    used = {name for line in text_of(CRATES).splitlines() for name in line.partition(":")[2].split()}
+    used -= {os.path.basename(it) for it in glob.glob("crates/*")}
+    named = [spans(" ".join(words)) for part in parts(text) if part.chapter == "What is trusted" for words in sentences(part.text)]
+    said = set(max(named, key=len, default=[])) - BESIDE
+    for name in sorted(used ^ said):
+        ours, theirs = ("names", "lacks") if name in said else ("lacks", "names")
+        yield f"*What is trusted* {ours} the crate {name}, which {CRATES} {theirs}"
+
+
+def unmeasured(text, text_of):
+    """Rows of README's tables whose figures no section of the page of measurements has."""
+    measured = collections.defaultdict(set)
+    for part in parts(text_of(MEASUREMENTS)):
+        measured[part.chapter, part.section].update(FIGURE.findall(part.text))
+    for title in ("Why this one", "Figures"):
+        rows = [FIGURE.findall(" | ".join(row)) for row in table(text, title)]
+        if not any(rows):
+            yield f"{title!r} has no table with figures"
+        for row in rows:
+            if missing := min((set(row) - there for there in measured.values()), key=len):
+                yield f"{MEASUREMENTS} has no section with all of {', '.join(row)} of {title!r}: {', '.join(sorted(missing))} is missing"
+
+
+def wrong_facts(text, text_of):
+    """Yields what README's text has otherwise than the files of the repository, which is the current folder."""
+    yield from wrong_constants(text, text_of)
+    yield from wrong_versions(text, text_of)
+    yield from wrong_crates(text, text_of)
+    yield from unmeasured(text, text_of)

@@ -1,0 +1,113 @@
+"""A page as its parts, and the options that the source of the command line declares: for `tools/check-docs` and the man page."""
+import collections
+import re
+
+# A part of a page: the titles of its chapter (`##`) and of its section (`##` or `###`), its kind and its text. The kinds are `title`,
+# `paragraph`, `item` (of a list), `head` and `row` (of a table) and `code` (a line of it).
+Part = collections.namedtuple("Part", "chapter section kind text")
+
+# An option of a command: its name, the name of its value or `None`, its default or `None`, as the source has them, and its range.
+Option = collections.namedtuple("Option", "name value default range")
+
+# The least and the greatest number of an option, or `None` if any greater one is allowed, and the least but 0 if that has a meaning of
+# its own and numbers between them are refused, else `None`.
+Range = collections.namedtuple("Range", "least greatest least_set")
+
+# The greatest number of each type that an option's value can have.
+GREATEST = {"u8": 2**8 - 1, "u16": 2**16 - 1, "u32": 2**32 - 1, "u64": None}
+
+# What reads the number of an option.
+PARSER = re.compile(rf"\.value_parser\(clap::value_parser!\(({'|'.join(GREATEST)})\)(?:\.range\(([\d_]+)\.\.([\d_]*)\))?\)")
+
+SPAN = re.compile(r"(`+)(.+?)\1(?!`)")
+
+ITEM = re.compile(r" {0,3}(?:[-*+]|\d+[.)]) +(.*)")
+
+RULE = re.compile(r"\|[-:| ]+\|?$")
+
+
+def kind_of(line, is_open):
+    """Returns the kind of a line, and its text. `is_open`: a paragraph or an item goes on before it."""
+    if line.startswith("    ") and not is_open:
+        return "code", line[4:]
+    if found := re.match(r"#+ (.*)", line):
+        return "title", found[1]
+    if found := ITEM.match(line):
+        return "item", found[1]
+    if line.startswith("|"):
+        return "rule" if RULE.match(line) else "row", line
+    return "paragraph", line.strip()
+
+
+def parts(text):
+    """Returns the parts of a page, in order. Lines of one paragraph or item are joined."""
+    found, chapter, section, is_fenced, is_open = [], "", "", False, False
+    for line in text.splitlines():
+        if line.startswith("```"):
+            is_fenced, is_open = not is_fenced, False
+            continue
+        if not line.strip():
+            is_open = False
+            continue
+        kind, words = ("code", line) if is_fenced else kind_of(line, is_open)
+        if kind == "title":
+            section = words
+            chapter = chapter if line.startswith("###") else words
+        if kind == "rule":
+            found[-1] = found[-1]._replace(kind="head")
+        elif kind == "paragraph" and is_open:
+            found[-1] = found[-1]._replace(text=f"{found[-1].text} {words}")
+        else:
+            found.append(Part(chapter, section, kind, words))
+        is_open = kind in ("paragraph", "item")
+    return found
+
+
+def cells(row):
+    """Returns the cells of a table's row, in which `\\|` is a character."""
+    inner = re.sub(r"(?<!\\)\|$", "", row.strip().removeprefix("|"))
+    return [cell.strip().replace("\\|", "|") for cell in re.split(r"(?<!\\)\|", inner)]
+
+
+def table(text, title):
+    """Returns the rows of the tables of a chapter, without their heads."""
+    return [cells(part.text) for part in parts(text) if part.chapter == title and part.kind == "row"]
+
+
+def spans(text):
+    """Returns the texts of a text's code spans."""
+    return [found[2] for found in SPAN.finditer(text)]
+
+
+def sentences(text):
+    """Returns the sentences of a text, each as a list of its words. A code span is one word, and of a link its text is read."""
+    joined = SPAN.sub(lambda span: re.sub(r"\s", "\0", span[0]), text)
+    pieces = re.split(r"(?<=[.?!])[)\"*_]*(?:\s+|$)", re.sub(r"\[([^\]]*)\]\([^)]*\)", r"\1", joined))
+    found = [[word.replace("\0", " ") for word in piece.split() if re.search(r"[\w`]", word)] for piece in pieces]
+    return [words for words in found if words]
+
+
+def range_of(name, text, sources):
+    """Returns the range of an option by its text, or `None` if it takes no number. A constant `LEAST_NAME` has its least number but 0."""
+    found = PARSER.search(text)
+    if not found:
+        return None
+    least_set = re.search(rf"\bLEAST_{name.replace('-', '_').upper()}: u\d+ = ([\d_]+);", "\n".join(sources.values()))
+    greatest = int(found[3]) - 1 if found[3] else GREATEST[found[1]]
+    return Range(int(found[2] or 0), greatest, least_set and int(least_set[1]))
+
+
+def declared(sources, command):
+    """Returns the options that a command has, as `serve`, by the sources of the command line: the text of each module by its name."""
+    bodies = {}
+    for module, text in sources.items():
+        for name, body in re.findall(r"(?ms)^(?:pub(?:\(crate\))? )?fn (\w+)<.*?\{\n(.*?)^\}", text):
+            bodies[name] = bodies[f"{module}::{name}"] = body
+    own = bodies[f"{command}_command"]
+    called = [bodies[name] for name in re.findall(r"\.arg\(((?:\w+::)?\w+)\(alloc\)", own)]
+    found = []
+    for text in re.split(r"(?=Arg::new\()", "\n".join([own, *called])):
+        name, value, default = (re.search(rf'\.{call}\("([^"]+)"\)', text) for call in ("long", "value_name", "default_value"))
+        if name:
+            found.append(Option(name[1], value and value[1], default and default[1], range_of(name[1], text, sources)))
+    return found
