@@ -41,7 +41,7 @@ SAID = [
     ("| {} if the system grants it", Constant("relay_main/src/serve", "SEND_BUFFER")),
     ("at most {} milliseconds in any {}.",
      Constant("pacing/src/allowance", "MOST", MILLISECOND), Constant("pacing/src/allowance", "WINDOW", FOURTH)),
-    ("its place in the ring after {} milliseconds", Constant("relay_fanout/src/pauses", "MOST")),
+    ("is still copying, after {} milliseconds, the old packet", Constant("relay_fanout/src/pauses", "MOST")),
     ("unless {} have come", Constant("relay_fanout/src/writing_side", "TAKES")),
     ("If {} packets exceed {} KB",
      Constant("relay_fanout/src/writing_side", "TAKES"), Constant("relay_fanout/src/writing_side", "GATHERED", 1_024)),
