@@ -60,7 +60,7 @@ pub(crate) fn steps_command<'a>(alloc: Global) -> Result<Command<'a>, AllocError
         .long("stopped")
         .value_name("A")
         .help(
-            "Stop an actor after the schedule, p or the number of a seat, and let{n}the others finish their calls",
+            "Stop an actor after the schedule, p (the publisher) or the number of a seat,{n}and let the others finish their calls",
         );
     Command::new(alloc, "steps")
         .about(

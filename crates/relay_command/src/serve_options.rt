@@ -63,7 +63,7 @@ pub(crate) fn direct<'a>(alloc: Global) -> Arg<'a> {
         .long("direct")
         .action(ArgAction::SetTrue)
         .help(
-            "Copy each packet once, from the ring, and imply --writers 0.{n}If 16 packets exceed 32 KB, a player that stops reading can{n}block its mount for 20 seconds, a slow one for longer",
+            "Copy each packet once for each player, from the ring, and imply{n}--writers 0. If 16 packets exceed 32 KB, a player that stops{n}reading can block its mount for 20 seconds, a slow one for longer",
         )
 }
 
@@ -185,7 +185,7 @@ pub(crate) fn verbose<'a>(alloc: Global) -> Arg<'a> {
     Arg::new(alloc, "verbose")
         .long("verbose")
         .action(ArgAction::SetTrue)
-        .help("Log mounts, players, their accounts and refused requests")
+        .help("Log mounts, players, each session's packet counts, and refused{n}requests")
 }
 
 pub(crate) fn report<'a>(alloc: Global) -> Arg<'a> {

@@ -40,9 +40,9 @@ Options:
                                 are sent, unless 16 have come (0 to 100) [default: 5]
       --writers <N>             How many threads send packets; 0: one thread per player
                                 (0 to 64) [default: one per processor]
-      --direct                  Copy each packet once, from the ring, and imply --writers 0.
-                                If 16 packets exceed 32 KB, a player that stops reading can
-                                block its mount for 20 seconds, a slow one for longer
+      --direct                  Copy each packet once for each player, from the ring, and imply
+                                --writers 0. If 16 packets exceed 32 KB, a player that stops
+                                reading can block its mount for 20 seconds, a slow one for longer
       --back-ms <MS>            Start each PLAY with the packets of the last MS milliseconds,
                                 at most half of --keep; not with --back (0 to 10000)
                                 [default: 0]
@@ -69,7 +69,8 @@ Options:
       --send-buffer <BYTES>     The send buffer of a connection, in bytes; Linux holds up to
                                 twice as much (16384 to 4194304, or 0 for the system's own)
                                 [default: 524288 if the system grants it, else 0]
-      --verbose                 Log mounts, players, their accounts and refused requests
+      --verbose                 Log mounts, players, each session's packet counts, and refused
+                                requests
       --report <SECONDS>        Log every SECONDS what each mount received and what each player
                                 lost (1 to 86400) [default: off]
       --until-eof               End when standard input ends, and first log what each
@@ -103,8 +104,8 @@ const STEPS_HELP: &str =
 Usage: relay steps [OPTIONS]
 
 Options:
-      --stopped <A>  Stop an actor after the schedule, p or the number of a seat, and let
-                     the others finish their calls
+      --stopped <A>  Stop an actor after the schedule, p (the publisher) or the number of a seat,
+                     and let the others finish their calls
   -h, --help         Print help
 
 Example: a seat loses the first of three packets, since the ring keeps two
