@@ -1,3 +1,4 @@
 pub mod Devices
 pub mod Frame
 pub mod Gatherings
+pub mod Payloads

@@ -2,7 +2,7 @@
 ghost use Rattle.std.specs.Prelude.{◌≡◌, ◌↔◌, ℕ, ◌+◌, ◌*◌, ◌<◌, ◌≤◌, List, ◌++◌, length, take, slice_index, OnOk, OnErr};
 ghost use Rattle.interleaved.specs.Frame.{IsFrame, MayBeginFrame, StandsAt, frame_of, head_of};
 
-use base_syntax::Bytes;
+use crate::payload::Payload;
 use std::alloc::AllocError;
 use std::error::Error;
 use std::fmt;
@@ -19,7 +19,7 @@ pub struct Frame {
     /// The channel that the data belongs to, as SETUP gave it.
     pub channel: u8,
     /// The data, at most 65,535 bytes in a frame that came from a connection.
-    pub payload: Bytes,
+    pub payload: Payload,
 }
 
 /// What stands at the front of some bytes where a frame may begin.

@@ -1,5 +1,5 @@
 -- An intake that has bytes to read on with.
-use Rattle.std.proofs.Common.{◌≡◌, ◌+◌, ◌-◌, ◌≤◌, ◌<◌, ℕ, false, List, ◌++◌, Option, length, take, drop}
+use Rattle.std.proofs.Common.{◌≡◌, ◌+◌, ◌≤◌, ◌<◌, ℕ, false, List, ◌++◌, Option, length, take, drop}
 use Rattle.std.specs.List.{concat}
 use Rattle.std.specs.Io.KnownBytes.{Consumes}
 use Rattle.std.specs.Vec.Iter.{into_iter_items}
@@ -27,11 +27,12 @@ pub record Fetched {S : Type 0} (incoming : S → Option (List ℕ)) (bound : S 
   pub was_going : old.ended ≡ false
   pub going : i.ended ≡ false
 
--- A part of the piece was fed, from where the reader had come to. What is left of the piece is held.
-pub record FedPart (from end held : ℕ) (piece : List ℕ) (old : Ending) (units : List StreamUnit) (new : Ending) : Type 0 where
-  pub some : from < end
-  pub most : end ≤ from + 2048
-  pub within : end ≤ held
-  pub reads : ReadsOn old (drop from (take end piece)) units new
-  pub size : length (drop from (take end piece)) ≡ end - from
-  pub cut : drop from (take held piece) ≡ drop from (take end piece) ++ drop end (take held piece)
+-- The first so many of the bytes at hand were fed, from where the reader had come to. The others are held.
+pub record FedPart (from held : ℕ) (piece : List ℕ) (len : ℕ) (old : Ending) (units : List StreamUnit) (new : Ending) : Type 0 where
+  pub some : 0 < len
+  pub within : from + len ≤ held
+  pub reads : ReadsOn old (take len (drop from (take held piece))) units new
+  pub size : length (take len (drop from (take held piece))) ≡ len
+  pub cut : drop from (take held piece) ≡ take len (drop from (take held piece)) ++ drop (from + len) (take held piece)
+  pub bytes : length units ≤ len
+  pub few : length units ≤ 2048

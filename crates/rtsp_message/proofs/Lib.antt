@@ -21,3 +21,4 @@ pub mod Prompting
 pub mod Fetching
 pub mod Cuts
 pub mod Keeping
+pub mod Placing

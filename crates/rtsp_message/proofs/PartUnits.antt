@@ -1,11 +1,13 @@
 -- How many units more bytes make: at most one a byte. What waited held no whole unit, so the first unit takes a byte of them too.
-use Rattle.std.proofs.Common.{◌≡◌, ℕ, ◌<◌, ◌≤◌, List, [], ◌∷◌, ◌++◌, length, take, drop, sym, ap, subst, ◌∙◌, inl, inr, arith, append_assoc, length-append, take-append-drop}
+use Rattle.std.proofs.Common.{◌≡◌, ℕ, ◌<◌, ◌≤◌, List, [], ◌∷◌, ◌++◌, length, take, drop, sym, ap, subst, ◌∙◌, inl, inr, arith, append_assoc, None, length-append, take-append-drop}
 use Rattle.std.proofs.Math.Seq.{take-append_seam}
 use Rattle.std.proofs.lemmas.List.{take-append-le}
 use Rattle.std.proofs.lemmas.Bool.Decides.{leb_tells}
 use Rattle.rtsp_message.specs.declared.unit.Unit.{Unit as StreamUnit}
-use Rattle.rtsp_message.specs.Stream.{BeginsWithNoPad, IsUnit, IsUndecided, Piece, Pad, Whole, ArePieces, bytes_of, units_of, Ending, Waits, Fails, EndsAs, ReadsOn}
-use Rattle.rtsp_message.proofs.OneReading.{pad_begins_nothing}
+use Rattle.rtsp_message.specs.Stream.{BeginsWithNoPad, IsUnit, IsUndecided, Piece, Pad, Whole, ArePieces, bytes_of, units_of, Ending, Waits, Fails, EndsAs, ReadsOn, fault_of, waiting_len}
+use Rattle.rtsp_message.specs.Parts.{AreFew}
+use Rattle.rtsp_message.proofs.Placing.{all_read}
+use Rattle.rtsp_message.proofs.OneReading.{pad_begins_nothing, one_reading}
 use Rattle.rtsp_message.proofs.HandingOut.{units_take_bytes}
 
 -- a unit at the front of what waited and of more bytes is longer than what waited
@@ -32,3 +34,10 @@ one_a_byte (Waits rest) m more us stands p =
     let ends = subst (λ (l : List ℕ). EndsAs l (Waits rest)) stands.ends.0 stands.ends in
     omega (arith, ap length p.units_are, pieces_take_bytes rest more p.rest p.pieces ends.1 ends.2 p.are_pieces p.whole)
 one_a_byte (Fails fault) m more us stands p = omega (arith, ap length p.0)
+
+-- if nothing waits, whole units are read as what they are: no more of them than were counted
+pub no_more_than_counted : (d m : Ending) (bytes : List ℕ) (len most : ℕ) (us : List StreamUnit) → fault_of d ≡ None → waiting_len d ≡ 0 → AreFew most bytes len → ReadsOn d (take len bytes) us m → length us ≤ most
+no_more_than_counted (Waits []) m bytes len most us none empty few p =
+    omega (arith, few.few, ap length (one_reading p (all_read bytes few.units len few.reads)).0)
+no_more_than_counted (Waits (b ∷ rest)) m bytes len most us none empty few p = absurd (omega (arith, empty))
+no_more_than_counted (Fails fault) m bytes len most us none empty few p = absurd (cc)

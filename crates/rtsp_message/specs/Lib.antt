@@ -7,6 +7,7 @@ pub mod Heads
 pub mod Stream
 pub mod Fronts
 pub mod Knowns
+pub mod Parts
 pub mod ReaderStates
 pub mod Readers
 pub mod Reply

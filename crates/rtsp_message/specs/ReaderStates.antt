@@ -1,5 +1,5 @@
 -- What a reader's state holds beside where its reading stands, and what one reading of a store gives.
-use Rattle.std.specs.Prelude.{◌+◌, ◌*◌, ◌<◌, ◌≤◌, ◌^◌, ℕ, List, [], Option, None, Some, length}
+use Rattle.std.specs.Prelude.{◌+◌, ◌*◌, ◌<◌, ◌≤◌, ◌^◌, ℕ, List, [], ◌++◌, Option, None, Some, length}
 use Rattle.rtsp_message.specs.declared.fault.Fault.{Fault}
 use Rattle.rtsp_message.specs.declared.unit.Unit.{Unit as StreamUnit}
 use Rattle.rtsp_message.specs.declared.known.Known.{Known}
@@ -30,6 +30,11 @@ KeepsBeginning rest (Some fault) = length rest ≤ 0
 abbrev pub left : Option Fault → List ℕ → List ℕ
 left None rest = rest
 left (Some fault) rest = []
+
+-- with fewer bytes more than this, no unit and no fault comes: all waits on
+abbrev pub NeedsMore : Ending → ℕ → Type 0
+NeedsMore (Waits rest) count = (more : List ℕ) → length more < count → EndsAs (rest ++ more) (Waits (rest ++ more))
+NeedsMore (Fails fault) count = ⊥
 
 -- how many of so many bytes were read: those of the units, and with a fault all
 abbrev pub read_len : (size len : ℕ) → Option Fault → ℕ

@@ -11,7 +11,7 @@ use crate::head::{HeadFront, read_head};
 use crate::request::Request;
 use crate::store::Store;
 use base_syntax::Bytes;
-use interleaved::{FRAME_HEAD, Frame};
+use interleaved::{FRAME_HEAD, Frame, Payload};
 use std::alloc::{AllocError, Global};
 
 /// Makes a frame of the bytes of one that stands whole at this place.
@@ -32,7 +32,7 @@ fn frame_of(alloc: Global, bytes: &[u8]) -> Result<Frame, AllocError>
 {
     let (_, data) = bytes.split_at(FRAME_HEAD);
     let channel = bytes[1];
-    let payload = Bytes::from_slice(alloc, data)?;
+    let payload = Payload::from(Bytes::from_slice(alloc, data)?);
     Ok(Frame { channel, payload })
 }
 

@@ -2,6 +2,7 @@
 ghost use Rattle.std.specs.Prelude.{◌≡◌, ◌<◌, ◌≤◌, ◌+◌, [], length, IfSome, IfNone};
 
 use crate::fault::Fault;
+use crate::part::part_len;
 use crate::reader::Reader;
 use crate::unit::Unit;
 use interleaved::Source;
@@ -12,9 +13,6 @@ use std::vec::IntoIter;
 /// The most bytes that are read from a source at once: one system call mostly brings all that a publisher has sent since the
 /// last one.
 const PIECE: usize = 65_536;
-
-/// The most bytes that are fed to the reader at once. Their units are in memory at the same time, at most one a byte.
-const PART: usize = 2_048;
 
 /// What an intake returns.
 #[derive(Drop)]
@@ -110,7 +108,8 @@ impl<S: Source + Drop> Intake<S> {
     /// of what waits, or it is queued.
     ///
     /// Apart from what the source has left that is limited. The bytes held and the units queued are at most 65,536 together,
-    /// and fewer than 73,728 bytes wait. At most 2,048 units are queued, since each took a byte of the last part.
+    /// and fewer than 73,728 bytes wait. At most 2,048 units are queued: the last part was at most 512 whole frames, or each
+    /// took a byte of 2,048.
     pub fn left(&self) -> u64
         ensures value { result ≡ weight S.bound self.now }
         ensures few { result < S.bound self.now.source + 139_264 }
@@ -201,12 +200,13 @@ impl<S: Source + Drop> Intake<S> {
                 Err(_) => return Some(Next::ReadFailed),
             }
         }
-        let end = self.held.min(self.from + PART);
-        let front = &self.piece[..end];
-        match self.reader.feed(&front[self.from..]) {
+        let front = &self.piece[..self.held];
+        let bytes = &front[self.from..];
+        let len = part_len(self.reader.waiting(), self.reader.missing(), bytes);
+        match self.reader.feed(&bytes[..len]) {
             Ok(fed) => {
                 self.units = fed.units.into_iter();
-                self.from = end;
+                self.from += len;
                 None
             }
             Err(_) => Some(Next::OutOfMemory),

@@ -5,6 +5,7 @@
 mod byte_class;
 mod cutting;
 mod fault;
+mod frames;
 mod head;
 mod headers;
 mod intake;
@@ -13,6 +14,7 @@ mod known;
 pub mod laws;
 mod lines;
 mod look;
+mod part;
 mod plain;
 mod reader;
 mod reply;

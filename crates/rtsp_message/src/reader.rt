@@ -1,16 +1,18 @@
 //! A stream read in the pieces that it comes in.
-ghost use Rattle.std.specs.Prelude.{◌≡◌, ◌+◌, ◌*◌, ◌<◌, ◌≤◌, ◌++◌, [], length, drop, OnOk, OnErr, IfOk};
+ghost use Rattle.std.specs.Prelude.{◌≡◌, ◌+◌, ◌*◌, ◌<◌, ◌≤◌, ◌++◌, [], length, drop, OnOk, OnErr, IfOk, IfSome};
 ghost use Rattle.rtsp_message.specs.Stream.{Waits, ReadsOn, fault_of, waiting_len, IsScan};
 ghost use Rattle.rtsp_message.specs.Stores.{counted, LooksOnly};
 ghost use Rattle.rtsp_message.specs.Knowns.{IsKnown, looks_for};
-ghost use Rattle.rtsp_message.specs.ReaderStates.{left, read_len, IsRead};
+ghost use Rattle.rtsp_message.specs.ReaderStates.{left, read_len, IsRead, NeedsMore};
 
 use crate::cutting::{cut_frame, cut_message};
 use crate::fault::Fault;
+use crate::frames::cut_frames;
 use crate::known::{Known, Look};
 use crate::look::look;
 use crate::store::Store;
 use crate::unit::Unit;
+use interleaved::FRAME_HEAD;
 use std::alloc::{AllocError, Global};
 use std::marker::Model;
 
@@ -97,6 +99,18 @@ impl Reader {
         self.store.len()
     }
 
+    /// At least how many bytes more the frame needs that is under way. `None` if none is.
+    pub(crate) fn missing(&self) -> Option<usize>
+        ensures { IfSome result (NeedsMore self.now.reading) }
+    {
+        let len = match self.known {
+            Known::Dollar => FRAME_HEAD,
+            Known::Frame { len } => len,
+            _ => return None,
+        };
+        Some(len.saturating_sub(self.store.len()))
+    }
+
     /// How many looks at bytes were made. The count stays at 2^64 - 1 once it is there.
     pub fn looked(&self) -> u64
         ensures value { result ≡ self.now.looked }
@@ -143,6 +157,14 @@ impl Reader {
                 units: Vec::new(alloc),
                 fault: Some(fault),
             });
+        }
+        if self.store.len() == 0 {
+            if let Some(units) = cut_frames(alloc, piece)? {
+                // Twice at the four bytes of each head.
+                self.store.count(8 * units.len());
+                self.fed = fed;
+                return Ok(Fed { units, fault: None });
+            }
         }
         let scan = read_piece(alloc, &mut self.store, self.known, piece)?;
         let Scan {

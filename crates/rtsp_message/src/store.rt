@@ -168,7 +168,8 @@ impl Store {
         self.bytes = Vec::new(*self.bytes.allocator());
     }
 
-    fn count(&mut self, more: usize)
+    /// Counts looks at bytes that it doesn't hold.
+    pub fn count(&mut self, more: usize)
         ensures { self.new ≡ looked_more self.old more }
     {
         self.looked = self.looked.saturating_add(more as u64);

@@ -6,5 +6,6 @@
 mod of_gathering;
 mod of_intakes;
 mod of_interleaved;
+mod of_payloads;
 mod of_rooms;
 mod of_try_flush;

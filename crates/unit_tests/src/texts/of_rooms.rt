@@ -15,7 +15,11 @@ fn is_close(capacity: usize, len: usize) -> bool {
 
 /// Looks at the room of a text, and leaves none in its place.
 fn look_at_bytes(rt: &impl Abort, alloc: Global, bytes: &mut Bytes) {
-    let bytes = mem::replace(bytes, Bytes::empty(alloc)).into_vec();
+    look_at_list(rt, &mem::replace(bytes, Bytes::empty(alloc)).into_vec());
+}
+
+/// Looks at the room of a list of bytes.
+fn look_at_list(rt: &impl Abort, bytes: &Vec<u8>) {
     assert!(rt;
         is_close(bytes.capacity(), bytes.len()),
         "{} of {}",
@@ -72,7 +76,11 @@ fn units_take_at_most_twice_the_room_they_need(rt: HostRuntime) {
     );
     for unit in units {
         match unit {
-            Unit::Frame(mut frame) => look_at_bytes(&rt, alloc, &mut frame.payload),
+            Unit::Frame(frame) => {
+                // The piece has a request too, so that each frame has a list of its own.
+                let list = frame.payload.into_vec().ok().expect(&rt, "a list");
+                look_at_list(&rt, &list);
+            }
             Unit::Message(request) => {
                 look_at_request(&rt, alloc, request.copy(alloc).expect(&rt, "memory"));
                 look_at_request(&rt, alloc, request);

@@ -1,5 +1,5 @@
-use Rattle.std.proofs.Common.{◌≡◌, ℕ, List, ◌∷◌, ◌++◌, [], None, take, drop, refl, sym, ap, subst, ◌∙◌, inl, inr, append-nil, arith, true, ◌+◌, ◌-◌, ◌<◌, ◌≤◌, length, take-add, drop-drop, length-drop, length-append, length-take}
-use Rattle.std.proofs.lemmas.List.{length-take-le, drop-take, drop_all, take_rest}
+use Rattle.std.proofs.Common.{◌≡◌, ℕ, List, ◌∷◌, ◌++◌, [], None, take, drop, refl, sym, ap, subst, ◌∙◌, inl, inr, append-nil, arith, true, ◌+◌, ◌-◌, ◌≤◌, length, take-append-drop, drop-drop, length-drop, length-append, length-take, length-take, take-append-drop}
+use Rattle.std.proofs.lemmas.List.{length-take-le, drop_all, take_rest}
 use Rattle.std.proofs.KnownBytes.{Consumes-nil, Consumes-kept}
 use Rattle.std.specs.Io.KnownBytes.{Consumes}
 use Rattle.std.specs.Vec.Iter.{into_iter_items}
@@ -8,7 +8,8 @@ use Rattle.rtsp_message.specs.ReaderStates.{ReaderState}
 use Rattle.rtsp_message.specs.Stream.{Ending, ReadsOn, fault_of, waiting_len}
 use Rattle.rtsp_message.specs.IntakeFields.{state_of}
 use Rattle.rtsp_message.proofs.HandingOut.{units_found, settled, holds_more, holds_same}
-use Rattle.rtsp_message.proofs.PartUnits.{one_a_byte}
+use Rattle.rtsp_message.specs.Parts.{AreFew}
+use Rattle.rtsp_message.proofs.PartUnits.{one_a_byte, no_more_than_counted}
 use Rattle.rtsp_message.specs.Intakes.{IntakeState, HandsOut}
 use Rattle.rtsp_message.proofs.Fetching.{Fetched, FedPart}
 use Rattle.rtsp_message.proofs.intake.Intake.read_piece.Given.{Over}
@@ -23,24 +24,8 @@ none_held from held piece same = drop_all from (take held piece) (omega (arith, 
 none_either : (from held : ℕ) (old new : List ℕ) → from ≡ held → drop from (take held new) ≡ drop from (take held old) ++ []
 none_either from held old new same = none_held from held new same ∙ ap (λ (l : List ℕ). l ++ []) (sym (none_held from held old same))
 
-cut_by : (from k j : ℕ) (piece : List ℕ) → drop from (take (from + (k + j)) piece) ≡ drop from (take (from + k) piece) ++ drop (from + k) (take (from + k + j) piece)
-cut_by from k j piece =
-    drop-take from (k + j) piece ∙ take-add k j (drop from piece) ∙ ap (λ (l : List ℕ). l ++ take j (drop k (drop from piece))) (sym (drop-take from k piece))
-    ∙ ap (λ (l : List ℕ). drop from (take (from + k) piece) ++ l) (ap (take j) (drop-drop k from piece) ∙ sym (drop-take (from + k) j piece))
-
--- what is left, as a part and what is left after it
-cut_part : (from end held : ℕ) (piece : List ℕ) → from ≤ end → end ≤ held → drop from (take held piece) ≡ drop from (take end piece) ++ drop end (take held piece)
-cut_part from end held piece low high =
-    let k = end - from in
-    let j = held - end in
-    let ends : from + k ≡ end = omega arith in
-    let all : from + (k + j) ≡ held = omega arith in
-    let same : from + k + j ≡ held = omega arith in
-    ap (λ (n : ℕ). drop from (take n piece)) (sym all) ∙ cut_by from k j piece
-    ∙ ap (λ (n : ℕ). drop from (take n piece) ++ drop n (take (from + k + j) piece)) ends ∙ ap (λ (n : ℕ). drop from (take end piece) ++ drop end (take n piece)) same
-
-part_len : (from end : ℕ) (piece : List ℕ) → end ≤ length piece → length (drop from (take end piece)) ≡ end - from
-part_len from end piece within = omega (arith, length-drop from (take end piece), length-take end piece)
+hand_len : (from held : ℕ) (piece : List ℕ) → held ≤ length piece → length (drop from (take held piece)) ≡ held - from
+hand_len from held piece within = omega (arith, length-drop from (take held piece), length-take held piece)
 
 fetched : (g : Over) (c : After-feed g) → Fetched g.S.Source.incoming g.S.Source.bound g.S.Source.gives c.args.self.now c.if-self-2.self-inside
 fetched g c =
@@ -89,45 +74,51 @@ fetched g c =
     ] in
     subst (λ old. Fetched g.S.Source.incoming g.S.Source.bound g.S.Source.gives old c.if-self-2.self-inside) c.self.view_is from_inside
 
-fed_part : (g : Over) (c : In-Ok-feed g) → FedPart c.if-self-2.self-inside.from c.min-end.result c.if-self-2.self-inside.held c.if-self-2.self-inside.piece c.if-self-2.self-inside.reader.reading c.in-Ok-feed.fed.units.items c.feed.new.self.reading
+fed_part : (g : Over) (c : In-Ok-feed g) → FedPart c.if-self-2.self-inside.from c.if-self-2.self-inside.held c.if-self-2.self-inside.piece c.part_len-len.result c.if-self-2.self-inside.reader.reading c.in-Ok-feed.fed.units.items c.feed.new.self.reading
 fed_part g c =
     let i = c.if-self-2.self-inside in
-    let end = c.min-end.result in
     let f = fetched g (goal.at.In-Ok-feed g c).After-feed in
-    let within : end ≤ i.held = omega (arith, c.min-end.ensures) in
-    let some : i.from < end = omega (arith, c.min-end.ensures, f.some) in
-    record {
-      some = some;
-      most = omega (arith, c.min-end.ensures);
-      within = within;
-      reads = subst (λ (l : List ℕ). ReadsOn i.reader.reading l c.in-Ok-feed.fed.units.items c.feed.new.self.reading) (take_rest (take end i.piece) i.from) c.in-Ok-feed.ensures.units;
-      size = part_len i.from end i.piece (omega (arith, within, f.fits));
-      cut = cut_part i.from end i.held i.piece (omega (arith, some)) within;
-    }
-
--- a reading of the part makes at most a unit a byte of it
-few_units : (g : Over) (c : In-Ok-feed g) → length c.in-Ok-feed.fed.units.items ≤ c.min-end.result - c.if-self-2.self-inside.from
-few_units g c =
-    let i = c.if-self-2.self-inside in
-    let f = fetched g (goal.at.In-Ok-feed g c).After-feed in
-    let p = fed_part g c in
+    let len = c.part_len-len.result in
+    let all = take i.held i.piece in
+    let hand = drop i.from all in
+    let units = c.in-Ok-feed.fed.units.items in
+    let old = i.reader.reading in
+    let new = c.feed.new.self.reading in
+    let same = take_rest all i.from in
+    let within : len ≤ length hand = omega (arith, c.part_len-len.ensures.within, ap length same) in
+    let size : length (take len hand) ≡ len = length-take-le len hand within in
+    let reads = subst (λ (l : List ℕ). ReadsOn old (take len l) units new) same c.in-Ok-feed.ensures.units in
     let stands = subst (λ (d : Ending). ReadsOn d [] [] d) (sym f.reading) (subst (λ (o : IntakeState g.row.S.Denot). ReadsOn o.reading [] [] o.reading) c.self.view_is c.self.invariant.settled) in
-    omega (arith, one_a_byte i.reader.reading c.feed.new.self.reading (drop i.from (take c.min-end.result i.piece)) c.in-Ok-feed.fed.units.items stands p.reads, p.size)
+    let bytes : length units ≤ len = omega (arith, one_a_byte old new (take len hand) units stands reads, size) in
+    let fault : fault_of old ≡ None = ap fault_of f.reading ∙ subst (λ (o : IntakeState g.row.S.Denot). fault_of o.reading ≡ None) c.self.view_is (sym c.in_default.ensures) in
+    record {
+      some = c.part_len-len.ensures.some;
+      within = omega (arith, within, f.fits, f.some, hand_len i.from i.held i.piece f.fits);
+      reads = reads;
+      size = size;
+      cut = sym (take-append-drop len hand) ∙ ap (λ (l : List ℕ). take len hand ++ l) (drop-drop len i.from all);
+      bytes = bytes;
+      few = elim c.part_len-len.ensures.few [
+        | inl mixed ↦ omega (arith, bytes, mixed)
+        | inr frames ↦
+            let counted = subst (λ (l : List ℕ). AreFew 512 l len) same frames.1 in
+            omega (arith, no_more_than_counted old new hand len 512 units fault (sym c.waiting.ensures.value ∙ frames.0) counted reads)
+      ];
+    }
 
 pub invariant_of-self-in-Ok-feed : goal.invariant_of-self-in-Ok-feed
 invariant_of-self-in-Ok-feed g c =
     let at = goal.at.invariant_of-self-in-Ok-feed g c in
     let f = fetched g at.After-feed in
     let p = fed_part g at.In-Ok-feed in
-    let few = few_units g at.In-Ok-feed in
     record {
       within = f.within;
       fed = p.within;
       settled = settled _ _ _ _ p.reads;
       at_end = λ ended. absurd (cc (ended, f.going));
       waits = c.in-Ok-feed.ensures.bound;
-      queued = omega (arith, few, p.some, p.most, ap length c.into_iter.ensures.rest);
-      few = omega (arith, few, p.some, ap length c.into_iter.ensures.rest);
+      queued = omega (arith, p.few, ap length c.into_iter.ensures.rest);
+      few = omega (arith, p.bytes, ap length c.into_iter.ensures.rest);
     }
 
 pub returns-in-Ok-feed-clause-hands_out : goal.returns-in-Ok-feed-clause-hands_out
@@ -139,11 +130,11 @@ returns-in-Ok-feed-clause-hands_out g c =
     let units = c.in-Ok-feed.fed.units.items in
     record {
       read = f.read;
-      taken = drop i.from (take c.min-end.result i.piece);
+      taken = take c.part_len-len.result (drop i.from (take i.held i.piece));
       found = units;
       given = f.given;
       kept = sym f.held ∙ p.cut;
-      reads = subst (λ (d : Ending). ReadsOn d (drop i.from (take c.min-end.result i.piece)) units c.feed.new.self.reading) f.reading p.reads;
+      reads = subst (λ (d : Ending). ReadsOn d (take c.part_len-len.result (drop i.from (take i.held i.piece))) units c.feed.new.self.reading) f.reading p.reads;
       order = ap (λ (q : List StreamUnit). q ++ units) c.requires ∙ sym c.into_iter.ensures.rest;
     }
 
@@ -159,7 +150,7 @@ returns-in-Err-feed-clause-tells g c =
     let f = fetched g (goal.at.returns-in-Err-feed-clause-tells g c).After-feed in
     let i = c.if-self-2.self-inside in
     let fault = subst (λ (o : IntakeState g.row.S.Denot). fault_of o.reading ≡ None) c.self.view_is (sym c.in_default.ensures) in
-    (f.queue ∙ c.requires, ap (λ (r : ReaderState). fault_of r.reading) c.in-Err-feed.ensures.err ∙ ap fault_of f.reading ∙ fault, omega (arith, f.some, part_len i.from i.held i.piece f.fits))
+    (f.queue ∙ c.requires, ap (λ (r : ReaderState). fault_of r.reading) c.in-Err-feed.ensures.err ∙ ap fault_of f.reading ∙ fault, omega (arith, f.some, hand_len i.from i.held i.piece f.fits))
 
 pub returns-in-Some-clause-hands_out : goal.returns-in-Some-clause-hands_out
 returns-in-Some-clause-hands_out g c =
@@ -193,10 +184,10 @@ returns-in-Ok-feed-clause-ends g c =
     let f = fetched g at.After-feed in
     let p = fed_part g at.In-Ok-feed in
     let i = c.if-self-2.self-inside in
-    let part = drop i.from (take c.min-end.result i.piece) in
+    let part = take c.part_len-len.result (drop i.from (take i.held i.piece)) in
     let found = units_found i.reader.reading c.feed.new.self.reading part c.in-Ok-feed.fed.units.items p.reads in
     let bytes = ap length (sym f.held ∙ p.cut) in
-    omega (arith, found, f.left, bytes, length-append part (drop c.min-end.result (take i.held i.piece)), length-append c.args.self.now.held f.read, ap waiting_len f.reading, ap length c.into_iter.ensures.rest)
+    omega (arith, found, f.left, bytes, length-append part (drop (i.from + c.part_len-len.result) (take i.held i.piece)), length-append c.args.self.now.held f.read, ap waiting_len f.reading, ap length c.into_iter.ensures.rest)
 
 pub returns-in-Ok-feed-clause-once : goal.returns-in-Ok-feed-clause-once
 returns-in-Ok-feed-clause-once g c = (fetched g (goal.at.returns-in-Ok-feed-clause-once g c).After-feed).once
@@ -210,7 +201,7 @@ returns-in-Ok-feed-clause-takes g c =
     let f = fetched g at.After-feed in
     let p = fed_part g at.In-Ok-feed in
     let i = c.if-self-2.self-inside in
-    let part = drop i.from (take c.min-end.result i.piece) in
+    let part = take c.part_len-len.result (drop i.from (take i.held i.piece)) in
     record {
       pieces = f.pieces;
       taken = part;

@@ -1,0 +1,10 @@
+use Rattle.std.proofs.Common.{◌-◌, ◌*◌, ◌≤◌, length}
+use Rattle.rtsp_message.specs.Stream.{ReadsSoFar}
+use Rattle.rtsp_message.proofs.frames.parts_of.Given as goal
+
+-- the units so far, each of four bytes or more
+abbrev pub invariant-loop-from : goal.invariant-loop-from
+invariant-loop-from l = ReadsSoFar l.fn.block l.units.items l.from × (4 * length l.units.items ≤ l.from)
+
+abbrev pub decreases-loop-from : goal.decreases-loop-from
+decreases-loop-from l = length l.fn.block - l.from
