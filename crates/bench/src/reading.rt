@@ -46,7 +46,7 @@ fn time(
     seed: u64,
 ) -> anyhow::Result<()> {
     let bytes = stream(alloc, frames, size, seed)?;
-    let mut intake = Intake::new(alloc, ListSource::new(bytes, read, None));
+    let mut intake = Intake::new(alloc, ListSource::new(bytes, read.max(1), None));
     let start = Instant::now(rt)?;
     let tally = read_all(&mut intake);
     let nanos = start.elapsed(rt)?.as_nanos();
