@@ -36,15 +36,14 @@ fn look_at(rt: &impl Abort, frames: &[Frame], want: &[(u8, &[u8])]) {
 
 /// How many of these frames are parts of a block, and how many have a list of their own.
 fn kinds(frames: Vec<Frame>) -> (usize, usize) {
-    let mut parts = 0;
-    let mut lists = 0;
+    let all = frames.len();
+    let mut lists: usize = 0;
     for frame in frames {
-        match frame.payload.into_vec() {
-            Ok(_) => lists += 1,
-            Err(_) => parts += 1,
+        if frame.payload.into_vec().is_ok() {
+            lists = lists.saturating_add(1);
         }
     }
-    (parts, lists)
+    (all.saturating_sub(lists), lists)
 }
 
 /// A piece that is whole frames is cut; one that holds anything else, or comes while bytes wait, is copied.
@@ -169,16 +168,15 @@ fn long_frames(alloc: Global) -> Result<Vec<u8>, AllocError> {
 fn parts_are_whole_frames_again_after_a_frame_in_two_reads(rt: HostRuntime) -> Result<(), Fail> {
     let source = ListSource::new(long_frames(rt.alloc())?, 50_000, None);
     let mut intake = Intake::new(rt.alloc(), source);
-    let mut frames = 0;
-    let mut parts = 0;
-    while let Next::Unit(_) = intake.next() {
-        frames += 1;
+    let mut parts: usize = 0;
+    for _ in 0..MANY {
+        assert!(rt; matches!(intake.next(), Next::Unit(Unit::Frame(_))));
         // What is left is a multiple of a frame's bytes, and the units queued.
         if intake.left() % (LONG as u64 + 4) == 0 {
-            parts += 1;
+            parts = parts.saturating_add(1);
         }
     }
-    assert_eq!(rt; frames, MANY);
+    assert!(rt; matches!(intake.next(), Next::End));
     // Parts of frames in each of five reads: the end of the last read's frame, 13 frames as often as more than 16,384 bytes are
     // at hand, and the frames of the rest. 13, 13, 13, 2; 1, 13, 13, 13, 2; 1, 13, 13, 13, 1; 1, 13, 13, 13, 2; 1, 13, 13, 7.
     assert_eq!(rt; parts, 4 + 5 + 5 + 5 + 4);
