@@ -1,9 +1,12 @@
 -- A begin of the running ring keeps the block's rule: by the core's law.
-use Rattle.std.proofs.Common.{◌≡◌, ◌≢◌, ℕ, suc, ◌+◌, ◌-◌, ◌*◌, ◌%◌, ◌≤◌, ◌<◌, ◌^◌, Bool, false, true, List, [], ◌∷◌, map, length, get_or, set, sym, refl, ap, ◌∙◌, subst, arith, eqb, eq-eqb, ne_eqb, get_or-set_same, get_or-set_other, inl, inr, if◌then◌else◌}
+use Rattle.std.proofs.Common.{◌≡◌, ◌≢◌, ℕ, zero, suc, ◌+◌, ◌-◌, ◌*◌, ◌%◌, ◌≤◌, ◌<◌, ◌^◌, Bool, false, true, List, [], ◌∷◌, map, length, get_or, set, sym, refl, ap, ◌∙◌, subst, arith, eqb, eq-eqb, ne_eqb, get_or-set_same, get_or-set_other, inl, inr, if◌then◌else◌}
 use mathlib.Core.Logic.{inl, inr}
 use mathlib.Core.List.{IsPrefix}
 use base.Growing.{prefix_refl}
 use prog.Atomic.{either}
+use lib.ListN.{get_elem?}
+use Rattle.std.specs.Prelude.{Some, slice_get}
+use Rattle.std.proofs.lemmas.Bool.Decides.{eqb_tells}
 use Rattle.ring_steps.specs.declared.views.Publisher.{Publisher}
 use Rattle.ring_steps.specs.declared.views.PublisherPhase.TheVariants as publishing
 use Rattle.ring_steps.specs.declared.views.Seat.{Seat}
@@ -20,14 +23,14 @@ use Rattle.ring_steps.specs.Step.{PublisherActs, is_known, next_place, begun, re
 use Rattle.ring_steps.proofs.Places.{at_set, place_within}
 use Rattle.ring_steps.proofs.Begins.{begin_keeps, refused_step}
 use Rattle.ring_steps.proofs.Bits.{known_bits, begin_bits, pins_fit, words_apart}
-use Rattle.packet_ring.specs.Table.{State, Access, exclusive, readable, Right, no_right, Act, keeps, begins, accesses_after, stepped, Goes, Allows}
+use Rattle.packet_ring.specs.Table.{State, Access, exclusive, readable, Right, no_right, Act, keeps, begins, accesses_after, stepped, Goes, Allows, AllowsBeside}
 use Rattle.packet_ring.specs.Rule.{Limits, IsSized, IsPending, View, Knows, Holds, Fits, AccessFits, HasCells, hold_of, holders}
 use Rattle.packet_ring.specs.Operation.{Operation}
 use Rattle.ring_steps.specs.declared.calls.PublisherCall.TheVariants.{Publish}
 use Rattle.ring_steps.specs.declared.views.PublisherPhase.{PublisherPhase}
 use Rattle.ring_steps.specs.RingSteps.{by_publisher}
 use Rattle.packet_ring.specs.Steps.{Begins}
-use Rattle.packet_ring.proofs.Going.{OneStep, goes_by, known_to}
+use Rattle.packet_ring.proofs.Going.{OneStep, goes_by, known_to, seat_there}
 use Rattle.packet_ring.proofs.Heads.{map_set, set_same}
 use Rattle.packet_ring.proofs.Pinned.{word_at, access_at, readable_there, elem_within}
 
@@ -160,3 +163,46 @@ begin_allows {L = L} units keep size log p q seen within open_ fit t held long r
     let number : word_bits (known_word s) ≡ 131072 * (length s.log - s.keep) = omega arith in
     known_to units keep size log p (λ k l r. r.phase ≡ publishing.Between → r.closed ≡ false → At (131072 * (length l - k)) k l r) (me log p) refl s t fits long at
     (λ between unclosed. subst (λ (n : ℕ). At n s.keep s.log s.publisher) number (begin_goes s t fits q seen pre between unclosed fit (is_known s (word s (next_place s))) refl)) within open_
+
+-- ---- a begin while the ring's one seat is at hand
+-- a seat between two calls has no pin
+no_pin : (φ : SeatPhase) (at j : ℕ) → φ ≡ seating.Between → pin_of φ at j ≡ 0
+no_pin seating.Out at j e = refl
+no_pin seating.Between at j e = refl
+no_pin seating.Found at j e = refl
+no_pin seating.Holding at j e = absurd (cc)
+no_pin seating.Reading at j e = absurd (cc)
+no_pin seating.Failed at j e = absurd (cc)
+no_pin seating.Missed at j e = refl
+
+-- neither has a ring whose one seat is between two calls
+unpinned : (keep : ℕ) (xs : List Seat) (i j : ℕ) (x : Seat) → length xs ≡ 1 → slice_get xs i ≡ Some x → x.phase ≡ seating.Between → pins_of keep xs j ≡ 0
+unpinned keep [] i j x one at between = absurd (omega arith)
+unpinned keep (y ∷ []) zero j x one at between = let same : y ≡ x = (let e = at in cc) in let none = no_pin y.phase (cursor y % (keep + 1)) j (ap (λ (z : Seat). z.phase) same ∙ between) in omega arith
+unpinned keep (y ∷ []) (suc i) j x one at between = absurd (cc)
+unpinned keep (y ∷ z ∷ zs) i j x one at between = absurd (omega arith)
+
+-- then the begin found the word that the publisher knows: a word that refused it has a pin
+known_found : {L : Limits} (s : Ring.State) (t : State View (List ℕ)) → Fits L s t → (i : ℕ) (x : Seat) → L.0 ≡ 1 → slice_get s.seats i ≡ Some x → x.phase ≡ seating.Between
+    → (unit : ℕ) (log : List (List ℕ)) (p : Publisher) (q : List ℕ) (known found : ℕ) (me next : Knows) → found ≡ word_bits (word s (next_place s)) → Begins L.0 unit log p q known me found next → found ≡ known
+known_found s t fits i x one at between unit log p q word₀ n me₀ next is saw = elim (eqb_tells n word₀) [
+  | inl e ↦ e.1
+  | inr e ↦
+      let j = next_place s in let w : Word = word s j in let r = saw.refused e.1 in
+      let free : w.pins ≡ 0 = fits.sound.slots.pins j (place_within s.keep (length s.log)) ∙ unpinned s.keep s.seats i j x (fits.few ∙ one) at between in
+      let same : w ≡ saw.word = (words_apart w saw.word (omega arith) (let a = r.3 in let b = r.4 in omega arith)).0 (sym is ∙ saw.bits) in
+      let some = r.2 in let none : saw.word.pins ≡ 0 = sym (ap (λ (u : Word). u.pins) same) ∙ free in absurd (omega arith)
+]
+
+pub begin_beside_allows : {L : Limits} (units keep : ℕ) → keep + 2 ≡ units → (log : List (List ℕ)) (p : Publisher) (q : List ℕ) (seen : List (List ℕ)) → p.phase ≡ publishing.Between → p.closed ≡ false → IsSized L.1 q
+    → (i : ℕ) (x : Seat) → L.0 ≡ 1 → x.phase ≡ seating.Between
+    → let me : Knows = record { view = inl (log, p); right = no_right; seen = seen } in let unit = suc (length log % (keep + 1)) in let known = 131072 * (length log - keep) in
+    AllowsBeside (Holds L) (Operation L) units 0 me (suc i) (inr x) unit (λ m. either (eqb m known) (known + 2 ^ 16) m) (λ found next. Begins L.0 unit log p q known me found next × (found ≡ known))
+begin_beside_allows {L = L} units keep size log p q seen within open_ fit i x one between t held long rooms at there pre small =
+    let s : Ring.State = held.0 in let fits : Fits L s t = held.1 in let me : Knows = record { view = inl (log, p); right = no_right; seen = seen } in
+    let unit = suc (length log % (keep + 1)) in let known = 131072 * (length log - keep) in
+    let goes = begin_allows units keep size log p q seen within open_ fit t held long rooms at pre small in
+    let seat = seat_there s.seats i x (ap (λ (vs : List View). get_elem? vs (suc i)) (sym fits.views) ∙ there) in
+    let is : get_or t.words unit 0 ≡ word_bits (word s (next_place s)) = known_to units keep size log p (λ k l r. get_or t.words (suc (length l % (k + 1))) 0 ≡ word_bits (word s (next_place s))) me refl s t fits long at
+    (ap (λ (ws : List ℕ). get_or ws (suc (next_place s)) 0) fits.words ∙ word_at s.slots (next_place s)) in
+    (goes.0, goes.1, goes.2, goes.3, goes.4, goes.5, goes.6, goes.7, goes.8, (goes.9, known_found s t fits i x one seat between unit log p q known (get_or t.words unit 0) me _ is goes.9))

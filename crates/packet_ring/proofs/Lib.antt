@@ -8,6 +8,7 @@ pub mod Bytes
 pub mod Seen
 pub mod Units
 pub mod Moves
+pub mod Comparing
 pub mod Dealing
 pub mod Shown
 pub mod Sent
@@ -28,3 +29,5 @@ pub mod Seeing
 pub mod FirstPasses
 pub mod Holding
 pub mod Lines
+pub mod Published
+pub mod Received

@@ -22,8 +22,9 @@ use Rattle.core.specs.Sync.RawAtomic.{asks, always}
 use Rattle.core.proofs.raw_atomic.Asked.{borrowed, Lies, Again}
 use Rattle.atomic_table.specs.Seated.{word, fact, seen, roster}
 use Rattle.atomic_table.proofs.Roster.{Moved, moves}
-use Rattle.packet_ring.specs.Table.{State, Me, Act, right_after, stepped, Allows}
+use Rattle.packet_ring.specs.Table.{State, Me, Act, right_after, stepped, Goes, Allows, AllowsBeside}
 use Rattle.packet_ring.specs.Lent.{BlockId, block_life, unit_at, stride, row, accesses_row, carried, Placed, mine, Keeps, standing, inner, common}
+use Rattle.packet_ring.proofs.Comparing.{view_there}
 use Rattle.packet_ring.proofs.Units.{Reset, row_at, Acted, acts}
 
 module _ {M : Type 1} {𝓤 : Ura M} (𝓛 : Logic 𝓤) {V E : Type 0} (cv : Coded V) (ce : Coded E) (holds : State V E → Type 0) (p : Ptr) (z : BlockId) where
@@ -110,19 +111,42 @@ module _ {M : Type 1} {𝓤 : Ura M} (𝓛 : Logic 𝓤) {V E : Type 0} (cv : Co
       abbrev pub after : ℕ → Fml
       after n = fex (Me V E) (next n)
 
-      pub steps : (does : ℕ → State V E → State V E → Type 0) → i < z.units → Allows holds does z.units id me i f then → ⟦ C ⟧ ∗ A.lft κ q ∗ ⟦ sat id me ⟧ ⊢ asks 𝓛 (block_ptr z.block (unit_at z i)) f always (λ n. fsep (flft κ q) (after n))
-      steps does inside law = opened i f after (sat id me) inside (λ s so small. let Z : Pr = ex 𝓤 (Next i f after s) in let γ : ℕ = z.views_name in let n : ℕ = get_or s.words i 0 in
+      -- a step of the token on the word, where it can be made
+      stepped_by : (does : ℕ → State V E → State V E → Type 0) (s : State V E) → Keeps cv.code ce holds p z s → (get_elem? s.views id ≡ maybe.some me.view → IsPrefix me.seen s.log → Goes holds does s id me i f then) → ⟦ Rest s ⟧ ∗ ⟦ sat id me ⟧ ⊢ upd 𝓤 (ex 𝓤 (Next i f after s))
+      stepped_by does s so law = let Z : Pr = ex 𝓤 (Next i f after s) in let γ : ℕ = z.views_name in let n : ℕ = get_or s.words i 0 in
           qed 𝓛 ((‵ (accesses_row z 0 s.accesses) ⊛ ‵ (roster cv.code γ 0 s.views) ⊛ ‵ (now s.log)) ∷ ‵ (half id me.view) ∷ ‵ (past me.seen) ∷ ‵ (carried z me.right) ∷ []) ∵ split3 ! $ move ! (2 ∷ 4 ∷ []) $
           use2 𝓛 (given (IsPrefix me.seen s.log) (‵ (now s.log) ⊛ ‵ (past me.seen))) (latest_bounds O 𝓛 full_share z.log_name s.log me.seen) $ learn ! (λ pre. split ! $ move ! (3 ∷ 4 ∷ []) $
           use2 𝓛 (given (get_elem? s.views id ≡ maybe.some me.view) (raw (all 𝓤 (Moved 𝓛 cv γ 0 s.views id id)))) (moves 𝓛 cv γ s.views 0 id id me.view (omega arith)) $ learn ! (λ at.
-          let r = law s so.0 so.1 so.2 at pre small in let u : V = r.0 in let a : Act = r.1 in let log' : List E = r.2 in let seen' : List E = r.3 in
+          let r = law at pre in let u : V = r.0 in let a : Act = r.1 in let log' : List E = r.2 in let seen' : List E = r.3 in
           let t : State V E = stepped s i (f n) id me.right u a log' in let me' : Me V E = record { view = u; right = right_after me.right a; seen = seen' } in
           use1 𝓛 (raw (Moved 𝓛 cv γ 0 s.views id id u)) (all_e 𝓤 (Moved 𝓛 cv γ 0 s.views id id) u) $ settle 𝓛 Z (‵ (roster cv.code γ 0 t.views) ⊛ ‵ (half id u)) $ split ! $ move ! (2 ∷ []) $
           use1 𝓛 (raw (upd 𝓤 ⟦ now log' ⟧)) (latest_grows O 𝓛 z.log_name s.log log' r.5) $ settle 𝓛 Z (‵ (now log')) $
           use1 𝓛 (‵ (now log') ⊛ ‵ (past seen')) (latest_shows O 𝓛 full_share z.log_name log' seen' r.6) $ split ! $ move ! (5 ∷ 6 ∷ []) $
           use2 𝓛 (raw (upd 𝓤 (Acted 𝓛 z s.accesses me.right a))) (acts 𝓛 z s.accesses me.right a so.2 r.4) $ settle 𝓛 Z (given (length t.accesses ≡ z.units) (‵ (accesses_row z 0 t.accesses) ⊛ ‵ (carried z me'.right))) $ learn ! (λ long. split ! $
           suffices ! _ (upd_i 𝓤 Z) $ show ! (Next i f after s) t $ check ! (refl, r.7, long) $ move ! (0 ∷ 4 ∷ 2 ∷ []) $ fjoin3 ! $ frame ! $ show ! (λ (x : Me V E). ⟦ next n x ⟧) me' $
-          nothing ! $ fpack ! (then n me') (λ _. ftrue) r.9 $ move ! (0 ∷ 3 ∷ 2 ∷ 1 ∷ []) $ keep ! (0 ∷ 1 ∷ 2 ∷ 3 ∷ []) $ done !))))
+          nothing ! $ fpack ! (then n me') (λ _. ftrue) r.9 $ move ! (0 ∷ 3 ∷ 2 ∷ 1 ∷ []) $ keep ! (0 ∷ 1 ∷ 2 ∷ 3 ∷ []) $ done !)))
+
+      pub steps : (does : ℕ → State V E → State V E → Type 0) → i < z.units → Allows holds does z.units id me i f then → ⟦ C ⟧ ∗ A.lft κ q ∗ ⟦ sat id me ⟧ ⊢ asks 𝓛 (block_ptr z.block (unit_at z i)) f always (λ n. fsep (flft κ q) (after n))
+      steps does inside law = opened i f after (sat id me) inside (λ s so small. stepped_by does s so (λ at pre. law s so.0 so.1 so.2 at pre small))
+
+      -- a step beside another token, which stays as it is
+      module _ (other : ℕ) (its : Me V E) where
+        abbrev pub both : ℕ → Fml
+        both n = fsep (sat other its) (after n)
+
+        beside : (does : ℕ → State V E → State V E → Type 0) (s : State V E) → Keeps cv.code ce holds p z s → (get_elem? s.views id ≡ maybe.some me.view → get_elem? s.views other ≡ maybe.some its.view → IsPrefix me.seen s.log → Goes holds does s id me i f then)
+            → ⟦ Rest s ⟧ ∗ ⟦ fsep (sat id me) (sat other its) ⟧ ⊢ upd 𝓤 (ex 𝓤 (Next i f both s))
+        beside does s so law = let Z : Pr = ex 𝓤 (Next i f both s) in let n : ℕ = get_or s.words i 0 in let R : Fml = roster cv.code z.views_name 0 s.views in
+            qed 𝓛 ((‵ (accesses_row z 0 s.accesses) ⊛ ‵ R ⊛ ‵ (now s.log)) ∷ ‵ (sat id me) ∷ ‵ (half other its.view) ∷ ‵ (past its.seen) ∷ ‵ (carried z its.right) ∷ []) ∵ split3 ! $ move ! (1 ∷ 4 ∷ []) $
+            use2 𝓛 (given (get_elem? s.views other ≡ maybe.some its.view) (‵ R ⊛ ‵ (half other its.view))) (view_there 𝓛 cv z.views_name s.views other its.view) $ learn ! (λ there. split ! $ move ! (2 ∷ 0 ∷ 3 ∷ []) $ fjoin3 ! $ move ! (0 ∷ 2 ∷ []) $
+            use2 𝓛 (raw (upd 𝓤 (ex 𝓤 (Next i f after s)))) (stepped_by does s so (λ at pre. law at there pre)) $
+            settle 𝓛 Z (some (λ (t : State V E). given ((t.words ≡ set s.words i (f n)) × holds t × (length t.accesses ≡ z.units)) (‵ (Rest t) ⊛ ‵ (after n)))) $ pick ! (λ t. learn ! (λ good. split ! $ suffices ! _ (upd_i 𝓤 Z) $
+            show ! (Next i f both s) t $ check ! good $ frame ! $ move ! (1 ∷ 2 ∷ 3 ∷ 0 ∷ []) $ fjoin3 ! $ done !)))
+
+        pub steps_beside : (does : ℕ → State V E → State V E → Type 0) (r : Ptr) → r ≡ block_ptr z.block (unit_at z i) → i < z.units → AllowsBeside holds does z.units id me other its.view i f then
+            → ⟦ C ⟧ ∗ A.lft κ q ∗ ⟦ fsep (sat id me) (sat other its) ⟧ ⊢ asks 𝓛 r f always (λ n. fsep (flft κ q) (both n))
+        steps_beside does r is inside law = subst (λ (x : Ptr). ⟦ C ⟧ ∗ A.lft κ q ∗ ⟦ fsep (sat id me) (sat other its) ⟧ ⊢ asks 𝓛 x f always (λ n. fsep (flft κ q) (both n))) (sym is)
+            (opened i f both (fsep (sat id me) (sat other its)) inside (λ s so small. beside does s so (λ at there pre. law s so.0 so.1 so.2 at there pre small)))
 
       -- the same at the pointer by which the code reaches the word
       pub steps_at : (does : ℕ → State V E → State V E → Type 0) (r : Ptr) → r ≡ block_ptr z.block (unit_at z i) → i < z.units → Allows holds does z.units id me i f then → ⟦ C ⟧ ∗ A.lft κ q ∗ ⟦ sat id me ⟧ ⊢ asks 𝓛 r f always (λ n. fsep (flft κ q) (after n))

@@ -94,3 +94,10 @@ RingMayRefuse (refusal.Pinned pins) = 1 ≤ pins
 RingMayRefuse refusal.TooLong = Unit {0}
 RingMayRefuse refusal.Worn = Unit {0}
 RingMayRefuse refusal.OutOfMemory = ⊥
+
+-- those that it gives while its one seat is at hand and reads nothing
+abbrev pub NeverPinned : refusals.Refused → Type 0
+NeverPinned (refusal.Pinned pins) = ⊥
+NeverPinned refusal.TooLong = Unit {0}
+NeverPinned refusal.Worn = Unit {0}
+NeverPinned refusal.OutOfMemory = ⊥

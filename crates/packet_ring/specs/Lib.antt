@@ -6,3 +6,4 @@ pub mod Steps
 pub mod Tokens
 pub mod Views
 pub mod Calls
+pub mod Players

@@ -88,6 +88,18 @@ module _ {V E : Type 0} where
   Allows holds does units id me i f then = (s : State V E) → holds s → length s.words ≡ units → length s.accesses ≡ units → get_elem? s.views id ≡ some me.view → IsPrefix me.seen s.log → slice_index s.words i < 18446744073709551616
       → Goes holds does s id me i f then
 
+  -- So it is whatever the block is in which another token has this view
+  abbrev pub AllowsBeside : (State V E → Type 0) → (ℕ → State V E → State V E → Type 0) → (units : ℕ) → (id : ℕ) → Me V E → (other : ℕ) → (view : V) → (word : ℕ) → (ℕ → ℕ) → (ℕ → Me V E → Type 0) → Type 0
+  AllowsBeside holds does units id me other view i f then = (s : State V E) → holds s → length s.words ≡ units → length s.accesses ≡ units → get_elem? s.views id ≡ some me.view → get_elem? s.views other ≡ some view → IsPrefix me.seen s.log
+      → slice_index s.words i < 18446744073709551616 → Goes holds does s id me i f then
+
+-- a block that keeps the rule, in which the token with this number has this view, and whose log begins with this
+pub record IsSighted {V E : Type 0} (holds : State V E → Type 0) (number : ℕ) (view : V) (told : List E) : Type 0 where
+  pub block : State V E
+  pub kept : holds block
+  pub at : get_elem? block.views number ≡ some view
+  pub begins : IsPrefix told block.log
+
 -- a unit's word and cells, side by side, one unit after another
 abbrev pub flat : List (ℕ × List ℕ) → List ℕ
 flat [] = []

@@ -73,6 +73,12 @@ receipted z log closed = record { ring = z; log = log; closed = closed }
 abbrev pub number_of : Receipted → ℕ
 number_of r = if r.closed then length r.log else length r.log - 1
 
+-- what was known of a ring's log: its first packets, and whether it was closed after them
+pub record Known : Type 0 where
+  pub ring : RingId
+  pub log : List Packet
+  pub closed : Bool
+
 -- a pass: its ring, the longest log that it has seen or was told of, whether that is closed, how many loads
 -- its seat made and how many pins of it failed, and the head that the last load found (before any, that of an
 -- empty open log)
@@ -97,6 +103,10 @@ pub record Subscribing : Type 0 where
 -- the receipt of what was told: so many packets
 abbrev pub receipt_of : RingId → (log : List (List ℕ)) → (count : ℕ) → (closed : Bool) → Receipted
 receipt_of z log count closed = receipted z (packets_from (take count log)) closed
+
+-- what was told of a log: its first `count` packets, and whether it ends there
+abbrev pub known_of : RingId → (log : List (List ℕ)) → (count : ℕ) → Known
+known_of z log count = record { ring = z; log = packets_from (take count log); closed = ends_at log count }
 
 -- the first `known` packets that a token has seen
 abbrev pub seen_by : Token → (known : ℕ) → List Packet

@@ -2,7 +2,7 @@
 ghost use Rattle.std.specs.Prelude.{◌≡◌, ◌+◌, ◌-◌, ◌*◌, ◌%◌, ◌^◌, ◌==◌, ◌<◌, ◌≤◌, ℕ, List, [], ◌∷◌, ◌++◌, Some, None, map, length, take, drop, replicate, slice_index};
 ghost use base.Stored.{coded_list};
 ghost use prog.Atomic.{either};
-ghost use Rattle.packet_ring.specs.Table.{no_right, flat, Allows, cells_of, grown, renewed, settled, written};
+ghost use Rattle.packet_ring.specs.Table.{no_right, flat, Allows, AllowsBeside, cells_of, grown, renewed, settled, written};
 ghost use Rattle.packet_ring.specs.Lent.{BlockId, block_id_coded, block_owns, block_shares, bytes_from, carried_shows, mine, waiting};
 ghost use Rattle.packet_ring.specs.Rule.{Knows, View, knows_coded, view_coded, packet_coded, Holds, fresh_units, fresh_views};
 ghost use Rattle.packet_ring.specs.Operation.{Operation};
@@ -156,6 +156,24 @@ impl Shared {
     ) -> u64
         requires { (token.old.id ≡ self.now.id) × (unit < self.now.id.units) × (at ≡ unit * (self.now.id.width + 1)) × Allows (Holds self.now.id.limits) (Operation self.now.id.limits) self.now.id.units token.old.number token.old.me unit (λ n. either (n == old) new n) (M.then (step self.now.id.limits self.now.id.units unit old new) token.old.me) }
         ensures { (token.new.id ≡ token.old.id) × (token.new.number ≡ token.old.number) × M.then (step self.now.id.limits self.now.id.units unit old new) token.old.me result token.new.me }
+    {
+        let _ = unit;
+        unsafe { exchange::<Brand>(self.base.add(at), old, new) }
+    }
+
+    /// The same exchange while another token is at hand, which stays as it is: what the block says of that token's view
+    /// holds when the exchange is made.
+    pub(crate) fn compare_exchange_beside<M: Play>(
+        &self,
+        token: &mut Token,
+        other: &mut Token,
+        unit: usize,
+        at: usize,
+        old: u64,
+        new: u64,
+    ) -> u64
+        requires { (token.old.id ≡ self.now.id) × (other.old.id ≡ self.now.id) × (unit < self.now.id.units) × (at ≡ unit * (self.now.id.width + 1)) × AllowsBeside (Holds self.now.id.limits) (Operation self.now.id.limits) self.now.id.units token.old.number token.old.me other.old.number other.old.me.view unit (λ n. either (n == old) new n) (M.then (step self.now.id.limits self.now.id.units unit old new) token.old.me) }
+        ensures { (other.new ≡ other.old) × (token.new.id ≡ token.old.id) × (token.new.number ≡ token.old.number) × M.then (step self.now.id.limits self.now.id.units unit old new) token.old.me result token.new.me }
     {
         let _ = unit;
         unsafe { exchange::<Brand>(self.base.add(at), old, new) }

@@ -4,6 +4,8 @@
 mod allocated;
 mod block;
 mod head;
+mod known_logs;
+pub mod laws;
 mod opening;
 mod packets;
 mod passes;
@@ -16,10 +18,13 @@ mod sending;
 mod slots;
 mod subscribers;
 mod taking;
+mod unpinned;
 mod words;
 
+pub use known_logs::KnownLog;
 pub use opening::new;
 pub use passes::Pass;
 pub use publishers::Publisher;
 pub use receipts::Receipt;
 pub use subscribers::Subscriber;
+pub use unpinned::Unpinned;

@@ -9,6 +9,7 @@ ghost use Rattle.packet_ring.specs.Views.{IsSeated, Passing, keep_of, passing_of
 use crate::allocated::Block;
 use crate::block::Token;
 use crate::head::attach;
+use crate::known_logs::KnownLog;
 use crate::receipts::Receipt;
 use crate::subscribers::Subscriber;
 use cursor::Account;
@@ -81,6 +82,17 @@ impl Pass {
         self.token.learn(&receipt.told);
         if self.known < receipt.length {
             self.known = receipt.length;
+        }
+    }
+
+    /// What this seat has seen of the log or was told of, for `Publisher::has_published`. Makes no load and takes no memory.
+    pub fn known_log(&mut self) -> KnownLog
+        ensures same { self.new ≡ self.old }
+        ensures known { result ≡ record { ring = self.old.ring; log = self.old.seen; closed = self.old.closed } }
+    {
+        KnownLog {
+            told: self.token.tell(),
+            length: self.known,
         }
     }
 

@@ -1,16 +1,19 @@
 //! The publisher of a ring.
 ghost use Rattle.std.specs.Prelude.{◌≡◌, ◌↔◌, ◌+◌, ◌*◌, ◌^◌, ◌<◌, ◌≤◌, true, false, length, IfOk, IfErr, IsErrOf};
+ghost use mathlib.Core.List.{IsPrefix};
 ghost use Rattle.std.specs.Arc.{arc_value};
 ghost use Rattle.cursor.specs.declared.refusals.Refused.TheVariants.{TooLong, Worn};
 ghost use Rattle.cursor.specs.Log.{packet_of};
-ghost use Rattle.packet_ring.specs.Calls.{AppendsTo, Refuses};
-ghost use Rattle.packet_ring.specs.Views.{IsPublishing, Publishing, packet_bytes_of, publishing_of, receipted};
+ghost use Rattle.packet_ring.specs.Calls.{AppendsTo, NeverPinned, Refuses};
+ghost use Rattle.packet_ring.specs.Views.{IsPublishing, Publishing, packet_bytes_of, publishing_of, receipted, seats_of};
 
 use crate::allocated::Block;
 use crate::block::Token;
 use crate::head::close;
-use crate::publishing::publish;
+use crate::known_logs::KnownLog;
+use crate::publishing::{publish, publish_beside};
 use crate::receipts::Receipt;
+use crate::subscribers::Subscriber;
 use cursor::{Feed, Refused};
 use std::alloc::Global;
 use std::marker::Model;
@@ -75,6 +78,62 @@ impl Publisher {
             }
             Err(pins) => Err(Refused::Pinned { pins }),
         }
+    }
+
+    /// Publishes a packet as `publish` does while the ring's one seat is at hand. The seat reads no packet meanwhile, so none
+    /// is refused as `Pinned`. The seat stays as it is.
+    pub fn publish_unpinned(
+        &mut self,
+        seat: &mut Subscriber,
+        tag: u8,
+        bytes: &[u8],
+    ) -> Result<Receipt, Refused>
+        requires one { seats_of self.old.ring ≡ 1 }
+        requires ring { seat.old.ring ≡ self.old.ring }
+        ensures appended { IfOk result (λ _. AppendsTo self.old (packet_of tag bytes.now) self.new) }
+        ensures receipt { IfOk result (λ r. r ≡ receipted self.new.ring self.new.log false) }
+        ensures refused { IfErr result (λ refused. Refuses self.old (packet_of tag bytes.now) refused self.new) }
+        ensures worn { IsErrOf result Worn ↔ ((length bytes.now ≤ packet_bytes_of self.old.ring) × (length self.old.log ≡ 2 ^ 46)) }
+        ensures too_long { IsErrOf result TooLong ↔ (packet_bytes_of self.old.ring < length bytes.now) }
+        ensures never_pinned { IfErr result NeverPinned }
+        ensures same { seat.new ≡ seat.old }
+    {
+        let block: &Block = &self.ring;
+        if bytes.len() > block.packet_bytes {
+            return Err(Refused::TooLong);
+        }
+        if self.count == MOST_PACKETS {
+            return Err(Refused::Worn);
+        }
+        publish_beside(
+            &block.shared,
+            &mut self.token,
+            &mut seat.token,
+            block.start,
+            block.keep,
+            block.room,
+            self.count,
+            tag,
+            bytes,
+        );
+        self.count += 1;
+        Ok(Receipt {
+            told: self.token.tell(),
+            length: self.count,
+            closed: false,
+        })
+    }
+
+    /// Shows that what a seat of this ring knows of the log was published, and that the log isn't closed. For one who holds
+    /// the publisher and was handed what a seat knows. Makes no atomic operation.
+    pub fn has_published(&mut self, known: &KnownLog)
+        requires ring { known.now.ring ≡ self.old.ring }
+        ensures same { self.new ≡ self.old }
+        ensures published { IsPrefix known.now.log self.old.log }
+        ensures open { known.now.closed ≡ false }
+    {
+        let block: &Block = &self.ring;
+        block.shared.compare(&mut self.token, &known.told);
     }
 
     /// Closes the log, and gives a receipt of it.

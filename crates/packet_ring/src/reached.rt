@@ -4,9 +4,10 @@ ghost use mathlib.Core.List.{IsPrefix};
 ghost use base.Stored.{coded_list};
 ghost use denote.Sharing.{said};
 ghost use Rattle.packet_ring.specs.Lent.{BlockId, block_id_coded, reached};
-ghost use Rattle.packet_ring.specs.Rule.{packet_coded};
+ghost use Rattle.packet_ring.specs.Rule.{Holds, packet_coded};
+ghost use Rattle.packet_ring.specs.Table.{IsSighted};
 
-use crate::block::Token;
+use crate::block::{Shared, Token};
 use std::marker::{Model, PhantomData};
 
 /// That the block's log has reached this, and begins with it from then on. It has no bytes.
@@ -37,6 +38,15 @@ impl Token {
         requires { told.now.id ≡ self.old.id }
         ensures same { (self.new.id ≡ self.old.id) × (self.new.number ≡ self.old.number) × (self.new.me.view ≡ self.old.me.view) × (self.new.me.right ≡ self.old.me.right) }
         ensures more { IsPrefix self.old.me.seen self.new.me.seen × IsPrefix told.now.log self.new.me.seen }
+    {}
+}
+
+impl Shared {
+    /// Compares what was told of the log with what the token's holder knows: both are of one block. Makes no atomic operation.
+    pub(crate) fn compare(&self, token: &mut Token, told: &Reached)
+        requires { (token.old.id ≡ self.now.id) × (told.now.id ≡ self.now.id) }
+        ensures same { token.new ≡ token.old }
+        ensures sighted { IsSighted (Holds self.now.id.limits) token.old.number token.old.me.view told.now.log }
     {}
 }
 

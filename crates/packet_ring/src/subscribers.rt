@@ -11,6 +11,7 @@ ghost use Rattle.packet_ring.specs.Views.{IsSubscribed, Subscribing, packet_byte
 use crate::allocated::Block;
 use crate::block::Token;
 use crate::head::detach;
+use crate::known_logs::KnownLog;
 use crate::passes::Pass;
 use crate::receipts::Receipt;
 use crate::taking::take_with;
@@ -95,6 +96,17 @@ impl Subscriber {
             self.known = other.known;
         } else {
             other.known = self.known;
+        }
+    }
+
+    /// What this seat has seen of the log or was told of, for `Publisher::has_published`. Makes no load and takes no memory.
+    pub fn known_log(&mut self) -> KnownLog
+        ensures same { self.new ≡ self.old }
+        ensures known { result ≡ record { ring = self.old.ring; log = self.old.seen; closed = self.old.closed } }
+    {
+        KnownLog {
+            told: self.token.tell(),
+            length: self.known,
         }
     }
 

@@ -93,7 +93,7 @@ one_of_seven fate.Stranger = refl
 pub total_one : (old : InReport) (outcome : Fate) (new : InReport) → CountsOne old outcome new → total new ≡ total old + 1
 total_one old outcome new one = omega (arith, one.published, one.pinned, one.oversize, one.worn, one.unkept, one.bad_rtp, one.strangers, one_of_seven outcome)
 
-counts_more : (hs : List Handling) (frame : Frame) (outcome : Fate) (old new : InReport) → AreCounted hs old → CountsOne old outcome new → AreCounted (hs ++ handling frame outcome ∷ []) new
+pub counts_more : (hs : List Handling) (frame : Frame) (outcome : Fate) (old new : InReport) → AreCounted hs old → CountsOne old outcome new → AreCounted (hs ++ handling frame outcome ∷ []) new
 counts_more hs frame outcome old new before one = record {
   published = omega (arith, before.published, one.published, count_of-push is_published hs frame outcome);
   pinned = omega (arith, before.pinned, one.pinned, count_of-push is_pinned hs frame outcome);
@@ -116,7 +116,7 @@ none_such pairs room may test never (h ∷ hs) all =
     omega (arith, sum_by-cons one h hs, first, none_such pairs room may test never hs (λ k d below. all (suc k) d (omega arith)))
 
 -- one frame more at the feed
-meet-push : {F : Type 0} (gives : F → Packet → Result ℕ Refusal → F → Type 0) (pairs : List (Option ChannelPair)) (hs : List Handling) (h : Handling) (old now new : F)
+pub meet-push : {F : Type 0} (gives : F → Packet → Result ℕ Refusal → F → Type 0) (pairs : List (Option ChannelPair)) (hs : List Handling) (h : Handling) (old now new : F)
     → MeetInTurn gives pairs hs old now → Meets gives pairs h.frame h.fate now new → MeetInTurn gives pairs (hs ++ h ∷ []) old new
 meet-push gives pairs [] h old now new same one = (new, subst (λ o. Meets gives pairs h.frame h.fate o new) same one, refl)
 meet-push gives pairs (first ∷ hs) h old now new met one = (met.0, met.1, meet-push gives pairs hs h met.0 now new met.2 one)

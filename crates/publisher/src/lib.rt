@@ -11,6 +11,7 @@ mod rtp;
 
 pub use fate::Fate;
 pub use observing::FateObserver;
+pub use offering::publish_frame;
 pub use relaying::{relay_in, relay_in_observed};
 pub use report::{InReport, InStop};
 pub use rtp::{is_rtp, point_of};

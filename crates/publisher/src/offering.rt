@@ -9,9 +9,17 @@ use cursor::{Feed, Refused};
 use interleaved::Frame;
 use transport_header::{Point, TrackChannels};
 
-/// Offers a frame to the feed as a packet of its track, unless its channel is that of no track or it
-/// is a bad RTP packet. If an RTP packet is published, its point becomes the point of its track.
-pub(crate) fn take_in<F: Feed>(
+/// Publishes one frame as a packet of its track, and returns its fate:
+///
+/// - `Stranger`: its channel is that of no track. The feed is unchanged.
+/// - `BadRtp`: it is on an RTP channel and isn't an RTP packet. The feed is unchanged.
+/// - `Published`: it is the feed's next packet, with the tag of its channel. The point of an RTP packet
+///   becomes the point of its track.
+/// - `Oversize`, `Pinned`, `Worn`, `Unkept`: the feed refused it, as `TooLong`, `Pinned`, `Worn` or
+///   `OutOfMemory`. The log is unchanged.
+///
+/// `points` has a place for each track that is set up.
+pub fn publish_frame<F: Feed>(
     frame: &Frame,
     feed: &mut F,
     channels: &TrackChannels,

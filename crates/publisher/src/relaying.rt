@@ -5,7 +5,7 @@ ghost use Rattle.cursor.specs.declared.refusals.Refused.TheVariants.{Pinned, Wor
 ghost use Rattle.publisher.specs.FramesIn.{HasPlaces, RelaysIn, RelaysSeen, StaysOver, handed_out};
 
 use crate::observing::{FateObserver, Unobserved};
-use crate::offering::take_in;
+use crate::offering::publish_frame;
 use crate::report::{InReport, InStop};
 use cursor::Feed;
 use interleaved::Source;
@@ -80,7 +80,7 @@ fn relay_frames<S: Source + Drop, F: Feed, O: FateObserver>(
     loop {
         match intake.next() {
             Next::Unit(Unit::Frame(frame)) => {
-                let fate = take_in(&frame, feed, channels, points);
+                let fate = publish_frame(&frame, feed, channels, points);
                 report.count(fate);
                 observer.observe(fate, frame.payload.len());
             }

@@ -18,11 +18,11 @@ pub loop-frame-preserved : goal.loop-frame-preserved
 loop-frame-preserved g c =
     let before = c.loop-frame.invariant in
     let out = rw c.in-Unit-Frame.field-0-is at c.in-Unit-Frame.ensures.hands_out in
-    let has = subst (λ (room : ℕ). HasFate c.args.channels.now room g.F.Feed.may_refuse c.in-Unit-Frame.frame c.take_in-fate.result) before.bytes c.take_in-fate.ensures.fate in
+    let has = subst (λ (room : ℕ). HasFate c.args.channels.now room g.F.Feed.may_refuse c.in-Unit-Frame.frame c.publish_frame-fate.result) before.bytes c.publish_frame-fate.ensures.fate in
     let one = total_one _ _ _ c.count.ensures in
     record {
-      so_far = one_more_seen _ _ _ _ _ _ _ _ _ _ _ _ _ _ _ _ _ _ _ _ _ _ _ _ _ before.so_far c.loop-frame.auto.points out has c.take_in-fate.ensures.meets c.count.ensures c.take_in-fate.ensures.log c.take_in-fate.ensures.points (rw c.len.ensures at c.observe.ensures);
-      bytes = c.take_in-fate.ensures.same ∙ before.bytes;
+      so_far = one_more_seen _ _ _ _ _ _ _ _ _ _ _ _ _ _ _ _ _ _ _ _ _ _ _ _ _ before.so_far c.loop-frame.auto.points out has c.publish_frame-fate.ensures.meets c.count.ensures c.publish_frame-fate.ensures.log c.publish_frame-fate.ensures.points (rw c.len.ensures at c.observe.ensures);
+      bytes = c.publish_frame-fate.ensures.same ∙ before.bytes;
       left = omega (arith, before.left, c.in-Unit-Frame.ensures.ends, one);
       over = λ answer over.
           let same = c.in-Unit-Frame.ensures.for_good answer (before.over answer over).0 in

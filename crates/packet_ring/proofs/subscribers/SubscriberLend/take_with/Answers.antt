@@ -1,6 +1,5 @@
-use Rattle.std.proofs.Common.{◌≡◌, ℕ, ◌+◌, ◌-◌, ◌^◌, ◌≤◌, refl, sym, ap, ◌∙◌, subst, arith}
+use Rattle.std.proofs.Common.{◌≡◌, ℕ, refl, sym, ap, ◌∙◌, subst, arith}
 use Rattle.cursor.specs.declared.takes.Account.{Account}
-use Rattle.cursor.specs.Visits.{TakesWith}
 use Rattle.packet_ring.specs.declared.allocated.Block.{Block}
 use Rattle.packet_ring.specs.Calls.{TakesNext}
 use Rattle.packet_ring.specs.Views.{IsSubscribed, Subscribing, keep_of, subscribing_of}

@@ -1,7 +1,7 @@
 use Rattle.std.proofs.Common.{ap, ◌∙◌}
 use Rattle.publisher.specs.Rtp.{point_of}
 use Rattle.publisher.proofs.Incoming.{point_moves}
-use Rattle.publisher.proofs.offering.take_in.Goals as goal
+use Rattle.publisher.proofs.offering.publish_frame.Goals as goal
 
 pub returns-then-rtp-2-clause-points : goal.returns-then-rtp-2-clause-points
 returns-then-rtp-2-clause-points g c =
