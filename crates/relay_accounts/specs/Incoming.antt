@@ -26,18 +26,17 @@ pub record DropsFrames {S : Type 0} (incoming : S → Option (List ℕ)) (failed
   pub tells : Tells incoming failed new (answer_of stop)
   pub counted : after ≡ with_strangers before (length frames)
 
--- The frames that came in were offered to the feed of the mount, on these channels, up to this answer. A report has what
--- became of them, and they are counted by it: the sum of the fates grows by the number of frames that came.
-pub record PublishesFrames {S F : Type 0} (incoming : S → Option (List ℕ)) (failed : S → Bool) (gives : F → Packet → Result ℕ Refusal → F → Type 0) (pairs : List (Option ChannelPair)) (room : ℕ) (may : Refusal → Type 0)
+-- The frames that came in were offered to the feed of the mount, on these channels, up to this answer. The log that the feed
+-- tells of grows by those that were published. A report has what became of them, and they are counted by it: the sum of the
+-- fates grows by the number of frames that came.
+pub record PublishesFrames {S F : Type 0} (incoming : S → Option (List ℕ)) (failed : S → Bool) (gives : F → Packet → Result ℕ Refusal → F → Type 0) (told : F → Option (List Packet)) (pairs : List (Option ChannelPair)) (room : ℕ) (may : Refusal → Type 0)
     (old new : IntakeState S) (feed : F) (after : Option F) (before counts : Counts) (stop : InStop) : Type 0 where
   pub left : F
   pub left_is : after ≡ Some left
   pub report : InReport
   pub stop_is : stop ≡ report.stop
   pub counted : counts ≡ with_report before report
-  pub old_log : Option (List Packet)
-  pub new_log : Option (List Packet)
   pub old_points : List (Option Point)
   pub new_points : List (Option Point)
-  pub relays : RelaysIn incoming failed gives pairs room may old new feed left old_log new_log old_points new_points report
+  pub relays : RelaysIn incoming failed gives pairs room may old new feed left (told feed) (told left) old_points new_points report
   pub closes : came_in before + length relays.handlings < 2 ^ 64 → came_in counts ≡ came_in before + length relays.handlings

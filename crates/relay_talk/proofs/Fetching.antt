@@ -1,20 +1,28 @@
 -- The frames that come before a message.
-use Rattle.std.proofs.Common.{◌≡◌, ℕ, Bool, List, [], ◌<◌, ◌∷◌, ◌++◌, Option, None, length, map, refl, sym, ap, subst, arith}
-use Rattle.std.specs.Prelude.{Result}
+use Rattle.std.specs.Prelude.{is_some}
+use Rattle.std.proofs.Common.{◌≡◌, ℕ, Bool, List, [], ◌<◌, ◌∷◌, ◌++◌, Option, None, Some, length, map, refl, sym, ap, subst, ◌∙◌, false, arith}
 use Rattle.interleaved.specs.declared.frame.Frame.{Frame}
 use Rattle.rtsp_message.specs.declared.unit.Unit.{Unit as StreamUnit}
 use Rattle.rtsp_message.specs.declared.unit.Unit.TheVariants as content
 use Rattle.rtsp_message.specs.Intakes.{IntakeState, HandsOut, handed}
 use Rattle.rtsp_message.proofs.HandingOut.{HandsOut-trans}
-use Rattle.transport_header.specs.declared.spec.ChannelPair.{ChannelPair}
 use Rattle.transport_header.specs.declared.point.Point.{Point}
 use Rattle.cursor.specs.declared.packets.Packet.{Packet}
-use Rattle.cursor.specs.declared.refusals.Refused.{Refused as Refusal}
+use Rattle.session_state.specs.declared.session.Session.{Session}
+use Rattle.session_state.specs.declared.session.State.{State}
+use Rattle.session_state.specs.declared.session.State.TheVariants.{Recording}
+use Rattle.session_state.specs.History.{History, Moment}
+use Rattle.session_state.specs.Lookups.{IsSession, has_session}
+use Rattle.packet_ring.specs.Calls.{PublishesNext, RingMayRefuse}
+use Rattle.packet_ring.specs.Views.{Publishing, packet_bytes_of}
 use Rattle.publisher.specs.declared.report.InReport.{InReport}
+use Rattle.publisher.specs.declared.report.InStop.{InStop}
 use Rattle.publisher.specs.Fates.{Handling, total}
 use Rattle.publisher.specs.FramesIn.{RelaysIn, answer_of, frames_of}
 use Rattle.relay_talk.specs.Exchange.{heard_after}
-use Rattle.relay_talk.specs.Publishing.{Fetches, units_of}
+use Rattle.relay_talk.specs.Publishing.{Fetches, IsRecording, units_of}
+use Rattle.relay_talk.specs.Taking.{TakesStretch}
+use Rattle.relay_talk.proofs.Taking.{drops_unfed, drops_unrecorded, takes_each}
 
 -- the frames of these, whatever became of them
 pub frames_of-units : (handlings : List Handling) → frames_of handlings ≡ units_of (map (λ (h : Handling). h.frame) handlings)
@@ -56,13 +64,42 @@ heard_by : (handlings : List Handling) (count : ℕ) (heard then : Option ℕ) �
 heard_by [] count heard then all by = by.1 all
 heard_by (h ∷ handlings) count heard then all by = by.0 (omega (arith, all))
 
--- frames that went through the engine were handed out
-pub fetches_of : {S F : Type 0} (incoming : S → Option (List ℕ)) (failed : S → Bool) (gives : F → Packet → Result ℕ Refusal → F → Type 0) (pairs : List (Option ChannelPair)) (room : ℕ) (may : Refusal → Type 0)
-    (old new : IntakeState S) (old_feed new_feed : F) (old_log new_log : Option (List Packet)) (old_points new_points : List (Option Point)) (report : InReport) (heard then : Option ℕ)
-    → RelaysIn incoming failed gives pairs room may old new old_feed new_feed old_log new_log old_points new_points report → HeardBy (total report) heard then → Fetches incoming failed old new heard then report.stop
-fetches_of incoming failed gives pairs room may old new old_feed new_feed old_log new_log old_points new_points report heard then relays by = record {
-  frames = map (λ (h : Handling). h.frame) relays.handlings;
-  heard_is = heard_by relays.handlings (total report) heard then relays.counts.all by;
-  hands_out = subst (λ (us : List StreamUnit). HandsOut incoming old new (us ++ handed (answer_of report.stop))) (frames_of-units relays.handlings) relays.hands_out;
-  tells = relays.tells;
+-- a session in this state records
+pub records : {history : History} {session : Session} → IsSession 1 1 history session → session.state ≡ Recording → IsRecording 1 history
+records is_session state = record {
+  there = ap (λ (moment : Option Moment). is_some moment) is_session.first;
+  state = is_session.state ∙ ap (λ (s : State). Some s) state;
 }
+
+-- and in another it doesn't
+pub not_records : {history : History} {session : Session} → IsSession 1 1 history session → (session.state ≡ Recording → ⊥) → IsRecording 1 history → ⊥
+not_records is_session other recording = other (let same = recording.state in let is = is_session.state in cc)
+
+-- no session records where there is none
+pub none_records : {history : History} → has_session 1 history ≡ false → IsRecording 1 history → ⊥
+none_records none recording = let there = recording.there in absurd (cc)
+
+-- frames that went through the engine into the feed of a session that records
+pub relayed : {S : Type 0} (incoming : S → Option (List ℕ)) (failed : S → Bool) (history : History) (session : Session) (old new : IntakeState S) (feed left : Publishing)
+    (old_log new_log : Option (List Packet)) (old_points new_points : List (Option Point)) (report : InReport) (heard then : Option ℕ) → IsRecording 1 history → IsSession 1 1 history session
+    → RelaysIn incoming failed PublishesNext session.channels (packet_bytes_of feed.ring) RingMayRefuse old new feed left old_log new_log old_points new_points report → HeardBy (total report) heard then
+    → TakesStretch incoming failed history old new heard then (Some feed) (Some left) report.stop
+relayed incoming failed history session old new feed left old_log new_log old_points new_points report heard then recording is_session relays by = record {
+  fetches = record {
+    frames = map (λ (h : Handling). h.frame) relays.handlings;
+    heard_is = heard_by relays.handlings (total report) heard then relays.counts.all by;
+    hands_out = subst (λ (us : List StreamUnit). HandsOut incoming old new (us ++ handed (answer_of report.stop))) (frames_of-units relays.handlings) relays.hands_out;
+    tells = relays.tells;
+  };
+  takes = takes_each history session (packet_bytes_of feed.ring) recording is_session relays.handlings feed left refl relays.fates relays.feed;
+}
+
+-- frames that were skipped, since no session records
+pub skipped : {S : Type 0} (incoming : S → Option (List ℕ)) (failed : S → Bool) (history : History) (old new : IntakeState S) (feed : Option Publishing) (heard then : Option ℕ) (stop : InStop) → (IsRecording 1 history → ⊥)
+    → Fetches incoming failed old new heard then stop → TakesStretch incoming failed history old new heard then feed feed stop
+skipped incoming failed history old new feed heard then stop idle fetches = record { fetches = fetches; takes = drops_unrecorded history fetches.frames feed idle }
+
+-- frames that were skipped without a feed
+pub skipped_unfed : {S : Type 0} (incoming : S → Option (List ℕ)) (failed : S → Bool) (history : History) (old new : IntakeState S) (feed : Option Publishing) (heard then : Option ℕ) (stop : InStop) → feed ≡ None
+    → Fetches incoming failed old new heard then stop → TakesStretch incoming failed history old new heard then feed feed stop
+skipped_unfed incoming failed history old new feed heard then stop none fetches = record { fetches = fetches; takes = drops_unfed history fetches.frames feed none }

@@ -1,4 +1,6 @@
 pub mod Exchanges
 pub mod Announcing
 pub mod Fetching
+pub mod Taking
+pub mod Stretches
 pub mod Talks

@@ -105,7 +105,3 @@ Draws word_gives moment_gives old given new = word_gives old.0 given.word new.0 
 abbrev pub AreDrawn : {D : Type 0} → (gives : D → Given → D → Type 0) → D → List Given → D → Type 0
 AreDrawn gives old [] new = new ≡ old
 AreDrawn {D = D} gives old (one ∷ given) new = (between : D) × gives old one between × AreDrawn gives between given new
-
--- a message is met with what was drawn for it
-abbrev pub MeetsWith : {D : Type 0} → (gives : D → Given → D → Type 0) → (old new : D) → (before : Standing) → Request → (after : Standing) → List ℕ → Type 0
-MeetsWith gives old new before request after text = (given : Given) × gives old given new × IsMet before request given after text

@@ -2,3 +2,4 @@ pub mod SessionWords
 pub mod Exchange
 pub mod Publishing
 pub mod Talk
+pub mod Taking

@@ -20,7 +20,7 @@ use Rattle.packet_ring.specs.Views.{Publishing, keep_of, packet_bytes_of, seats_
 use Rattle.publisher.specs.declared.report.InReport.{InReport}
 use Rattle.publisher.specs.declared.report.InStop.{InStop}
 use Rattle.publisher.specs.FramesIn.{RelaysIn, answer_of}
-use Rattle.relay_talk.specs.Exchange.{heard_after}
+use Rattle.relay_talk.specs.Exchange.{IsAnswered, heard_after}
 
 -- a connection's session records (RFC 2326, A.2)
 pub record IsRecording (conn : ℕ) (history : History) : Type 0 where
@@ -84,3 +84,9 @@ DoesPublishing before request given reply old new = (act : Act) × IsReplyOf 1 b
 abbrev pub ExpiresPublishing : History → (heard now : ℕ) → (old new : Option Publishing) → Type 0
 ExpiresPublishing before heard now old new =
     ((act : Act) × IsExpiry 1 before 1 heard now act × ActsOn act old new) ⊎ (((act : Act) → IsExpiry 1 before 1 heard now act → ⊥) × (new ≡ old))
+
+-- the act of the reply to a request was carried out on what is published; nothing changes if memory was refused for the reply,
+-- which then isn't written down
+abbrev pub AnswersPublishing : (before : History) → Request → Given → (after : History) → (old new : Option Publishing) → Type 0
+AnswersPublishing before request given after old new =
+    ((reply : Reply) × IsAnswered before request given after reply × DoesPublishing before request given reply old new) ⊎ ((after ≡ before) × (new ≡ old))

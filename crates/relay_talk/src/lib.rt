@@ -2,6 +2,7 @@
 //! records is published.
 #![tactic(auto)]
 
+pub mod laws;
 mod talk;
 mod talker;
 mod words;

@@ -1,10 +1,11 @@
 //! One connection, from its first byte to its end.
 ghost use Rattle.std.specs.Prelude.{◌≡◌, ◌<◌, ℕ, List, None, true, length, take, IfOk, IfErr, OnErr, OnOk, string_bytes};
 ghost use Rattle.std.specs.Io.KnownBytes.{Appends};
-ghost use Rattle.rtsp_message.specs.Intakes.{fresh};
 ghost use Rattle.rtsp_message.specs.Reply.{plain_text};
 ghost use Rattle.session_state.specs.Lookups.{is_open};
-ghost use Rattle.relay_talk.specs.Exchange.{Draws, IsAnswer, MeetsWith, given_with, opening, standing_of};
+ghost use Rattle.relay_talk.specs.Exchange.{Draws, IsAnswer, given_with};
+ghost use Rattle.relay_talk.specs.Publishing.{AnswersPublishing};
+ghost use Rattle.relay_talk.specs.Taking.{TakesWith, TalksOn, talk_state};
 ghost use Rattle.relay_talk.specs.Talk.{DoesTalk, IsTalked, Talks, exit_status, exit_line, status_of as fixed_status};
 
 use crate::talker::Talker;
@@ -51,47 +52,48 @@ pub fn run_talk<R: Source + Drop, W: Sink, V: Words, N: Moments>(
         return (TalkEnd::OutOfMemory, reader);
     };
     let mut intake = Intake::new(alloc, reader);
-    let end = answer_all(&mut talker, &mut intake, writer, words, moments);
+    let end = talker.answer_all(&mut intake, writer, words, moments);
     talker.leave();
     (end, intake.into_source())
 }
 
-/// Answers the messages of an intake, one after another. Each answer is written before more is read. No clause tells
-/// of that order; `prompt_tests` of `unit_tests` show it.
-fn answer_all<R: Source + Drop, W: Sink, V: Words, N: Moments>(
-    talker: &mut Talker,
-    intake: &mut Intake<R>,
-    writer: &mut W,
-    words: &mut V,
-    moments: &mut N,
-) -> TalkEnd
-    requires begins { talker.old.book.history ≡ opening }
-    requires unheard { talker.old.heard ≡ None }
-    requires seats { talker.old.book.seats ≡ 1 }
-    ensures talks { (reader : _) → intake.old ≡ fresh reader → Talks R.incoming R.failed W.written W.failed (Draws V.gives N.gives) reader intake.new.source (words.old, moments.old) (words.new, moments.new) writer.old writer.new result }
-    ensures seats { talker.new.book.seats ≡ 1 }
-    ensures open { is_open 1 talker.new.book.history ≡ true }
-{
-    loop {
-        match talker.next_message(intake) {
-            InStop::Message(request) => {
-                if let Err(_) = answer_message(talker, words, moments, writer, &request) {
-                    return TalkEnd::WriteFailed;
+impl Talker {
+    /// Answers the messages of an intake to its end, and publishes the frames that come in while the session records. Each answer
+    /// is written before more is read: no clause says so, `prompt_tests` of `unit_tests` show it.
+    pub fn answer_all<R: Source + Drop, W: Sink, V: Words, N: Moments>(
+        &mut self,
+        intake: &mut Intake<R>,
+        writer: &mut W,
+        words: &mut V,
+        moments: &mut N,
+    ) -> TalkEnd
+        requires open { is_open 1 self.old.book.history ≡ true }
+        requires seats { self.old.book.seats ≡ 1 }
+        ensures talks { TalksOn R.incoming R.failed W.written W.failed (Draws V.gives N.gives) intake.old intake.new (words.old, moments.old) (words.new, moments.new) (talk_state self.old) (talk_state self.new) writer.old writer.new result }
+        ensures open { is_open 1 self.new.book.history ≡ true }
+        ensures seats { self.new.book.seats ≡ 1 }
+    {
+        loop {
+            match self.next_message(intake) {
+                InStop::Message(request) => {
+                    if let Err(_) = answer_message(self, words, moments, writer, &request) {
+                        return TalkEnd::WriteFailed;
+                    }
                 }
-            }
-            InStop::End => return TalkEnd::Done,
-            InStop::Fault(fault) => {
-                if let Err(_) = write_plain(writer, status_of(fault), None) {
-                    return TalkEnd::WriteFailed;
+                InStop::End => return TalkEnd::Done,
+                InStop::Fault(fault) => {
+                    if let Err(_) = write_plain(writer, status_of(fault), None) {
+                        return TalkEnd::WriteFailed;
+                    }
+                    return TalkEnd::StreamFault(fault);
                 }
-                return TalkEnd::StreamFault(fault);
-            }
-            InStop::ReadFailed => return TalkEnd::ReadFailed,
-            InStop::OutOfMemory => {
-                if let Err(_) = write_plain(writer, Status::ServiceUnavailable, None) {
-                    return TalkEnd::WriteFailed;
+                InStop::ReadFailed => return TalkEnd::ReadFailed,
+                InStop::OutOfMemory => {
+                    if let Err(_) = write_plain(writer, Status::ServiceUnavailable, None) {
+                        return TalkEnd::WriteFailed;
+                    }
+                    return TalkEnd::OutOfMemory;
                 }
-                return TalkEnd::OutOfMemory;
             }
         }
     }
@@ -107,8 +109,8 @@ fn answer_message<W: Sink, V: Words, N: Moments>(
 ) -> Result<(), WriteCut>
     requires seats { talker.old.book.seats ≡ 1 }
     requires open { is_open 1 talker.old.book.history ≡ true }
-    ensures ok { OnOk result ((text : List ℕ) × MeetsWith (Draws V.gives N.gives) (words.old, moments.old) (words.new, moments.new) (standing_of talker.old) request.now (standing_of talker.new) text × Appends (W.written writer.old) (W.written writer.new) text) }
-    ensures cut { IfErr result (λ cut. (text : List ℕ) × MeetsWith (Draws V.gives N.gives) (words.old, moments.old) (words.new, moments.new) (standing_of talker.old) request.now (standing_of talker.new) text × (cut.written < length text) × Appends (W.written writer.old) (W.written writer.new) (take cut.written text)) }
+    ensures ok { OnOk result ((text : List ℕ) × TakesWith (Draws V.gives N.gives) (words.old, moments.old) (words.new, moments.new) (talk_state talker.old) request.now (talk_state talker.new) text × Appends (W.written writer.old) (W.written writer.new) text) }
+    ensures cut { IfErr result (λ cut. (text : List ℕ) × TakesWith (Draws V.gives N.gives) (words.old, moments.old) (words.new, moments.new) (talk_state talker.old) request.now (talk_state talker.new) text × (cut.written < length text) × Appends (W.written writer.old) (W.written writer.new) (take cut.written text)) }
     ensures failed { IfErr result (λ _. W.failed writer.new ≡ true) }
     ensures kept { talker.new.book.seats ≡ 1 }
 {
@@ -131,6 +133,7 @@ fn answer<W: Sink>(
     ensures ok { OnOk result ((text : List ℕ) × IsAnswer talker.old.book.history request.now (given_with word now) talker.new.book.history text × Appends (W.written writer.old) (W.written writer.new) text) }
     ensures cut { IfErr result (λ cut. (text : List ℕ) × IsAnswer talker.old.book.history request.now (given_with word now) talker.new.book.history text × (cut.written < length text) × Appends (W.written writer.old) (W.written writer.new) (take cut.written text)) }
     ensures failed { IfErr result (λ _. W.failed writer.new ≡ true) }
+    ensures publishing { AnswersPublishing talker.old.book.history request.now (given_with word now) talker.new.book.history talker.old.publishing talker.new.publishing }
     ensures kept { talker.new.book.seats ≡ 1 }
     ensures heard { talker.new.heard ≡ talker.old.heard }
 {

@@ -10,7 +10,8 @@ ghost use Rattle.session_lock.specs.Books.{IsOffer};
 ghost use Rattle.publisher.specs.Fates.{total};
 ghost use Rattle.publisher.specs.FramesIn.{answer_of};
 ghost use Rattle.relay_talk.specs.Exchange.{IsAnswer, IsAnswered, IsExpired, IsLeft, IsSettled, busy, given_with, heard_at, opening};
-ghost use Rattle.relay_talk.specs.Publishing.{DoesPublishing, ExpiresPublishing, Fetches, IsNewRing, IsRecording, PublishesFrames, publishing_after, seat_after};
+ghost use Rattle.relay_talk.specs.Publishing.{AnswersPublishing, DoesPublishing, ExpiresPublishing, Fetches, IsNewRing, IsRecording, PublishesFrames, publishing_after, seat_after};
+ghost use Rattle.relay_talk.specs.Taking.{TakesStretch};
 
 use base_syntax::Items;
 use interleaved::Source;
@@ -90,7 +91,7 @@ impl Talker {
     pub fn next_message<S: Source + Drop>(&mut self, intake: &mut Intake<S>) -> InStop
         requires open { is_open 1 self.old.book.history ≡ true }
         requires seats { self.old.book.seats ≡ 1 }
-        ensures fetches { Fetches S.incoming S.failed intake.old intake.new self.old.heard self.new.heard result }
+        ensures takes { TakesStretch S.incoming S.failed self.old.book.history intake.old intake.new self.old.heard self.new.heard self.old.publishing self.new.publishing result }
         ensures published { IsRecording 1 self.old.book.history → IfSome self.old.publishing (λ feed. PublishesFrames S.incoming S.failed self.old.book.history intake.old intake.new feed self.new.publishing result) }
         ensures dropped { ¬ IsRecording 1 self.old.book.history → self.new.publishing ≡ self.old.publishing }
         ensures book { self.new.book ≡ self.old.book }
@@ -136,6 +137,7 @@ impl Talker {
         requires open { is_open 1 self.old.book.history ≡ true }
         ensures text { IfSome result (λ text. IsAnswer self.old.book.history request.now (given_with word now) self.new.book.history text.items) }
         ensures refused { IfNone result (IsAnswer self.old.book.history request.now (given_with word now) self.new.book.history (busy request.now)) }
+        ensures publishing { AnswersPublishing self.old.book.history request.now (given_with word now) self.new.book.history self.old.publishing self.new.publishing }
         ensures kept { self.new.book.seats ≡ 1 }
         ensures heard { self.new.heard ≡ self.old.heard }
     {

@@ -29,7 +29,7 @@ where
 {
     /// Returns the next request. Frames before it are published if the session records, else dropped.
     pub(super) fn next_message<S: Source + Drop>(&mut self, intake: &mut Intake<S>) -> InStop
-        ensures published { IfSome self.old.session (λ session. session.is_recording ≡ true → IfSome self.old.publishing (λ p. PublishesFrames S.incoming S.failed (PublishesAtLast M.In.publish_gives) session.channels (M.In.packet_bytes p.feed.feed) M.In.may_refuse intake.old intake.new p.feed (option_map (λ q. q.feed) self.new.publishing) self.old.counts self.new.counts result)) }
+        ensures published { IfSome self.old.session (λ session. session.is_recording ≡ true → IfSome self.old.publishing (λ p. PublishesFrames S.incoming S.failed (PublishesAtLast M.In.publish_gives) (λ f. M.In.told f.feed) session.channels (M.In.packet_bytes p.feed.feed) M.In.may_refuse intake.old intake.new p.feed (option_map (λ q. q.feed) self.new.publishing) self.old.counts self.new.counts result)) }
         ensures dropped { (IsSomeAnd self.old.session (λ session. session.is_recording ≡ true) → ⊥) → (self.new.publishing ≡ self.old.publishing) × DropsFrames S.incoming S.failed intake.old intake.new self.old.counts self.new.counts result }
     {
         match (&mut self.publishing, &self.session) {
