@@ -130,7 +130,7 @@ def unproved_rows(text):
 def wrong_form(text, sources):
     """Yields what is wrong with README's text, by the sources of the command line: the text of each module by its name."""
     page = parts(text)
-    options = {command: declared(sources, command) for command in ("serve", "talk", "steps")}
+    options = {command: declared(sources, command) for command in ("serve", "talk", "steps", "pass")}
     found = [option for each in options.values() for option in each]
     for what, call, those in (("options", '.long("', found), ("ranges", ".value_parser(", [it for it in found if it.range])):
         if len(those) != (there := sum(source.count(call) for source in sources.values())):

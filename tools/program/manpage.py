@@ -125,5 +125,5 @@ def man_page(readme, program, number):
     about = [part.text for part in parts(readme) if part.kind == "paragraph"][:2]
     page = [HEAD.format(number=number).rstrip(), ".SH DESCRIPTION", roff(about[0]), ".PP", roff(about[1])]
     page += [".SH OPTIONS OF SERVE", *options(readme), ".SH LINES ON STANDARD ERROR", *chapter(readme, LINES)]
-    page += [*help_of(program, "talk"), *help_of(program, "steps"), ".SH SIGNALS", roff(SIGNALS), ".SH EXIT STATUS", EXIT_STATUS, ""]
+    page += [*help_of(program, "talk"), *help_of(program, "steps"), *help_of(program, "pass"), ".SH SIGNALS", roff(SIGNALS), ".SH EXIT STATUS", EXIT_STATUS, ""]
     return "\n".join(page)

@@ -61,7 +61,7 @@ def of_readme():
 
 def of_help(program):
     """The command lines after `Example:` or `Examples:` in the program's help."""
-    for words in (), ("serve",), ("talk",), ("steps",):
+    for words in (), ("serve",), ("talk",), ("steps",), ("pass",):
         text = subprocess.run([program, *words, "--help"], capture_output=True, text=True, timeout=60).stdout
         yield from (line for part in re.split(r"^Examples?:.*$", text, flags=re.M)[1:] for line in joined(part))
 

@@ -8,4 +8,5 @@ use Rattle.relay_command.specs.declared.task.Task.TheVariants as tasks
 abbrev pub task_of : List ℕ → Option Task
 task_of name =
     if bytes_eq name (codes "talk") then Some tasks.Talk
-    else (if bytes_eq name (codes "steps") then Some tasks.Steps else (if bytes_eq name (codes "serve") then Some tasks.Serve else None))
+    else (if bytes_eq name (codes "steps") then Some tasks.Steps
+    else (if bytes_eq name (codes "serve") then Some tasks.Serve else (if bytes_eq name (codes "pass") then Some tasks.Pass else None)))

@@ -1,3 +1,4 @@
+pub mod Channels
 pub mod Commands
 pub mod Serving
 pub mod Stopping

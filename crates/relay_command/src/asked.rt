@@ -1,13 +1,15 @@
 //! A command line, from its words to what it asks for.
-ghost use Rattle.std.specs.Prelude.{◌≡◌, IfOk, IfErr, IsTrue};
+ghost use Rattle.std.specs.Prelude.{◌≡◌, ◌≤◌, IfOk, IfErr, IsTrue};
 ghost use Rattle.clap.specs.Values.{kind_of};
 ghost use Rattle.clap.specs.declared.error.kind.ErrorKind.TheVariants.{ArgumentConflict, ValueValidation};
 ghost use Rattle.std.specs.Option.{option_copied};
+ghost use Rattle.relay_command.specs.Channels.{GivesChannels};
 ghost use Rattle.relay_command.specs.Serving.{HasRoomToSend, IsServedInRange};
 ghost use Rattle.relay_command.specs.Stopping.{IsStopped, IsNoActor};
 
-use crate::commands::{command, serve_command, steps_command};
-use crate::settings::{Origins, SendBuffer, Settings};
+use crate::channels::read_channels;
+use crate::commands::{command, pass_command, serve_command, steps_command};
+use crate::settings::{Origins, Passing, SendBuffer, Settings, number};
 use crate::task::{Task, task_named};
 use clap::error::ErrorKind;
 use clap::{ArgMatches, Error};
@@ -16,9 +18,10 @@ use ring_script::read_actor;
 use ring_steps::Actor;
 use std::alloc::{AllocError, Global};
 use std::convert::AsStr;
+use transport_header::TrackChannels;
 
 /// What an accepted command line asks for.
-#[derive(Debug, Drop)]
+#[derive(Drop)]
 pub enum Asked {
     /// One connection is answered, with the text after `--word`.
     Talk(Option<String>),
@@ -26,6 +29,8 @@ pub enum Asked {
     Steps(Option<Actor>),
     /// Connections are served at this address, with these settings, from these networks.
     Serve(String, Settings, Origins),
+    /// A publisher's stream is passed through a ring to a player.
+    Pass(Passing),
     /// No command, which the parser lets no line be.
     Nothing,
 }
@@ -64,8 +69,41 @@ fn asked_of(alloc: Global, matches: &ArgMatches) -> Result<Asked, Error>
             let origins = origins_of(alloc, of_command)?;
             Ok(Asked::Serve(addr, settings, origins))
         }
+        Some(Task::Pass) => Ok(Asked::Pass(passing_of(alloc, of_command)?)),
         None => Ok(Asked::Nothing),
     }
+}
+
+/// Returns what `relay pass` passes on. Without `--to` packets go out on the channels that they come in on.
+fn passing_of(alloc: Global, matches: &ArgMatches) -> Result<Passing, Error>
+    ensures kept { IfOk result (λ passing. (1 ≤ passing.keep) × (passing.keep ≤ 4095)) }
+{
+    let channels = matches.get_str("channels").unwrap_or("0-1");
+    let from = channels_of(alloc, "channels", channels)?;
+    let to = channels_of(alloc, "to", matches.get_str("to").unwrap_or(channels))?;
+    let keep = number(matches, "keep").clamp(1, 4095);
+    Ok(Passing { keep, from, to })
+}
+
+/// Returns the channels that the text of an option gives to tracks. It is an error if it gives none.
+fn channels_of(alloc: Global, name: &str, text: &str) -> Result<TrackChannels, Error>
+    ensures { IfOk result (GivesChannels text.now) }
+{
+    match read_channels(text.as_bytes()) {
+        Some(channels) => Ok(channels),
+        None => Err(no_channels(alloc, name, text)?),
+    }
+}
+
+/// A command line fault: a text gives no channels.
+fn no_channels(alloc: Global, name: &str, text: &str) -> Result<Error, AllocError>
+    ensures { IfOk result (λ error. kind_of error ≡ ValueValidation) }
+{
+    let why = format!(in alloc;
+        "invalid value '{text}' for '--{name} <A-B>': not up to 16 pairs of different channels, as 0-1,2-3"
+    )?;
+    let mut command = pass_command(alloc)?.bin_name("relay pass")?;
+    command.error(ErrorKind::ValueValidation, &why)
 }
 
 /// Returns a copy of the text of an option or an argument.

@@ -29,11 +29,19 @@ printf \\
 'keep 2\\nseats 1\\np 41\\np 42\\np 43\\n0 attach\\n0 take\\n0 take\\n0 detach\\ngo 0 p*15 0 0*5 0\\n' |
 ./relay steps";
 
-/// The command line: `relay serve`, `relay talk` and `relay steps`.
+/// A recorded stream that `relay pass` passes on, as a line for the shell.
+const PASS_EXAMPLE: &str =
+    "Example: a recorded stream's first track, from channels 0 and 1 to 2 and 3
+
+printf '$\\000\\000\\014\\200\\140\\000\\001\\000\\000\\000\\001\\000\\000\\000\\007' |
+./relay pass --to 2-3 | od -An -tx1";
+
+/// The command line: `relay serve`, `relay talk`, `relay steps` and `relay pass`.
 pub(crate) fn command<'a>(alloc: Global) -> Result<Command<'a>, AllocError> {
     let serve = serve_command(alloc)?;
     let talk = talk_command(alloc)?;
     let steps = steps_command(alloc)?;
+    let pass = pass_command(alloc)?;
     Command::new(alloc, "relay")
         .version(VERSION)
         .about("A live relay for RTSP 1.0 (RFC 2326)")
@@ -41,7 +49,8 @@ pub(crate) fn command<'a>(alloc: Global) -> Result<Command<'a>, AllocError> {
         .subcommand_required(true)
         .subcommand(serve)?
         .subcommand(talk)?
-        .subcommand(steps)
+        .subcommand(steps)?
+        .subcommand(pass)
 }
 
 fn talk_command<'a>(alloc: Global) -> Result<Command<'a>, AllocError> {
@@ -68,6 +77,32 @@ pub(crate) fn steps_command<'a>(alloc: Global) -> Result<Command<'a>, AllocError
         )
         .after_help(STEPS_EXAMPLE)
         .arg(stopped)
+}
+
+/// `relay pass`, with its options.
+pub(crate) fn pass_command<'a>(alloc: Global) -> Result<Command<'a>, AllocError> {
+    let keep = Arg::new(alloc, "keep")
+        .long("keep")
+        .value_name("N")
+        .default_value("512")
+        .value_parser(clap::value_parser!(u16).range(1..4096))
+        .help("How many packets the ring keeps for its player (1 to 4095)");
+    let channels = Arg::new(alloc, "channels")
+        .long("channels")
+        .value_name("A-B")
+        .default_value("0-1")
+        .help(
+            "On which channels the tracks come in, as 0-1,2-3: those of RTP and RTCP{n}of the first track, then of the second",
+        );
+    let to = Arg::new(alloc, "to").long("to").value_name("A-B").help(
+        "On which channels they go out{n}[default: those on which they come in]",
+    );
+    Command::new(alloc, "pass")
+        .about("Passes a publisher's stream from standard input through a ring to standard output")
+        .after_help(PASS_EXAMPLE)
+        .arg(keep)?
+        .arg(channels)?
+        .arg(to)
 }
 
 /// `relay serve ADDR`, with its options, their ranges and their defaults.

@@ -2,11 +2,12 @@
 #![tactic(auto)]
 
 mod asked;
+mod channels;
 mod commands;
 mod serve_options;
 mod settings;
 mod task;
 
 pub use asked::{Asked, read_words};
-pub use settings::{Origins, SendBuffer, Settings};
+pub use settings::{Origins, Passing, SendBuffer, Settings};
 pub use task::{Task, exit_code, task_named};

@@ -1,10 +1,11 @@
-//! The settings of `relay serve`, from its command line.
+//! The settings of `relay serve` and `relay pass`, from their command lines.
 ghost use Rattle.std.specs.Prelude.{◌≤◌, IfSome};
 ghost use Rattle.relay_command.specs.Serving.{IsInRange};
 
 use clap::ArgMatches;
 use networks::Networks;
 use pacing::Back;
+use transport_header::TrackChannels;
 
 /// The send buffer of a connection: what the system may hold for a peer that is behind.
 #[derive(Clone, Copy, Debug, PartialEq, Eq, Drop)]
@@ -69,6 +70,17 @@ pub struct Origins {
     pub exempt: Option<Networks>,
 }
 
+/// What `relay pass` passes on.
+#[derive(Drop)]
+pub struct Passing {
+    /// How many packets the ring keeps for its player, 1 to 4,095.
+    pub keep: usize,
+    /// The channels on which the tracks come in.
+    pub from: TrackChannels,
+    /// The channels on which they go out.
+    pub to: TrackChannels,
+}
+
 impl Settings {
     /// Returns the settings of the arguments of `serve`. The command line has a default for each number but `accept`, and lets
     /// no number through that is out of its range.
@@ -123,6 +135,6 @@ fn seconds(matches: &ArgMatches, name: &str) -> Option<u64>
 }
 
 /// A number of the command line.
-fn number(matches: &ArgMatches, name: &str) -> usize {
+pub(crate) fn number(matches: &ArgMatches, name: &str) -> usize {
     usize::from(matches.get_one::<u16>(name).unwrap_or(0))
 }

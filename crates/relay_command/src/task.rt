@@ -14,6 +14,8 @@ pub enum Task {
     Steps,
     /// `relay serve`: connections are served.
     Serve,
+    /// `relay pass`: a publisher's stream goes through a ring.
+    Pass,
 }
 
 /// Returns the task that a command's name means. `None` if the program has no such command.
@@ -24,6 +26,7 @@ pub fn task_named(name: &str) -> Option<Task>
         "talk" => Some(Task::Talk),
         "steps" => Some(Task::Steps),
         "serve" => Some(Task::Serve),
+        "pass" => Some(Task::Pass),
         _ => None,
     }
 }

@@ -1,13 +1,15 @@
 //! A live relay for RTSP 1.0 (RFC 2326).
 #![tactic(auto)]
 
+ghost use Rattle.std.specs.Prelude.{◌≤◌};
+
 mod serve;
 pub mod task;
 
 use interleaved::{Reading, Writing};
 use rand::make_rng;
 use rand::rngs::StdRng;
-use relay_command::{Asked, exit_code, read_words};
+use relay_command::{Asked, Passing, exit_code, read_words};
 use relay_server::ClockMoments;
 use relay_talk::{DrawnWords, Ended, FixedWord, NoWords, WordSource, do_talk, word_source};
 use ring_steps::Actor;
@@ -16,7 +18,7 @@ use session_state::Words;
 use std::collections::hash_map::RandomState;
 use std::io;
 use std::process::ExitCode;
-use task::do_steps;
+use task::{do_pass, do_steps};
 
 fn main(rt: HostRuntime) -> anyhow::Result<ExitCode> {
     let alloc = rt.alloc();
@@ -24,6 +26,7 @@ fn main(rt: HostRuntime) -> anyhow::Result<ExitCode> {
     match read_words(alloc, words.as_slice()) {
         Ok(Asked::Talk(text)) => talk_on_standard_streams(&rt, text.as_deref()),
         Ok(Asked::Steps(stopped)) => steps_on_standard_streams(&rt, stopped),
+        Ok(Asked::Pass(passing)) => pass_on_standard_streams(&rt, &passing),
         Ok(Asked::Serve(addr, settings, origins)) => {
             match serve(rt, alloc, &addr, settings, origins, rt.stdin()) {
                 Ok(()) => Ok(exit_code(0)),
@@ -83,6 +86,16 @@ fn steps_on_standard_streams(rt: &HostRuntime, stopped: Option<Actor>) -> anyhow
     let reader = Reading::new(rt.stdin());
     let mut writer = Writing::new(rt.stdout());
     let ended = do_steps(rt.alloc(), reader, &mut writer, stopped)?;
+    Ok(tell(rt, &ended))
+}
+
+/// Passes a publisher's stream from standard input to standard output.
+fn pass_on_standard_streams(rt: &HostRuntime, passing: &Passing) -> anyhow::Result<ExitCode>
+    requires keep { (1 ≤ passing.now.keep) × (passing.now.keep ≤ 4095) }
+{
+    let reader = Reading::new(rt.stdin());
+    let mut writer = Writing::new(rt.stdout());
+    let ended = do_pass(rt.alloc(), reader, &mut writer, passing)?;
     Ok(tell(rt, &ended))
 }
 

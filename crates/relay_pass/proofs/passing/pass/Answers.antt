@@ -1,0 +1,164 @@
+use Rattle.std.proofs.Common.{◌∷◌, [], length, length-append, ◌≤◌, refl, sym, ap, subst, ◌∙◌, arith}
+use Rattle.packet_ring.specs.Views.{Publishing, Subscribing, keep_of}
+use Rattle.player.specs.declared.report.OutStop.TheVariants as out_stop
+use Rattle.relay_pass.specs.declared.report.TakeCounts.{TakeCounts}
+use Rattle.relay_pass.specs.declared.report.PassReport.{PassReport}
+use Rattle.relay_pass.specs.declared.report.PassStop.{PassStop}
+use Rattle.relay_pass.specs.declared.report.StreamEnd.TheVariants as stream
+use Rattle.relay_pass.specs.Counts.{stop_of}
+use Rattle.relay_pass.proofs.Handing.{all-grew}
+use Rattle.relay_pass.proofs.Endings.{Finished, finished-failed, stop-failed, takes-went-on, uncut-on}
+use Rattle.relay_pass.proofs.KeepingUp.{all-kept, kept-few, learned-account, never-pinned, never-unkept, turn-kept-up, turn-ring, turn-seat-ring}
+use Rattle.relay_pass.proofs.Passed.{none-passed, passed-frames, passed-takes, turn-passes}
+use Rattle.relay_pass.proofs.Settling.{led-adds, led-on, led-takes}
+use Rattle.cursor.specs.Account.{cursor_of}
+use Rattle.relay_pass.proofs.Takings.{frames-count, takes-more}
+use Rattle.relay_pass.proofs.passing.pass.Goals as goal
+
+pub loop-came-init : goal.loop-came-init
+loop-came-init g c =
+    rw (c.knows_published.ensures.same, c.knows_published.ensures.same_seat) (record {
+      so_far = none-passed g.S.Source.incoming g.S.Source.failed c.args.from.now c.args.to.now c.args.intake.now c.args.publisher.now c.args.seat.now _ c.new-came.result c.new-went.result c.new-came.ensures c.new-went.ensures c.knows_published.ensures.published;
+      ring = refl;
+      seat_ring = refl;
+      few = omega (arith, c.left-most.ensures.value, c.left-most.type_inv, c.new-came.ensures.all);
+      counted = rw c.new-went.ensures (omega arith);
+      uncut = ap (λ (t : TakeCounts). t.cut) c.new-went.ensures;
+      works = refl;
+      up = λ enough at. at;
+      kept = λ few enough at. ap (λ (t : TakeCounts). t.lost) c.new-went.ensures;
+    })
+
+pub take_turn-requires-clause-ring : goal.take_turn-requires-clause-ring
+take_turn-requires-clause-ring g c =
+    let h = c.publish_turn-ended.ensures.publishes in
+    ap (λ (s : Subscribing). s.ring) h.learns.learns.same ∙ c.loop-came.invariant.seat_ring ∙ c.requires.ring
+    ∙ sym ((all-grew c.args.from.now h.handlings _ _ h.met.meets).ring ∙ c.loop-came.invariant.ring)
+
+pub returns-in-WriteFailed-clause-passes : goal.returns-in-WriteFailed-clause-passes
+returns-in-WriteFailed-clause-passes g c =
+    let takes = rw c.in-WriteFailed.is at c.take_turn.ensures.takes in
+    let within = rw c.take_turn.ensures.same at c.take_turn.ensures.published.0 in
+    rw c.take_turn.ensures.same
+    (turn-passes g.S.Source.incoming g.S.Source.failed c.args.from.now c.args.to.now _ _ _ _ _ _ _ _ _ _ _ _ _ _ _ _ _ out_stop.WriteFailed
+    c.loop-came.invariant.so_far c.publish_turn-ended.ensures.publishes takes within c.take_turn.ensures.within c.requires.ring stream.End _ refl (finished-failed _ _ _ _ stream.End))
+
+pub returns-in-WriteFailed-clause-never_pinned : goal.returns-in-WriteFailed-clause-never_pinned
+returns-in-WriteFailed-clause-never_pinned g c = never-pinned _ _ _ _ _ _ _ (returns-in-WriteFailed-clause-passes g c).came
+
+pub returns-in-WriteFailed-clause-never_unkept : goal.returns-in-WriteFailed-clause-never_unkept
+returns-in-WriteFailed-clause-never_unkept g c = never-unkept _ _ _ _ _ _ _ (returns-in-WriteFailed-clause-passes g c).came
+
+pub returns-in-WriteFailed-clause-kept_up : goal.returns-in-WriteFailed-clause-kept_up
+returns-in-WriteFailed-clause-kept_up g c few enough at =
+    let up = c.loop-came.invariant.up enough at in
+    let kept = c.loop-came.invariant.kept few enough at in
+    let h = c.publish_turn-ended.ensures.publishes in
+    let ring = turn-ring _ _ _ _ _ _ _ _ _ _ h ∙ c.loop-came.invariant.ring in
+    let few_now = subst (λ z. c.args.pace.frames ≤ keep_of z) (sym ring) few in
+    c.take_turn.ensures.kept (kept-few c.args.pace.frames _ c.loop-came.publisher c.publish_turn-ended.new.publisher c.loop-came.seat c.publish_turn-ended.new.seat up c.publish_turn-ended.ensures.most few_now (learned-account _ _ _ _ h.learns)) ∙ kept
+
+pub returns-in-WriteFailed-clause-in_step : goal.returns-in-WriteFailed-clause-in_step
+returns-in-WriteFailed-clause-in_step g c enough at =
+    let up = c.loop-came.invariant.up enough at in
+    let h = c.publish_turn-ended.ensures.publishes in
+    let takes = rw c.in-WriteFailed.is at c.take_turn.ensures.takes in
+    let led = led-takes _ _ _ takes.run in
+    let on = led-adds _ takes.answers _ led in
+    let cut = takes.out in
+    let there = ap cursor_of (learned-account _ _ _ _ h.learns) in
+    let most = c.publish_turn-ended.ensures.most in
+    rw c.take_turn.ensures.same (omega (arith, up, on, there, most, frames-count c.args.to.now takes.answers, ap length cut.frames_are, length-append cut.whole (cut.last ∷ [])))
+
+pub drain-out-requires : goal.drain-out-requires
+drain-out-requires g c =
+    let h = c.publish_turn-ended.ensures.publishes in
+    let led = led-takes _ _ _ c.take_turn.ensures.takes.run in
+    record {
+      ring =
+          led.ring ∙ turn-seat-ring _ _ _ _ _ _ _ _ _ _ h ∙ c.loop-came.invariant.seat_ring ∙ c.requires.ring ∙ sym (turn-ring _ _ _ _ _ _ _ _ _ _ h ∙ c.loop-came.invariant.ring)
+          ∙ ap (λ (p : Publishing). p.ring) (sym c.take_turn.ensures.same);
+      some = c.requires.pace.1;
+      counted = c.take_turn.ensures.counted;
+      uncut = uncut-on _ _ _ _ _ _ _ _ c.in_default.not-WriteFailed c.take_turn.ensures.takes;
+    }
+
+pub returns-in-Some-clause-passes : goal.returns-in-Some-clause-passes
+returns-in-Some-clause-passes g c =
+    let takes = takes-more _ _ _ _ _ _ _ _ _ _ _ (takes-went-on _ _ _ _ _ _ _ _ c.in_default.not-WriteFailed c.take_turn.ensures.takes) c.drain-out.ensures.takes in
+    let within = rw (c.drain-out.ensures.same, c.take_turn.ensures.same) at c.drain-out.ensures.published.0 in
+    let ended = rw c.in-Some.is at c.publish_turn-ended.ensures.ended in
+    let finished : Finished g.S.Source.incoming g.S.Source.failed c.publish_turn-ended.new.intake c.drain-out.new.seat c.in-Some.end c.drain-out.result = record {
+      ended = λ ok. ended;
+      empty = c.drain-out.ensures.empty;
+      not_done = λ ok. c.drain-out.ensures.ends.1;
+      not_ended = c.drain-out.ensures.ends.0;
+    } in
+    rw (c.drain-out.ensures.same, c.take_turn.ensures.same)
+    (turn-passes g.S.Source.incoming g.S.Source.failed c.args.from.now c.args.to.now _ _ _ _ _ _ _ _ _ _ _ _ _ _ _ _ _ c.drain-out.result
+    c.loop-came.invariant.so_far c.publish_turn-ended.ensures.publishes takes within c.drain-out.ensures.within c.requires.ring c.in-Some.end _
+    (ap (λ (st : PassStop). let r : PassReport = record { came = c.publish_turn-ended.new.came; went = c.drain-out.new.went; stop = st } in r) c.new.ensures) finished)
+
+pub returns-in-Some-clause-never_pinned : goal.returns-in-Some-clause-never_pinned
+returns-in-Some-clause-never_pinned g c = never-pinned _ _ _ _ _ _ _ (returns-in-Some-clause-passes g c).came
+
+pub returns-in-Some-clause-never_unkept : goal.returns-in-Some-clause-never_unkept
+returns-in-Some-clause-never_unkept g c = never-unkept _ _ _ _ _ _ _ (returns-in-Some-clause-passes g c).came
+
+pub returns-in-Some-clause-kept_up : goal.returns-in-Some-clause-kept_up
+returns-in-Some-clause-kept_up g c few enough at =
+    let up = c.loop-came.invariant.up enough at in
+    let kept = c.loop-came.invariant.kept few enough at in
+    let h = c.publish_turn-ended.ensures.publishes in
+    let ring = turn-ring _ _ _ _ _ _ _ _ _ _ h ∙ c.loop-came.invariant.ring in
+    let few_now = subst (λ z. c.args.pace.frames ≤ keep_of z) (sym ring) few in
+    let first = c.take_turn.ensures.kept (kept-few c.args.pace.frames _ c.loop-came.publisher c.publish_turn-ended.new.publisher c.loop-came.seat c.publish_turn-ended.new.seat up c.publish_turn-ended.ensures.most few_now (learned-account _ _ _ _ h.learns)) in
+    let within = rw c.take_turn.ensures.same at c.take_turn.ensures.published.0 in
+    let now_up = turn-kept-up c.args.to.now c.args.pace.frames c.args.pace.takes c.loop-came.publisher c.publish_turn-ended.new.publisher c.loop-came.seat c.publish_turn-ended.new.seat c.take_turn.new.seat _ _ _ _ _ up c.publish_turn-ended.ensures.most enough
+    h.learns c.loop-came.invariant.so_far.within c.take_turn.ensures.takes within c.take_turn.ensures.within c.in_default.not-WriteFailed c.take_turn.ensures.open c.take_turn.ensures.done c.take_turn.ensures.empty in
+    c.drain-out.ensures.kept (rw c.take_turn.ensures.same (all-kept _ _ _ now_up)) ∙ first ∙ kept
+
+pub returns-in-Some-clause-in_step : goal.returns-in-Some-clause-in_step
+returns-in-Some-clause-in_step g c enough at =
+    let up = c.loop-came.invariant.up enough at in
+    let h = c.publish_turn-ended.ensures.publishes in
+    let within = rw c.take_turn.ensures.same at c.take_turn.ensures.published.0 in
+    let now_up = turn-kept-up c.args.to.now c.args.pace.frames c.args.pace.takes c.loop-came.publisher c.publish_turn-ended.new.publisher c.loop-came.seat c.publish_turn-ended.new.seat c.take_turn.new.seat _ _ _ _ _ up c.publish_turn-ended.ensures.most enough
+    h.learns c.loop-came.invariant.so_far.within c.take_turn.ensures.takes within c.take_turn.ensures.within c.in_default.not-WriteFailed c.take_turn.ensures.open c.take_turn.ensures.done c.take_turn.ensures.empty in
+    let led = led-takes _ _ _ c.drain-out.ensures.takes.run in
+    let some = c.requires.pace.0 in
+    rw (c.drain-out.ensures.same, c.take_turn.ensures.same) (omega (arith, now_up, led-on _ _ _ led, some))
+
+pub returns-in-Some-clause-failed : goal.returns-in-Some-clause-failed
+returns-in-Some-clause-failed g c failed = c.drain-out.ensures.failed (stop-failed _ _ (sym c.new.ensures ∙ failed))
+
+pub returns-in-Some-clause-works : goal.returns-in-Some-clause-works
+returns-in-Some-clause-works g c ok =
+    c.drain-out.ensures.works (λ failed. ok (c.new.ensures ∙ ap (stop_of c.in-Some.end) failed)) ∙ c.take_turn.ensures.works c.in_default.not-WriteFailed ∙ c.loop-came.invariant.works
+
+pub loop-came-preserved : goal.loop-came-preserved
+loop-came-preserved g c =
+    let before = c.loop-came.invariant in
+    let h = c.publish_turn-ended.ensures.publishes in
+    let ok = c.in_default.not-WriteFailed in
+    let takes = c.take_turn.ensures.takes in
+    let led = led-takes _ _ _ takes.run in
+    let ring = turn-ring _ _ _ _ _ _ _ _ _ _ h ∙ before.ring in
+    let within = rw c.take_turn.ensures.same at c.take_turn.ensures.published.0 in
+    rw c.take_turn.ensures.same (record {
+      so_far = passed-takes g.S.Source.incoming g.S.Source.failed c.args.from.now c.args.to.now _ _ _ _ _ _ _ _ _ _ _ _ _ _
+          (passed-frames g.S.Source.incoming g.S.Source.failed c.args.from.now c.args.to.now _ _ _ _ _ _ _ _ _ _ _ _ _ _ before.so_far h) takes within ok;
+      ring = ring;
+      seat_ring = led.ring ∙ turn-seat-ring _ _ _ _ _ _ _ _ _ _ h ∙ before.seat_ring;
+      few = omega (arith, c.publish_turn-ended.ensures.counted, before.few);
+      counted = c.take_turn.ensures.counted;
+      uncut = uncut-on _ _ _ _ _ _ _ _ ok takes;
+      works = c.take_turn.ensures.works ok ∙ before.works;
+      up = λ enough at.
+          turn-kept-up c.args.to.now c.args.pace.frames c.args.pace.takes c.loop-came.publisher c.publish_turn-ended.new.publisher c.loop-came.seat c.publish_turn-ended.new.seat c.take_turn.new.seat _ _ _ _ _ (before.up enough at) c.publish_turn-ended.ensures.most enough
+          h.learns before.so_far.within takes within c.take_turn.ensures.within ok c.take_turn.ensures.open c.take_turn.ensures.done c.take_turn.ensures.empty;
+      kept = λ few enough at. (
+          let few_now = subst (λ z. c.args.pace.frames ≤ keep_of z) (sym ring) few in
+          c.take_turn.ensures.kept (kept-few c.args.pace.frames _ c.loop-came.publisher c.publish_turn-ended.new.publisher c.loop-came.seat c.publish_turn-ended.new.seat (before.up enough at) c.publish_turn-ended.ensures.most few_now (learned-account _ _ _ _ h.learns)) ∙ before.kept few enough at
+          );
+    })
