@@ -7,6 +7,7 @@ mod exchange_tests;
 mod expiry_tests;
 mod help_tests;
 mod memory_tests;
+mod pass_line_tests;
 mod prompt_tests;
 mod talker_tests;
 mod words_tests;

@@ -145,13 +145,16 @@ fn large_losses(alloc: Global) -> Result<ListTap, AllocError> {
     Ok(ListTap::new(list, 0, 2))
 }
 
-/// Relays the two losses and the packet one way. The list, the packet and the sink are three requests for memory.
+/// Relays the two losses and the packet one way. The list, the packet and the sink are three requests for memory. In a run
+/// in which the request after the relay is refused it returns the same.
 fn relay_large_losses(rt: &impl Abort, alloc: Global, way: Way) {
     let mut tap = large_losses(alloc).expect(rt, "memory");
     let mut sink = ListSink::new(alloc, 6).expect(rt, "memory");
     let report = relay(way, &mut tap, &mut sink, &one_track(5, 4), 3);
     assert_eq!(rt; (report.sent, report.lost), (1, u64::MAX - 1));
     assert_eq!(rt; sink.bytes(), FRAME.as_slice());
+    // The next request, which a run may refuse.
+    let _behind = Vec::from_elem(alloc, 0u8, 1).is_ok();
 }
 
 #[test]

@@ -280,7 +280,7 @@ fn a_line_out_of_range_is_refused(rt: HostRuntime) -> Result<(), Fail> {
 }
 
 /// Lines that aren't understood, and their exit status: a request for help is 0.
-const OTHER_LINES: [(&str, i32); 11] = [
+const OTHER_LINES: [(&str, i32); 14] = [
     ("relay", 2),
     ("relay play", 2),
     ("relay talk x", 2),
@@ -289,6 +289,9 @@ const OTHER_LINES: [(&str, i32); 11] = [
     ("relay steps --stopped", 2),
     ("relay steps --stopped=", 2),
     ("relay steps --stopped 1x", 2),
+    ("relay pass x", 2),
+    ("relay pass --channels 1", 2),
+    ("relay pass --to 0-0", 2),
     ("relay --help", 0),
     ("relay --version", 0),
     ("relay serve --help", 0),
@@ -394,10 +397,11 @@ fn a_talk_without_words_is_told(rt: HostRuntime) -> Result<(), Fail> {
 }
 
 /// Names, and their commands.
-const NAMES: [(&str, Option<Task>); 4] = [
+const NAMES: [(&str, Option<Task>); 5] = [
     ("talk", Some(Task::Talk)),
     ("steps", Some(Task::Steps)),
     ("serve", Some(Task::Serve)),
+    ("pass", Some(Task::Pass)),
     ("play", None),
 ];
 

@@ -12,6 +12,7 @@ Commands:
   serve  Relays streams from publishers to players over TCP
   talk   Answers one RTSP connection on standard input and standard output
   steps  Runs a schedule of the ring's atomic steps from standard input, and prints each step
+  pass   Passes a publisher's stream from standard input through a ring to standard output
   help   Print this message or the help of the given subcommand(s)
 
 Options:
@@ -115,6 +116,34 @@ printf \\
 ./relay steps
 ";
 
+const PASS_HELP: &str =
+    "Passes a publisher's stream from standard input through a ring to standard output
+
+Usage: relay pass [OPTIONS]
+
+Options:
+      --keep <N>        How many packets the ring keeps for its player (1 to 4095) [default: 512]
+      --channels <A-B>  On which channels the tracks come in, as 0-1,2-3: those of RTP and RTCP
+                        of the first track, then of the second [default: 0-1]
+      --to <A-B>        On which channels they go out
+                        [default: those on which they come in]
+  -h, --help            Print help
+
+Example: a recorded stream's first track, from channels 0 and 1 to 2 and 3
+
+printf '$\\000\\000\\014\\200\\140\\000\\001\\000\\000\\000\\001\\000\\000\\000\\007' |
+./relay pass --to 2-3 | od -An -tx1
+";
+
+/// The error of a line whose channels aren't pairs.
+const NO_CHANNELS: &str =
+    "error: invalid value '0-1,1-2' for '--to <A-B>': not up to 16 pairs of different channels, as 0-1,2-3
+
+Usage: relay pass [OPTIONS]
+
+For more information, try '--help'.
+";
+
 /// The error of a line whose actor isn't one.
 const NO_ACTOR: &str = "error: invalid value '1x' for '--stopped <A>': not p and no seat's number
 
@@ -124,12 +153,14 @@ For more information, try '--help'.
 ";
 
 /// Lines, and what they print.
-const PRINTED: [(&str, &str); 6] = [
+const PRINTED: [(&str, &str); 8] = [
     ("relay --help", RELAY_HELP),
     ("relay serve --help", SERVE_HELP),
     ("relay talk --help", TALK_HELP),
     ("relay steps --help", STEPS_HELP),
     ("relay steps --stopped 1x", NO_ACTOR),
+    ("relay pass --help", PASS_HELP),
+    ("relay pass --to 0-1,1-2", NO_CHANNELS),
     ("relay --version", "relay 0.1.0\n"),
 ];
 
