@@ -137,7 +137,7 @@ printf '$\\000\\000\\014\\200\\140\\000\\001\\000\\000\\000\\001\\000\\000\\000\
 
 /// The error of a line whose channels aren't pairs.
 const NO_CHANNELS: &str =
-    "error: invalid value '0-1,1-2' for '--to <A-B>': not up to 16 pairs of different channels, as 0-1,2-3
+    "error: invalid value '0-0' for '--to <A-B>': not up to 16 pairs of different channels, as 0-1,2-3
 
 Usage: relay pass [OPTIONS]
 
@@ -160,7 +160,7 @@ const PRINTED: [(&str, &str); 8] = [
     ("relay steps --help", STEPS_HELP),
     ("relay steps --stopped 1x", NO_ACTOR),
     ("relay pass --help", PASS_HELP),
-    ("relay pass --to 0-1,1-2", NO_CHANNELS),
+    ("relay pass --to 0-0", NO_CHANNELS),
     ("relay --version", "relay 0.1.0\n"),
 ];
 
