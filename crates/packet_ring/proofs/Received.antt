@@ -1,18 +1,19 @@
 -- What a run of a subscriber's calls gave it is the log that it has seen by now, from its cursor on, less its losses.
-use Rattle.std.proofs.Common.{◌≡◌, ℕ, ◌≤◌, List, [], ◌∷◌, ◌++◌, length, refl, sym, ◌∙◌, ap, subst, arith, length-append}
+use Rattle.std.proofs.Common.{◌≡◌, ℕ, ◌+◌, ◌≤◌, List, [], ◌∷◌, ◌++◌, length, refl, sym, ◌∙◌, ap, subst, arith, length-append}
 use mathlib.Core.List.{IsPrefix}
 use base.Growing.{prefix_refl, prefix_trans}
-use Rattle.std.specs.Prelude.{slice_range}
+use Rattle.std.specs.Prelude.{slice_get, slice_range}
 use Rattle.cursor.specs.declared.packets.Packet.{Packet}
 use Rattle.cursor.specs.declared.takes.Account.{Account}
 use Rattle.cursor.specs.declared.takes.Delivery.{Delivery}
+use Rattle.cursor.specs.declared.takes.Delivery.TheVariants.{Got, Lost, Empty, Ended}
 use Rattle.cursor.specs.Account.{account_of, cursor_of, losses, with_answers, without}
 use Rattle.cursor.proofs.Attachments.{After-take, Settles, Settles-adds, Settles-append, Settles-grows, Settles-within}
 use Rattle.cursor.proofs.Counted.{Counts-counted, with_answers-append, with_answers-none, with_answers-one}
 use Rattle.cursor.proofs.Kept.{received-without}
 use Rattle.cursor.proofs.Positions.{once}
 use Rattle.packet_ring.specs.Calls.{TakesNext, log_with}
-use Rattle.packet_ring.specs.Players.{DoesCalls, SubscriberCall, WasGiven, answers_of, learns, takes}
+use Rattle.packet_ring.specs.Players.{AreNumbered, DoesCalls, SubscriberCall, WasGiven, answers_of, learns, takes}
 use Rattle.packet_ring.specs.Views.{Subscribing, keep_of}
 
 longer : (xs ys : List Packet) → IsPrefix xs ys → length xs ≤ length ys
@@ -63,6 +64,14 @@ leads old (learns ∷ calls) new h within =
     let first = none_taken old h.0 same h.1.sees.grows within in
     joined old [] (answers_of calls) h.0 new first (leads h.0 calls new h.2 (Settles-within h.0.seen (cursor_of old.account) [] (cursor_of h.0.account) first.settles))
 
+-- each packet is the one at its number
+numbered : (packets : List Packet) (c : ℕ) (ds : List Delivery) (e : ℕ) → Settles packets c ds e → AreNumbered packets ds
+numbered packets c [] e h = tt
+numbered packets c (Got n p ∷ ds) e h = (ap (slice_get packets) h.0 ∙ h.1, numbered packets (c + 1) ds e h.2)
+numbered packets c (Lost k ∷ ds) e h = (tt, numbered packets (c + k) ds e h)
+numbered packets c (Empty ∷ ds) e h = (tt, numbered packets c ds e h)
+numbered packets c (Ended ∷ ds) e h = (tt, numbered packets c ds e h)
+
 pub were_given : (old new : Subscribing) (calls : List SubscriberCall) → DoesCalls old calls new → cursor_of old.account ≤ length old.seen → WasGiven old (answers_of calls) new
 were_given old new calls h within =
     let ds = answers_of calls in let c : ℕ = cursor_of old.account in let e : ℕ = cursor_of new.account in
@@ -74,6 +83,7 @@ were_given old new calls h within =
         within = rw (← adds) (Settles-within new.seen c ds e all.settles);
         once = λ n above below. once new.seen c ds e n all.settles above (rw adds below);
       };
+      numbered = numbered new.seen c ds e all.settles;
       account = all.account;
       grows = all.grows;
     }

@@ -1,9 +1,10 @@
 -- What a subscriber does between its attachment and its detachment, and what it was given.
-use Rattle.std.specs.Prelude.{◌≡◌, ◌⊎◌, ℕ, false, Result, Ok, Err, List, [], ◌∷◌}
+use Rattle.std.specs.Prelude.{◌≡◌, ◌⊎◌, ℕ, false, Option, Some, slice_get, Result, Ok, Err, List, [], ◌∷◌}
 use mathlib.Core.List.{IsPrefix}
 use Rattle.cursor.specs.declared.packets.Packet.{Packet}
 use Rattle.cursor.specs.declared.refusals.Refused.{Refused}
 use Rattle.cursor.specs.declared.takes.Delivery.{Delivery}
+use Rattle.cursor.specs.declared.takes.Delivery.TheVariants.{Got, Lost, Empty, Ended}
 use Rattle.cursor.specs.Account.{cursor_of, with_answers}
 use Rattle.cursor.specs.Player.{ReceivedFrom}
 use Rattle.packet_ring.specs.Calls.{PublishesNext, SeesOn, TakesNext}
@@ -31,10 +32,23 @@ answers_of [] = []
 answers_of (takes d ∷ calls) = d ∷ answers_of calls
 answers_of (learns ∷ calls) = answers_of calls
 
--- With these answers a subscriber received, from its cursor on and in order, the packets of the log that it has seen by now, less
--- exactly the losses among the answers. Its account counts each answer. What it had seen before begins what it has seen now.
+-- an answer that gives a packet gives the one at its number in this log
+abbrev pub IsNumbered : List Packet → Delivery → Type 0
+IsNumbered log (Got n p) = slice_get log n ≡ Some p
+IsNumbered log (Lost k) = Unit {0}
+IsNumbered log Empty = Unit {0}
+IsNumbered log Ended = Unit {0}
+
+-- each of these answers does
+abbrev pub AreNumbered : List Packet → List Delivery → Type 0
+AreNumbered log [] = Unit {0}
+AreNumbered log (d ∷ ds) = IsNumbered log d × AreNumbered log ds
+
+-- With these answers a subscriber received, from its cursor on and in order, the packets of the log that it has seen by now, each
+-- at its number, less exactly the losses among the answers. Its account counts each answer. What it had seen before begins what it has seen now.
 pub record WasGiven (old : Subscribing) (answers : List Delivery) (new : Subscribing) : Type 0 where
   pub received : ReceivedFrom new.seen (cursor_of old.account) answers
+  pub numbered : AreNumbered new.seen answers
   pub account : new.account ≡ with_answers old.account answers
   pub grows : IsPrefix old.seen new.seen
 

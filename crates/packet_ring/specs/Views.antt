@@ -1,5 +1,6 @@
 -- What contracts see of a ring's publisher, receipts, passes and subscribers, and what holds of each.
 use Rattle.std.specs.Prelude.{◌≡◌, ℕ, ◌+◌, ◌-◌, ◌*◌, ◌/◌, ◌^◌, ◌<◌, ◌≤◌, Bool, false, List, [], ◌∷◌, map, length, take, if◌then◌else◌}
+use mathlib.Core.List.{IsPrefix}
 use Rattle.cursor.specs.declared.packets.Packet.{Packet}
 use Rattle.cursor.specs.declared.takes.Account.{Account}
 use Rattle.cursor.specs.Log.{packet_of}
@@ -135,6 +136,7 @@ pub record IsPublishing (z : RingId) (t : Token) (count : ℕ) : Type 0 where
   pub counted : count ≡ length (log_of t.me.view)
   pub few : count ≤ 2 ^ 46
   pub full : HasSeen count (log_of t.me.view)
+  pub tells : IsPrefix (log_of t.me.view) t.me.seen
 
 -- a token of this ring is a seat's, in this phase, and knows of so many packets
 pub record IsSeated (z : RingId) (t : Token) (phase : SeatPhase) (known : ℕ) : Type 0 where
@@ -150,7 +152,12 @@ pub record IsSubscribed (z : RingId) (t : Token) (known : ℕ) (a : Account) : T
   pub account : (seat_of t.me.view).account ≡ a
   pub within : cursor_of a ≤ known
 
--- a log that was told has so many packets, the last of which is a receipt's, or it is closed after them
+-- a log that was told has so many packets
+pub record IsKnown (log : List (List ℕ)) (count : ℕ) : Type 0 where
+  pub has : HasSeen count log
+  pub few : count ≤ 2 ^ 46
+
+-- the last of them is a receipt's, or the log is closed after them
 pub record IsReceipted (log : List (List ℕ)) (count : ℕ) (closed : Bool) : Type 0 where
   pub has : HasSeen count log
   pub some : closed ≡ false → 1 ≤ count

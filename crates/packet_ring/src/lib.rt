@@ -6,6 +6,7 @@ mod block;
 mod head;
 mod known_logs;
 pub mod laws;
+mod learning;
 mod opening;
 mod packets;
 mod passes;

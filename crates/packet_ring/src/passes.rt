@@ -10,6 +10,7 @@ use crate::allocated::Block;
 use crate::block::Token;
 use crate::head::attach;
 use crate::known_logs::KnownLog;
+use crate::learning::learn_told;
 use crate::receipts::Receipt;
 use crate::subscribers::Subscriber;
 use cursor::Account;
@@ -79,10 +80,7 @@ impl Pass {
         ensures told { SeesOn receipt.now.log receipt.now.closed self.new.seen self.new.closed }
         ensures one { (self.new.seen ≡ self.old.seen) ⊎ (self.new.seen ≡ receipt.now.log) }
     {
-        self.token.learn(&receipt.told);
-        if self.known < receipt.length {
-            self.known = receipt.length;
-        }
+        self.known = learn_told(&mut self.token, self.known, &receipt.told, receipt.length);
     }
 
     /// What this seat has seen of the log or was told of, for `Publisher::has_published`. Makes no load and takes no memory.

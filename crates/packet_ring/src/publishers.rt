@@ -136,6 +136,20 @@ impl Publisher {
         block.shared.compare(&mut self.token, &known.told);
     }
 
+    /// The log, which a seat of this ring may learn. Makes no atomic operation and takes no memory.
+    pub fn known_log(&mut self) -> KnownLog
+        ensures same { self.new ≡ self.old }
+        ensures known { result ≡ record { ring = self.old.ring; log = self.old.log; closed = false } }
+    {
+        let told = self.token.tell();
+        let block: &Block = &self.ring;
+        block.shared.compare(&mut self.token, &told);
+        KnownLog {
+            told,
+            length: self.count,
+        }
+    }
+
     /// Closes the log, and gives a receipt of it.
     pub fn close(self) -> Receipt
         ensures receipt { result ≡ receipted self.ring self.log true }

@@ -12,6 +12,7 @@ use crate::allocated::Block;
 use crate::block::Token;
 use crate::head::detach;
 use crate::known_logs::KnownLog;
+use crate::learning::learn_told;
 use crate::passes::Pass;
 use crate::receipts::Receipt;
 use crate::taking::take_with;
@@ -73,10 +74,18 @@ impl Subscriber {
         ensures told { SeesOn receipt.now.log receipt.now.closed self.new.seen self.new.closed }
         ensures one { (self.new.seen ≡ self.old.seen) ⊎ (self.new.seen ≡ receipt.now.log) }
     {
-        self.token.learn(&receipt.told);
-        if self.known < receipt.length {
-            self.known = receipt.length;
-        }
+        self.known = learn_told(&mut self.token, self.known, &receipt.told, receipt.length);
+    }
+
+    /// The seat knows of this log, too, and whether that is closed. Makes no load.
+    pub fn learn_known(&mut self, known: &KnownLog)
+        requires ring { known.now.ring ≡ self.old.ring }
+        ensures same { self.new ≡ record self.old { seen = self.new.seen; closed = self.new.closed } }
+        ensures own { SeesOn self.old.seen self.old.closed self.new.seen self.new.closed }
+        ensures told { SeesOn known.now.log known.now.closed self.new.seen self.new.closed }
+        ensures one { (self.new.seen ≡ self.old.seen) ⊎ (self.new.seen ≡ known.now.log) }
+    {
+        self.known = learn_told(&mut self.token, self.known, &known.told, known.length);
     }
 
     /// Both seats know of what either knew of. Makes no load.
