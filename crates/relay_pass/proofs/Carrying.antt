@@ -3,7 +3,6 @@ use Rattle.std.proofs.Common.{◌≡◌, ◌≢◌, ℕ, ◌+◌, ◌-◌, ◌%�
 use Rattle.std.specs.Prelude.{map}
 use Rattle.std.specs.List.{concat, flat_map}
 use Rattle.std.specs.Io.KnownBytes.{Appends, Consumes, IsAtEnd}
-use Rattle.std.proofs.lemmas.Bool.{cases_lt}
 use Rattle.std.proofs.lemmas.Grind.{flat_map-append}
 use Rattle.std.proofs.lemmas.List.Elements.{All-head, All-tail}
 use Rattle.std.proofs.lemmas.List.Folds.{concat-append}
@@ -39,7 +38,7 @@ use Rattle.relay_pass.specs.Passes.{PassesOn, Stops, WasWritten}
 use Rattle.relay_pass.specs.Publishes.{frames_of}
 use Rattle.relay_pass.specs.Takes.{FellBehind}
 use Rattle.relay_pass.proofs.Handing.{all-grew, one-grew}
-use Rattle.relay_pass.proofs.Settling.{none_behind, prefix-longer}
+use Rattle.relay_pass.proofs.Settling.{none_behind}
 
 -- no frame found the log without a number left
 abbrev pub NoneWorn : List Handling → Type 0
@@ -189,14 +188,8 @@ module _ {S : Type 0} (of_source : S → Option (List ℕ)) (failed : S → Bool
   its-cursor : cursor_of (account_of start its_answers) ≡ cursor_of seat'.account
   its-cursor = (let e : cursor_of seat'.account ≡ cursor_of (account_of start its_answers) = ap cursor_of h.went.account ∙ omega arith in sym e)
 
-  reaches-end : (end : StreamEnd) → report.stop ≡ Stream end → start ≡ length publisher.log → cursor_of seat'.account ≡ length publisher'.log
-  reaches-end end is at =
-      let stops = subst (Stops of_source failed new publisher publisher' seat seat') is h.stops in
-      let all = stops.1 in
-      elim (cases_lt (length publisher.log) (length publisher'.log)) [
-        | inl more ↦ stops.2 (inr more)
-        | inr not ↦ omega (arith, all, at, not, its-cursor, prefix-longer seat'.seen publisher'.log h.knows)
-      ]
+  reaches-end : (end : StreamEnd) → report.stop ≡ Stream end → cursor_of seat'.account ≡ length publisher'.log
+  reaches-end end is = (subst (Stops of_source failed new publisher' seat') is h.stops).1
 
   none-lost-yet : start ≡ length publisher.log → (report.came.published ≤ keep_of publisher.ring) ⊎ (report.went.lost ≡ 0) → losses start its_answers ≡ []
   none-lost-yet at kept = elim kept [
@@ -209,7 +202,7 @@ module _ {S : Type 0} (of_source : S → Option (List ℕ)) (failed : S → Bool
   all-received end is at kept =
       let cursor = cursor_of (account_of start its_answers) in
       let none = none-lost-yet at kept in
-      let there : cursor ≡ length (publisher.log ++ published hs) = its-cursor ∙ reaches-end end is at ∙ ap (λ (l : List Packet). length l) h.came.log in
+      let there : cursor ≡ length (publisher.log ++ published hs) = its-cursor ∙ reaches-end end is ∙ ap (λ (l : List Packet). length l) h.came.log in
       h.went.received.in_order ∙ ap (λ ls. without ls start (slice_range publisher'.log start cursor)) none ∙ without-none start (slice_range publisher'.log start cursor)
       ∙ ap (λ (l : List Packet). slice_range l start cursor) h.came.log ∙ range-of-end publisher.log (published hs) start cursor at there
 
@@ -248,7 +241,7 @@ pub all-relayed : {S : Type 0} (of_source : S → Option (List ℕ)) (failed : S
     → of_source source ≡ Some bytes → report.stop ≡ Stream stream.End → cursor_of seat.account ≡ length publisher.log → (report.came.published ≤ keep_of publisher.ring) ⊎ (report.went.lost ≡ 0) → length publisher'.log < 2 ^ 46
     → IsRelayed from to (packet_bytes_of publisher.ring) bytes before after
 all-relayed of_source failed from to source new publisher publisher' seat seat' before after report bytes h known is at kept short =
-    let stops = subst (Stops of_source failed new publisher publisher' seat seat') is h.stops in
+    let stops = subst (Stops of_source failed new publisher' seat') is h.stops in
     record {
       units = h.came.units;
       ending = new.reading;

@@ -17,7 +17,7 @@ use Rattle.relay_pass.specs.declared.report.PassStop.TheVariants as pass_stop
 use Rattle.relay_pass.specs.declared.report.StreamEnd.{StreamEnd}
 use Rattle.relay_pass.specs.Came.{HasEnded}
 use Rattle.relay_pass.specs.Counts.{stop_of}
-use Rattle.relay_pass.specs.Passes.{KnowsEnd, Stops, WasWritten, cut_packets}
+use Rattle.relay_pass.specs.Passes.{Stops, WasWritten, cut_packets}
 use Rattle.relay_pass.specs.Takes.{TakesMore}
 use Rattle.relay_pass.proofs.Takings.{cut_count}
 
@@ -48,14 +48,12 @@ pub record Finished {S : Type 0} (of_source : S → Option (List ℕ)) (failed :
   pub not_done : x ≢ out_stop.WriteFailed → x ≢ out_stop.Done
   pub not_ended : x ≢ out_stop.Ended
 
-pub stops-as : {S : Type 0} (of_source : S → Option (List ℕ)) (failed : S → Bool) (new : IntakeState S) (publisher publisher' : Publishing) (seat seat' : Subscribing) (end : StreamEnd) (x : OutStop)
-    → Finished of_source failed new seat' end x → (KnowsEnd publisher publisher' seat → seat'.seen ≡ publisher'.log)
-    → Stops of_source failed new publisher publisher' seat seat' (stop_of end x)
-stops-as of_source failed new publisher publisher' seat seat' end out_stop.Done h whole = absurd (h.not_done (λ e. cc) refl)
-stops-as of_source failed new publisher publisher' seat seat' end out_stop.Ended h whole = absurd (h.not_ended refl)
-stops-as of_source failed new publisher publisher' seat seat' end out_stop.WriteFailed h whole = tt
-stops-as of_source failed new publisher publisher' seat seat' end out_stop.Empty h whole =
-    (h.ended (λ e. cc), h.empty refl, λ knows. h.empty refl ∙ ap (λ (l : List Packet). length l) (whole knows))
+pub stops-as : {S : Type 0} (of_source : S → Option (List ℕ)) (failed : S → Bool) (new : IntakeState S) (publisher' : Publishing) (seat' : Subscribing) (end : StreamEnd) (x : OutStop)
+    → Finished of_source failed new seat' end x → seat'.seen ≡ publisher'.log → Stops of_source failed new publisher' seat' (stop_of end x)
+stops-as of_source failed new publisher' seat' end out_stop.Done h whole = absurd (h.not_done (λ e. cc) refl)
+stops-as of_source failed new publisher' seat' end out_stop.Ended h whole = absurd (h.not_ended refl)
+stops-as of_source failed new publisher' seat' end out_stop.WriteFailed h whole = tt
+stops-as of_source failed new publisher' seat' end out_stop.Empty h whole = (h.ended (λ e. cc), h.empty refl ∙ ap (λ (l : List Packet). length l) whole)
 
 -- ---- calls, one after another
 

@@ -1,13 +1,12 @@
 -- What is never counted, and a seat that keeps up.
-use Rattle.std.proofs.Common.{◌≡◌, ◌≢◌, ℕ, ◌+◌, ◌<◌, ◌≤◌, Bool, List, Option, length, length-append, refl, ap, ◌∙◌, arith, inl, inr}
+use Rattle.std.proofs.Common.{◌≡◌, ◌≢◌, ℕ, ◌+◌, ◌<◌, ◌≤◌, Bool, List, Option, length, length-append, refl, sym, ap, subst, ◌∙◌, arith, inl}
 use mathlib.Core.List.{IsPrefix}
-use Rattle.std.proofs.lemmas.Bool.{cases_lt}
 use Rattle.rtsp_message.specs.Intakes.{IntakeState}
 use Rattle.transport_header.specs.declared.spec.ChannelPair.{ChannelPair}
 use Rattle.cursor.specs.declared.packets.Packet.{Packet}
 use Rattle.cursor.specs.Account.{cursor_of}
 use Rattle.packet_ring.specs.Calls.{NeverPinned}
-use Rattle.packet_ring.specs.Views.{Publishing, Subscribing}
+use Rattle.packet_ring.specs.Views.{Publishing, RingId, Subscribing, keep_of}
 use Rattle.publisher.specs.Fates.{published}
 use Rattle.publisher.proofs.Incoming.{none_pinned, none_unkept}
 use Rattle.player.specs.declared.report.OutStop.{OutStop}
@@ -22,7 +21,7 @@ use Rattle.relay_pass.specs.Ring.{LearnsLog}
 use Rattle.relay_pass.specs.Takes.{TakesMore}
 use Rattle.relay_pass.proofs.Carrying.{published-count}
 use Rattle.relay_pass.proofs.Handing.{all-grew}
-use Rattle.relay_pass.proofs.Settling.{led-adds, led-takes, prefix-longer}
+use Rattle.relay_pass.proofs.Settling.{led-takes, prefix-longer, prefix-same}
 
 -- ---- what is never counted
 
@@ -36,24 +35,14 @@ never-unkept of_source from old new publisher publisher' report h = h.counts.unk
 
 -- ---- a seat that keeps up
 
--- A turn publishes at most n frames, no more than are kept: so none of them is lost.
-pub kept-few : (n keep : ℕ) (publisher publisher' : Publishing) (seat seat' : Subscribing) → cursor_of seat.account ≡ length publisher.log → length publisher'.log ≤ length publisher.log + n → n ≤ keep → seat'.account ≡ seat.account
-    → length publisher'.log ≤ cursor_of seat'.account + keep
-kept-few n keep publisher publisher' seat seat' at most few same =
-    let there : cursor_of seat'.account ≡ cursor_of seat.account = ap cursor_of same in
-    omega arith
-
 module _ (n m : ℕ) (publisher publisher' : Publishing) (seat mid seat' : Subscribing) (at : cursor_of seat.account ≡ length publisher.log) (most : length publisher'.log ≤ length publisher.log + n) (few : n ≤ m)
-    (same : mid.account ≡ seat.account) (whole : length publisher.log < length publisher'.log → mid.seen ≡ publisher'.log) (grows : IsPrefix mid.seen seat'.seen) (within : IsPrefix seat'.seen publisher'.log)
-    (on : cursor_of mid.account ≤ cursor_of seat'.account) (reach : cursor_of seat'.account ≤ length seat'.seen) where
+    (same : mid.account ≡ seat.account) (whole : mid.seen ≡ publisher'.log) (grows : IsPrefix mid.seen seat'.seen) (within : IsPrefix seat'.seen publisher'.log)
+    (reach : cursor_of seat'.account ≤ length seat'.seen) where
   there : cursor_of mid.account ≡ cursor_of seat.account
   there = ap cursor_of same
 
   empty-up : cursor_of seat'.account ≡ length seat'.seen → cursor_of seat'.account ≡ length publisher'.log
-  empty-up empty = elim (cases_lt (length publisher.log) (length publisher'.log)) [
-    | inl more ↦ omega (arith, empty, prefix-longer mid.seen seat'.seen grows, prefix-longer seat'.seen publisher'.log within, ap (λ (l : List Packet). length l) (whole more))
-    | inr not ↦ omega (arith, at, on, there, reach, not, prefix-longer seat'.seen publisher'.log within)
-  ]
+  empty-up empty = omega (arith, empty, prefix-longer mid.seen seat'.seen grows, prefix-longer seat'.seen publisher'.log within, ap (λ (l : List Packet). length l) whole)
 
   -- a turn that takes no less than it publishes, if the seat began at the log's end, leaves it there
   pub keeps-up : (x : OutStop) → x ≢ out_stop.WriteFailed → x ≢ out_stop.Ended → (x ≡ out_stop.Done → cursor_of mid.account + m ≤ cursor_of seat'.account) → (x ≡ out_stop.Empty → cursor_of seat'.account ≡ length seat'.seen)
@@ -66,14 +55,14 @@ module _ (n m : ℕ) (publisher publisher' : Publishing) (seat mid seat' : Subsc
 -- a turn of a seat that keeps up
 pub turn-kept-up : (to : List (Option ChannelPair)) (n m : ℕ) (publisher publisher' : Publishing) (seat mid seat' : Subscribing) (before after : Option (List ℕ)) (went went' : TakeCounts) (x : OutStop)
     → cursor_of seat.account ≡ length publisher.log → length publisher'.log ≤ length publisher.log + n → n ≤ m
-    → LearnsLog publisher.log publisher'.log seat mid → IsPrefix seat.seen publisher.log → TakesMore to mid seat' before after went went' x
+    → LearnsLog publisher.log publisher'.log seat mid → seat.seen ≡ publisher.log → TakesMore to mid seat' before after went went' x
     → IsPrefix seat'.seen publisher'.log → cursor_of seat'.account ≤ length seat'.seen
     → x ≢ out_stop.WriteFailed → x ≢ out_stop.Ended → (x ≡ out_stop.Done → cursor_of mid.account + m ≤ cursor_of seat'.account) → (x ≡ out_stop.Empty → cursor_of seat'.account ≡ length seat'.seen)
     → cursor_of seat'.account ≡ length publisher'.log
 turn-kept-up to n m publisher publisher' seat mid seat' before after went went' x at most few learned known took within reach =
     let led = led-takes mid took.answers seat' took.run in
-    keeps-up n m publisher publisher' seat mid seat' at most few (ap (λ (s : Subscribing). s.account) learned.learns.same) (λ more. learned.whole known (inr more)) led.grows within
-    (omega (arith, led-adds mid took.answers seat' led)) reach x
+    keeps-up n m publisher publisher' seat mid seat' at most few (ap (λ (s : Subscribing). s.account) learned.learns.same) (learned.whole (prefix-same seat.seen publisher.log known) (inl known)) led.grows within
+    reach x
 
 -- a seat that is fewer than n packets behind at the end has passed on all but fewer than n of the packets that were published
 pub passed-in-step : {S : Type 0} (of_source : S → Option (List ℕ)) (failed : S → Bool) (from to : List (Option ChannelPair)) (old new : IntakeState S) (publisher publisher' : Publishing) (seat seat' : Subscribing)
@@ -101,3 +90,15 @@ turn-ring of_source from old new publisher publisher' seat seat' came came' h = 
 pub turn-seat-ring : {S : Type 0} (of_source : S → Option (List ℕ)) (from : List (Option ChannelPair)) (old new : IntakeState S) (publisher publisher' : Publishing) (seat seat' : Subscribing) (came came' : FrameCounts)
     → Publishes of_source from old new publisher publisher' seat seat' came came' → seat'.ring ≡ seat.ring
 turn-seat-ring of_source from old new publisher publisher' seat seat' came came' h = learned-ring publisher.log publisher'.log seat seat' h.learns
+
+-- A turn publishes at most n packets, no more than are kept, to a seat that has taken all: so none of them is lost.
+kept-few : (n keep p p' c c' : ℕ) → c ≡ p → p' ≤ p + n → n ≤ keep → c' ≡ c → p' ≤ c' + keep
+kept-few n keep p p' c c' at most few there = omega arith
+
+pub turn-few : {S : Type 0} (of_source : S → Option (List ℕ)) (from : List (Option ChannelPair)) (old new : IntakeState S) (publisher publisher' : Publishing) (seat seat' : Subscribing) (came came' : FrameCounts)
+    → Publishes of_source from old new publisher publisher' seat seat' came came' → (ring : RingId) (n : ℕ) → publisher.ring ≡ ring → n ≤ keep_of ring → cursor_of seat.account ≡ length publisher.log
+    → length publisher'.log ≤ length publisher.log + n → length publisher'.log ≤ cursor_of seat'.account + keep_of publisher'.ring
+turn-few of_source from old new publisher publisher' seat seat' came came' h ring n same few at most =
+    let few_now = subst (λ z. n ≤ keep_of z) (sym (turn-ring of_source from old new publisher publisher' seat seat' came came' h ∙ same)) few in
+    kept-few n (keep_of publisher'.ring) (length publisher.log) (length publisher'.log) (cursor_of seat.account) (cursor_of seat'.account) at most few_now
+    (ap cursor_of (learned-account publisher.log publisher'.log seat seat' h.learns))

@@ -16,7 +16,7 @@ use Rattle.publisher.specs.declared.fate.Fate.{Fate}
 use Rattle.publisher.specs.declared.fate.Fate.TheVariants as fate
 use Rattle.publisher.specs.FramesIn.{Meets}
 use Rattle.relay_pass.specs.Ring.{LearnsLog}
-use Rattle.relay_pass.proofs.Settling.{prefix-longer, prefix-refl, prefix-trans}
+use Rattle.relay_pass.proofs.Settling.{prefix-longer, prefix-refl, prefix-trans, prefix-whole}
 
 pub learns-none : (log log' : List Packet) (seat seat' : Subscribing) → log' ≡ log → seat' ≡ seat → LearnsLog log log' seat seat'
 learns-none log log' seat seat' same same_seat =
@@ -66,6 +66,13 @@ learns-more log packet new_log seat seat' grew learns told one =
       within = λ within. subst (λ (l : List Packet). IsPrefix l new_log) (sym (all within)) (prefix-refl new_log);
       whole = λ within knows. all within;
     }
+
+-- a seat that was told of a log, of which it knew a beginning, knows the whole log
+pub told-whole : (log : List Packet) (seat seat' : Subscribing) → IsPrefix seat.seen log → SeesOn log false seat'.seen seat'.closed → ((seat'.seen ≡ seat.seen) ⊎ (seat'.seen ≡ log)) → seat'.seen ≡ log
+told-whole log seat seat' within told one = elim one [
+  | inl same ↦ prefix-whole seat'.seen log (subst (λ (l : List Packet). IsPrefix l log) (sym same) within) (prefix-longer log seat'.seen told.grows)
+  | inr whole ↦ whole
+]
 
 learns-refused : (publisher publisher' : Publishing) (packet : Packet) (refusal : Refusal) → Refuses publisher packet refusal publisher' → publisher'.log ≡ publisher.log
 learns-refused publisher publisher' packet refused.TooLong h = ap (λ (p : Publishing). p.log) h.1

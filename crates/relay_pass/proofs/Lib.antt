@@ -6,3 +6,4 @@ pub mod Endings
 pub mod Passed
 pub mod KeepingUp
 pub mod Carrying
+pub mod Turns

@@ -2,7 +2,6 @@
 use Rattle.std.proofs.Common.{◌≡◌, ◌≢◌, ℕ, ◌+◌, ◌≤◌, Bool, List, [], ◌∷◌, ◌++◌, Option, length, refl, sym, ap, subst, ◌∙◌, arith, append-nil, inl, inr}
 use mathlib.Core.List.{IsPrefix}
 use Rattle.std.proofs.KnownBytes.{Appends-nil}
-use Rattle.std.proofs.lemmas.Bool.{cases_lt}
 use Rattle.std.proofs.lemmas.List.{map-append}
 use Rattle.interleaved.specs.declared.frame.Frame.{Frame}
 use Rattle.rtsp_message.specs.declared.unit.Unit.{Unit as StreamUnit}
@@ -13,7 +12,7 @@ use Rattle.cursor.specs.declared.takes.Delivery.{Delivery}
 use Rattle.cursor.specs.Account.{cursor_of, losses, lost, with_answers}
 use Rattle.cursor.specs.Player.{ReceivedFrom}
 use Rattle.cursor.proofs.Counted.{lost-append}
-use Rattle.packet_ring.specs.Players.{DoesCalls, SubscriberCall, answers_of, learns}
+use Rattle.packet_ring.specs.Players.{DoesCalls, Learns, SubscriberCall, answers_of, learns}
 use Rattle.packet_ring.specs.Views.{Publishing, Subscribing, keep_of}
 use Rattle.publisher.specs.Fates.{AreCounted, Handling}
 use Rattle.player.specs.declared.report.OutStop.{OutStop}
@@ -25,18 +24,17 @@ use Rattle.relay_pass.specs.declared.report.PassReport.{PassReport}
 use Rattle.relay_pass.specs.declared.report.StreamEnd.{StreamEnd}
 use Rattle.relay_pass.specs.Came.{frames_among}
 use Rattle.relay_pass.specs.Counts.{counted_takes, counts_of, stop_of}
-use Rattle.relay_pass.specs.Passes.{KnowsEnd, PassesOn, WasWritten, cut_packets}
+use Rattle.relay_pass.specs.Passes.{PassesOn, WasWritten, cut_packets}
 use Rattle.relay_pass.specs.Publishes.{MeetFates, Publishes, frames_of}
-use Rattle.relay_pass.specs.Ring.{LearnsLog}
 use Rattle.relay_pass.specs.Takes.{FellBehind, TakesMore}
 use Rattle.relay_pass.proofs.Endings.{Finished, answers-append, asked-of, calls-append, calls_of, cut-as, stops-as, takes-calls, went-whole, written-as}
 use Rattle.relay_pass.proofs.Handing.{Handed, all-grew, met-append, met-none, frames-append, handed-more}
-use Rattle.relay_pass.proofs.Settling.{Led, led-adds, led-join, led-quiet, led-takes, prefix-longer, prefix-refl, prefix-whole, settled-received}
+use Rattle.relay_pass.proofs.Settling.{Led, led-adds, led-join, led-quiet, led-takes, prefix-longer, prefix-same, prefix-whole, settled-received}
 use Rattle.relay_pass.proofs.Takings.{frames-count, frames_out-append, goes-append, sent-count, skipped_of-append}
 
 -- a seat that learned was given no answer
-pub led-learned : (old_log new_log : List Packet) (old new : Subscribing) → LearnsLog old_log new_log old new → Led old [] new
-led-learned old_log new_log old new h = led-quiet old new (ap (λ (s : Subscribing). s.ring) h.learns.same) (ap (λ (s : Subscribing). s.account) h.learns.same) h.learns.sees.grows
+pub led-learned : (old new : Subscribing) → Learns old new → Led old [] new
+led-learned old new h = led-quiet old new (ap (λ (s : Subscribing). s.ring) h.same) (ap (λ (s : Subscribing). s.account) h.same) h.sees.grows
 
 -- ---- so far
 
@@ -57,29 +55,28 @@ module _ {S : Type 0} (of_source : S → Option (List ℕ)) (failed : S → Bool
     pub out : WentOut (frames_out to answers) went.sent went.cut before after
     pub skipped : went.skipped ≡ skipped_of to answers
     pub lost_is : went.lost ≡ lost answers
-    pub within : IsPrefix seat'.seen publisher'.log
-    pub whole : KnowsEnd publisher publisher' seat → seat'.seen ≡ publisher'.log
+    pub whole : seat'.seen ≡ publisher'.log
 
-  pub none-passed : (old : IntakeState S) (publisher : Publishing) (seat : Subscribing) (before : Option (List ℕ)) (came : FrameCounts) (went : TakeCounts)
-      → AreCounted [] (counts_of came) → went ≡ record { sent = 0; skipped = 0; lost = 0; cut = 0 } → IsPrefix seat.seen publisher.log
-      → Passed old old publisher publisher seat seat before before came went
-  none-passed old publisher seat before came went counts none within = record {
+  -- only the seat has learned of the log
+  pub none-passed : (old : IntakeState S) (publisher : Publishing) (seat seat' : Subscribing) (before : Option (List ℕ)) (came : FrameCounts) (went : TakeCounts)
+      → AreCounted [] (counts_of came) → went ≡ record { sent = 0; skipped = 0; lost = 0; cut = 0 } → Learns seat seat' → seat'.seen ≡ publisher.log
+      → Passed old old publisher publisher seat seat' before before came went
+  none-passed old publisher seat seat' before came went counts none learned whole = record {
     units = [];
     handed = inl (refl, refl);
     handlings = [];
     frames = refl;
     met = met-none from publisher;
     counts = counts;
-    calls = [];
-    does = refl;
+    calls = learns ∷ [];
+    does = (seat', learned, refl);
     answers = [];
     asked = refl;
-    led = led-quiet seat seat refl refl (prefix-refl seat.seen);
+    led = led-learned seat seat' learned;
     out = record { all_sent = ap (λ (t : TakeCounts). t.sent) none; none_cut = ap (λ (t : TakeCounts). t.cut) none; bytes = Appends-nil before };
     skipped = ap (λ (t : TakeCounts). t.skipped) none;
     lost_is = ap (λ (t : TakeCounts). t.lost) none;
-    within = within;
-    whole = λ knows. elim knows [ inl all ↦ all | inr more ↦ absurd (omega (arith, more)) ];
+    whole = whole;
   }
 
   -- a turn's frames
@@ -99,25 +96,17 @@ module _ {S : Type 0} (of_source : S → Option (List ℕ)) (failed : S → Bool
     does = calls-append seat so.calls mid_seat (learns ∷ []) seat' so.does (seat', h.learns.learns, refl);
     answers = so.answers;
     asked = answers-append so.calls (learns ∷ []) ∙ append-nil (answers_of so.calls) ∙ so.asked;
-    led = subst (λ (ds : List Delivery). Led seat ds seat') (append-nil so.answers) (led-join seat so.answers mid_seat [] seat' so.led (led-learned mid.log publisher'.log mid_seat seat' h.learns));
+    led = subst (λ (ds : List Delivery). Led seat ds seat') (append-nil so.answers) (led-join seat so.answers mid_seat [] seat' so.led (led-learned mid_seat seat' h.learns.learns));
     out = so.out;
     skipped = so.skipped;
     lost_is = so.lost_is;
-    within = h.learns.within so.within;
-    whole = λ knows. h.learns.whole so.within (elim knows [
-      | inl all ↦ inl (so.whole (inl all))
-      | inr more ↦ elim (cases_lt (length publisher.log) (length mid.log)) [
-        | inl first ↦ inl (so.whole (inr first))
-        | inr not ↦ inr (omega (arith, more, not))
-      ]
-    ]);
+    whole = h.learns.whole (prefix-same mid_seat.seen mid.log so.whole) (inl so.whole);
   }
 
-  -- what a seat knew of the whole log it still does after more takes
-  pub still-whole : (publisher publisher' : Publishing) (seat mid_seat seat' : Subscribing) → IsPrefix mid_seat.seen seat'.seen → IsPrefix seat'.seen publisher'.log
-      → (KnowsEnd publisher publisher' seat → mid_seat.seen ≡ publisher'.log) → KnowsEnd publisher publisher' seat → seat'.seen ≡ publisher'.log
-  still-whole publisher publisher' seat mid_seat seat' grows within whole knows =
-      prefix-whole seat'.seen publisher'.log within (omega (arith, prefix-longer mid_seat.seen seat'.seen grows, ap (λ (l : List Packet). length l) (whole knows)))
+  -- a seat that knew the whole log still does after more takes
+  still-whole : (log : List Packet) (mid_seat seat' : Subscribing) → IsPrefix mid_seat.seen seat'.seen → IsPrefix seat'.seen log → mid_seat.seen ≡ log → seat'.seen ≡ log
+  still-whole log mid_seat seat' grows within whole =
+      prefix-whole seat'.seen log within (omega (arith, prefix-longer mid_seat.seen seat'.seen grows, ap (λ (l : List Packet). length l) whole))
 
   module _ (old new : IntakeState S) (publisher publisher' : Publishing) (seat mid_seat seat' : Subscribing) (before between after : Option (List ℕ)) (came : FrameCounts) (went went' : TakeCounts) (x : OutStop)
       (so : Passed old new publisher publisher' seat mid_seat before between came went) (h : TakesMore to mid_seat seat' between after went went' x) (within : IsPrefix seat'.seen publisher'.log) where
@@ -148,8 +137,8 @@ module _ {S : Type 0} (of_source : S → Option (List ℕ)) (failed : S → Bool
     all-lost : went'.lost ≡ lost all_answers
     all-lost = let first = so.lost_is in let second = h.lost in omega (arith, first, second, lost-append so.answers h.answers)
 
-    its-whole : KnowsEnd publisher publisher' seat → seat'.seen ≡ publisher'.log
-    its-whole = still-whole publisher publisher' seat mid_seat seat' (led-takes mid_seat h.answers seat' h.run).grows within so.whole
+    its-whole : seat'.seen ≡ publisher'.log
+    its-whole = still-whole publisher'.log mid_seat seat' (led-takes mid_seat h.answers seat' h.run).grows within so.whole
 
     -- a turn's takes
     pub passed-takes : x ≢ out_stop.WriteFailed → Passed old new publisher publisher' seat seat' before after came went'
@@ -168,7 +157,6 @@ module _ {S : Type 0} (of_source : S → Option (List ℕ)) (failed : S → Bool
       out = went-whole x (frames_out to all_answers) went'.sent went'.cut before after ok all-out;
       skipped = all-skipped;
       lost_is = all-lost;
-      within = within;
       whole = its-whole;
     }
 
@@ -201,8 +189,8 @@ module _ {S : Type 0} (of_source : S → Option (List ℕ)) (failed : S → Bool
             lost = subst (λ (ds : List Delivery). went'.lost ≡ lost ds) (sym all-asked) all-lost;
             adds_up = its-adds end;
           };
-          knows = within;
-          stops = stops-as of_source failed new publisher publisher' seat seat' end x finished its-whole;
+          knows = its-whole;
+          stops = stops-as of_source failed new publisher' seat' end x finished its-whole;
           ring = grew.ring;
           seat_ring = all-led.ring;
         })

@@ -23,6 +23,9 @@ module _ {A : Type 0} where
   pub prefix-refl : (xs : List A) → IsPrefix xs xs
   prefix-refl xs = ([], append-nil xs)
 
+  pub prefix-same : (xs ys : List A) → xs ≡ ys → IsPrefix xs ys
+  prefix-same xs ys same = ([], append-nil xs ∙ same)
+
   pub prefix-trans : (xs ys zs : List A) → IsPrefix xs ys → IsPrefix ys zs → IsPrefix xs zs
   prefix-trans xs ys zs p q = (p.0 ++ q.0, sym (append_assoc xs p.0 q.0) ∙ ap (λ (l : List A). l ++ q.0) p.1 ∙ q.1)
 

@@ -1,6 +1,5 @@
 -- What a pass does: bytes in, bytes out.
-use Rattle.std.specs.Prelude.{◌≡◌, ℕ, ◌+◌, ◌<◌, ◌⊎◌, Bool, List, [], ◌++◌, Option, length}
-use mathlib.Core.List.{IsPrefix}
+use Rattle.std.specs.Prelude.{◌≡◌, ℕ, ◌+◌, Bool, List, [], ◌++◌, Option, length}
 use Rattle.rtsp_message.specs.declared.unit.Unit.{Unit as StreamUnit}
 use Rattle.rtsp_message.specs.Intakes.{IntakeState, HandsOut}
 use Rattle.transport_header.specs.declared.spec.ChannelPair.{ChannelPair}
@@ -41,9 +40,9 @@ abbrev pub cut_packets : PassStop → ℕ
 cut_packets (stop.Stream end) = 0
 cut_packets stop.WriteFailed = 1
 
--- What went out: by these calls, takes with what was learned between them, the seat received the log from its cursor on,
--- less exactly its losses. Each loss is of packets that the ring no longer kept. What was written is the frames of what it
--- received.
+-- What went out: by these calls, takes with what was learned before and between them, the seat received the log from its
+-- cursor on, less exactly its losses. Each loss is of packets that the ring no longer kept. What was written is the frames
+-- of what it received.
 pub record WentOn (to : List (Option ChannelPair)) (publisher' : Publishing) (seat seat' : Subscribing) (before after : Option (List ℕ)) (report : PassReport) : Type 0 where
   pub calls : List SubscriberCall
   pub does : DoesCalls seat calls seat'
@@ -55,17 +54,10 @@ pub record WentOn (to : List (Option ChannelPair)) (publisher' : Publishing) (se
   pub lost : report.went.lost ≡ lost (answers_of calls)
   pub adds_up : cursor_of seat'.account ≡ cursor_of seat.account + counted_takes report.went + cut_packets report.stop
 
--- the seat knew the whole log, or the log has grown since
-abbrev pub KnowsEnd : (publisher publisher' : Publishing) → (seat : Subscribing) → Type 0
-KnowsEnd publisher publisher' seat = (seat.seen ≡ publisher.log) ⊎ (length publisher.log < length publisher'.log)
-
--- Why it has stopped. Unless a write failed, the stream has ended, and the seat has taken all that it knows of, which is
--- the whole log if it knew the log's end.
-abbrev pub Stops : {S : Type 0} → (of_source : S → Option (List ℕ)) → (failed : S → Bool) → (new : IntakeState S) → (publisher publisher' : Publishing) → (seat seat' : Subscribing) → PassStop → Type 0
-Stops of_source failed new publisher publisher' seat seat' (stop.Stream end) =
-    HasEnded of_source failed new end × (cursor_of seat'.account ≡ length seat'.seen)
-    × (KnowsEnd publisher publisher' seat → cursor_of seat'.account ≡ length publisher'.log)
-Stops of_source failed new publisher publisher' seat seat' stop.WriteFailed = Unit {0}
+-- Why it has stopped. Unless a write failed, the stream has ended, and the seat has taken the whole log.
+abbrev pub Stops : {S : Type 0} → (of_source : S → Option (List ℕ)) → (failed : S → Bool) → (new : IntakeState S) → (publisher' : Publishing) → (seat' : Subscribing) → PassStop → Type 0
+Stops of_source failed new publisher' seat' (stop.Stream end) = HasEnded of_source failed new end × (cursor_of seat'.account ≡ length publisher'.log)
+Stops of_source failed new publisher' seat' stop.WriteFailed = Unit {0}
 
 -- What a pass does. The frames of the stream go to the ring, and what the ring's one seat takes from it goes to the writer,
 -- until the stream ends or a write fails.
@@ -73,8 +65,8 @@ pub record PassesOn {S : Type 0} (of_source : S → Option (List ℕ)) (failed :
     (publisher publisher' : Publishing) (seat seat' : Subscribing) (before after : Option (List ℕ)) (report : PassReport) : Type 0 where
   pub came : CameIn of_source from old new publisher publisher' report
   pub went : WentOn to publisher' seat seat' before after report
-  pub knows : IsPrefix seat'.seen publisher'.log
-  pub stops : Stops of_source failed new publisher publisher' seat seat' report.stop
+  pub knows : seat'.seen ≡ publisher'.log
+  pub stops : Stops of_source failed new publisher' seat' report.stop
   pub ring : publisher'.ring ≡ publisher.ring
   pub seat_ring : seat'.ring ≡ seat.ring
 

@@ -1,6 +1,7 @@
 //! What the ring's seat knows of the log.
 ghost use Rattle.std.specs.Prelude.{◌≡◌, false};
 ghost use mathlib.Core.List.{IsPrefix};
+ghost use Rattle.packet_ring.specs.Players.{Learns};
 
 use packet_ring::{Publisher, Subscriber};
 
@@ -14,4 +15,16 @@ pub(crate) fn knows_published(publisher: &mut Publisher, seat: &mut Subscriber)
 {
     let known = seat.known_log();
     publisher.has_published(&known);
+}
+
+/// Tells the seat of all that was published, so that it knows the whole log.
+pub(crate) fn learn_published(publisher: &mut Publisher, seat: &mut Subscriber)
+    requires { seat.old.ring ≡ publisher.old.ring }
+    ensures learns { Learns seat.old seat.new }
+    ensures whole { seat.new.seen ≡ publisher.new.log }
+    ensures same { publisher.new ≡ publisher.old }
+{
+    knows_published(publisher, seat);
+    let known = publisher.known_log();
+    seat.learn_known(&known);
 }

@@ -1,5 +1,5 @@
 //! A pass over a ring of its own.
-ghost use Rattle.std.specs.Prelude.{◌≡◌, ◌≢◌, ◌+◌, ◌<◌, ◌≤◌, true, IfOk, OnErr};
+ghost use Rattle.std.specs.Prelude.{◌≡◌, ◌≢◌, ◌+◌, ◌*◌, ◌<◌, ◌≤◌, true, IfOk, OnErr};
 ghost use Rattle.relay_pass.specs.Counts.{counted_takes};
 ghost use Rattle.relay_pass.specs.Passes.{PassesNew, cut_packets};
 
@@ -29,6 +29,7 @@ pub fn pass_over_new_ring<S: Source + Drop, W: Sink>(
     ensures passes { IfOk result (λ report. PassesNew S.incoming S.failed size.keep size.packet_bytes from.now to.now intake.old intake.new (W.written writer.old) (W.written writer.new) report) }
     ensures kept_up { IfOk result (λ report. pace.frames ≤ size.keep → pace.frames ≤ pace.takes → report.went.lost ≡ 0) }
     ensures in_step { IfOk result (λ report. pace.frames ≤ pace.takes → report.came.published < counted_takes report.went + cut_packets report.stop + pace.frames) }
+    ensures in_turns { IfOk result (λ report. pace.takes ≤ pace.frames → pace.takes * report.came.published ≤ pace.frames * (counted_takes report.went + cut_packets report.stop + pace.takes)) }
     ensures failed { IfOk result (λ report. report.stop ≡ PassStop.WriteFailed → W.failed writer.new ≡ true) }
     ensures works { IfOk result (λ report. report.stop ≢ PassStop.WriteFailed → W.failed writer.new ≡ W.failed writer.old) }
     ensures refused { OnErr result ((intake.new ≡ intake.old) × (writer.new ≡ writer.old)) }

@@ -1,10 +1,11 @@
 //! A pass: from a publisher's stream over a ring to a player.
-ghost use Rattle.std.specs.Prelude.{◌≡◌, ◌≢◌, ◌+◌, ◌<◌, ◌≤◌, true, length};
+ghost use Rattle.std.specs.Prelude.{◌≡◌, ◌≢◌, ◌+◌, ◌*◌, ◌<◌, ◌≤◌, true, length};
 ghost use Rattle.cursor.specs.Account.{cursor_of};
 ghost use Rattle.packet_ring.specs.Views.{keep_of, seats_of};
-ghost use Rattle.relay_pass.specs.Passes.{PassesOn};
+ghost use Rattle.relay_pass.specs.Counts.{counted_takes};
+ghost use Rattle.relay_pass.specs.Passes.{PassesOn, cut_packets};
 
-use crate::known::knows_published;
+use crate::known::learn_published;
 use crate::pace::Pace;
 use crate::publishing::publish_turn;
 use crate::report::{FrameCounts, PassReport, PassStop, TakeCounts};
@@ -19,11 +20,14 @@ use transport_header::TrackChannels;
 /// stream ends or a write fails. Messages are skipped.
 ///
 /// `from` has the channels of the tracks that come in, `to` those on which they go out. A turn publishes at most
-/// `pace.frames` frames and then makes at most `pace.takes` takes. When the stream has ended, the seat takes until it has
-/// all. After a failed write nothing more is read.
+/// `pace.frames` frames and then makes at most `pace.takes` takes. The seat learns first what was published before, and when
+/// the stream has ended it takes until it has the whole log. After a failed write nothing more is read.
 ///
 /// Nothing is lost if a turn publishes no more than the ring keeps, takes no less than it publishes, and the seat begins at
 /// the log's end.
+///
+/// If a turn takes no more than it publishes and the seat doesn't begin past the log's end, then at most `pace.frames`
+/// packets are published for each `pace.takes` that the seat takes or loses, and `pace.frames` more, also if a write fails.
 pub fn pass<S: Source + Drop, W: Sink>(
     intake: &mut Intake<S>,
     publisher: &mut Publisher,
@@ -41,12 +45,13 @@ pub fn pass<S: Source + Drop, W: Sink>(
     ensures never_unkept { result.came.unkept ≡ 0 }
     ensures kept_up { pace.frames ≤ keep_of publisher.old.ring → pace.frames ≤ pace.takes → cursor_of seat.old.account ≡ length publisher.old.log → result.went.lost ≡ 0 }
     ensures in_step { pace.frames ≤ pace.takes → cursor_of seat.old.account ≡ length publisher.old.log → length publisher.new.log < cursor_of seat.new.account + pace.frames }
+    ensures in_turns { pace.takes ≤ pace.frames → cursor_of seat.old.account ≤ length publisher.old.log → pace.takes * result.came.published ≤ pace.frames * (counted_takes result.went + cut_packets result.stop + pace.takes) }
     ensures failed { result.stop ≡ PassStop.WriteFailed → W.failed writer.new ≡ true }
     ensures works { result.stop ≢ PassStop.WriteFailed → W.failed writer.new ≡ W.failed writer.old }
 {
     // No more frames than this can come, so no count overflows.
     let _most = intake.left();
-    knows_published(publisher, seat);
+    learn_published(publisher, seat);
     let mut came = FrameCounts::new();
     let mut went = TakeCounts::new();
     loop {

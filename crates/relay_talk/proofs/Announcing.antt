@@ -17,9 +17,10 @@ use Rattle.session_state.specs.History.{History}
 use Rattle.session_state.specs.Legal.{IsAnswered, IsExpiry, IsReplyOf}
 use Rattle.session_state.specs.Methods.{method_of}
 use Rattle.session_state.specs.Replies.{IsAccepted, IsPlayAct, pause_act, record_act, stop_in, teardown_act}
-use Rattle.packet_ring.specs.Views.{Publishing}
+use Rattle.packet_ring.specs.Views.{Passing, Publishing}
 use Rattle.relay_talk.specs.Exchange.{IsExpired, IsSettled, heard_at}
 use Rattle.relay_talk.specs.Publishing.{ActsOn, ExpiresPublishing, IsNewRing, publishing_after}
+use Rattle.relay_talk.specs.Seat.{SeatAfterExpiry, seat_after}
 
 abbrev opens : Act → Bool
 opens acts.Open = true
@@ -109,6 +110,11 @@ module _ (seats : ℕ) (history : History) (last : Option ℕ) (heard now : ℕ)
         subst (λ (s : ℕ). IsExpiry s history 1 heard now act) one expiry,
         acts_on act None old new (λ begins. absurd (expiry_opens_none seats history 1 heard now act expiry begins)) after,
       ))
+
+  -- the seat that it played from
+  pub has_left : (act : Act) (old new : Option Passing) → IsExpiry seats history 1 heard now act → new ≡ seat_after act None old → SeatAfterExpiry history (heard_at last now) now old new
+  has_left act old new expiry after =
+      subst (λ (h : ℕ). SeatAfterExpiry history h now old new) is (inl (act, subst (λ (s : ℕ). IsExpiry s history 1 heard now act) one expiry, after))
 
   module _ (none : (act : Act) → IsExpiry seats history 1 heard now act → ⊥) where
     -- none that has expired

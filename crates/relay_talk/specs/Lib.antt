@@ -1,5 +1,6 @@
 pub mod SessionWords
 pub mod Exchange
 pub mod Publishing
+pub mod Seat
 pub mod Talk
 pub mod Taking

@@ -64,12 +64,6 @@ publishing_after acts.Open offered now = offered
 publishing_after acts.End offered now = None
 publishing_after act offered now = now
 
--- the pass that is kept after an act: what was handed out for the seat that it took, and none once the seat is left
-abbrev pub seat_after : {P : Type 0} → Act → (handed now : Option P) → Option P
-seat_after (acts.Play mount seat) handed now = handed
-seat_after (acts.Stop mount seat) handed now = None
-seat_after act handed now = now
-
 -- what an act does to what is published: a mount begins with a new ring, and its end ends that
 abbrev pub ActsOn : Act → (old new : Option Publishing) → Type 0
 ActsOn acts.Open old new = IsSomeAnd new IsNewRing

@@ -10,7 +10,8 @@ ghost use Rattle.session_lock.specs.Books.{IsOffer};
 ghost use Rattle.publisher.specs.Fates.{total};
 ghost use Rattle.publisher.specs.FramesIn.{answer_of};
 ghost use Rattle.relay_talk.specs.Exchange.{IsAnswer, IsAnswered, IsExpired, IsLeft, IsSettled, busy, given_with, heard_at, opening};
-ghost use Rattle.relay_talk.specs.Publishing.{AnswersPublishing, DoesPublishing, ExpiresPublishing, Fetches, IsNewRing, IsRecording, PublishesFrames, publishing_after, seat_after};
+ghost use Rattle.relay_talk.specs.Publishing.{AnswersPublishing, DoesPublishing, ExpiresPublishing, Fetches, IsNewRing, IsRecording, PublishesFrames, publishing_after};
+ghost use Rattle.relay_talk.specs.Seat.{PassGoesBack, SeatAfterAnswer, SeatAfterExpiry, SeatAfterReply, seat_after};
 ghost use Rattle.relay_talk.specs.Taking.{TakesStretch};
 
 use base_syntax::Items;
@@ -118,6 +119,7 @@ impl Talker {
         requires open { is_open 1 self.old.book.history ≡ true }
         ensures expired { IsExpired self.old.book.history (heard_at self.old.heard now) now self.new.book.history }
         ensures publishing { ExpiresPublishing self.old.book.history (heard_at self.old.heard now) now self.old.publishing self.new.publishing }
+        ensures seat { SeatAfterExpiry self.old.book.history (heard_at self.old.heard now) now self.old.seat self.new.seat }
         ensures heard { self.new.heard ≡ Some now }
         ensures open { is_open 1 self.new.book.history ≡ true }
         ensures kept { self.new.book.seats ≡ 1 }
@@ -138,6 +140,7 @@ impl Talker {
         ensures text { IfSome result (λ text. IsAnswer self.old.book.history request.now (given_with word now) self.new.book.history text.items) }
         ensures refused { IfNone result (IsAnswer self.old.book.history request.now (given_with word now) self.new.book.history (busy request.now)) }
         ensures publishing { AnswersPublishing self.old.book.history request.now (given_with word now) self.new.book.history self.old.publishing self.new.publishing }
+        ensures seat { SeatAfterAnswer self.old.book request.now (given_with word now) self.new.book.history self.old.seat self.new.seat }
         ensures kept { self.new.book.seats ≡ 1 }
         ensures heard { self.new.heard ≡ self.old.heard }
     {
@@ -151,6 +154,7 @@ impl Talker {
         requires open { is_open 1 self.old.book.history ≡ true }
         ensures reply { IfSome result (IsAnswered self.old.book.history request.now (given_with word now) self.new.book.history) }
         ensures publishing { IfSome result (λ reply. DoesPublishing self.old.book.history request.now (given_with word now) reply self.old.publishing self.new.publishing) }
+        ensures seat { IfSome result (λ reply. SeatAfterReply self.old.book request.now (given_with word now) self.new.book.history reply self.old.seat self.new.seat) }
         ensures refused { IfNone result (self.new ≡ self.old) }
         ensures kept { self.new.book.seats ≡ 1 }
         ensures heard { self.new.heard ≡ self.old.heard }
@@ -184,6 +188,7 @@ impl Talker {
         ensures seats { self.new.book.seats ≡ self.old.book.seats }
         ensures publishing { self.new.publishing ≡ publishing_after act feed self.old.publishing }
         ensures seat { self.new.seat ≡ seat_after act (option_flatten pass) self.old.seat }
+        ensures back { PassGoesBack act self.old.seat self.old.book self.new.book }
         ensures heard { self.new.heard ≡ self.old.heard }
     {
         match act {

@@ -1,5 +1,5 @@
 //! What comes in between a connection's requests.
-ghost use Rattle.std.specs.Prelude.{◌≡◌, true, IfSome, IsSomeAnd, option_map};
+ghost use Rattle.std.specs.Prelude.{◌≡◌, true, None, IfSome, IfNone, IsSomeAnd, option_map};
 ghost use Rattle.pacing.specs.Insisting.{PublishesAtLast};
 ghost use Rattle.relay_accounts.specs.Incoming.{DropsFrames, PublishesFrames};
 
@@ -27,10 +27,13 @@ where
     H: HangUp + Drop + Send + Sync + 'static,
     N: Moments + Drop,
 {
-    /// Returns the next request. Frames before it are published if the session records, else dropped.
+    /// Returns the next request. Frames before it are published if the session records and there is a feed. If not, they are
+    /// dropped and counted as strangers. Only the feed and the counts of the connection change.
     pub(super) fn next_message<S: Source + Drop>(&mut self, intake: &mut Intake<S>) -> InStop
         ensures published { IfSome self.old.session (λ session. session.is_recording ≡ true → IfSome self.old.publishing (λ p. PublishesFrames S.incoming S.failed (PublishesAtLast M.In.publish_gives) (λ f. M.In.told f.feed) session.channels (M.In.packet_bytes p.feed.feed) M.In.may_refuse intake.old intake.new p.feed (option_map (λ q. q.feed) self.new.publishing) self.old.counts self.new.counts result)) }
         ensures dropped { (IsSomeAnd self.old.session (λ session. session.is_recording ≡ true) → ⊥) → (self.new.publishing ≡ self.old.publishing) × DropsFrames S.incoming S.failed intake.old intake.new self.old.counts self.new.counts result }
+        ensures no_feed { IfNone self.old.publishing ((self.new.publishing ≡ None) × DropsFrames S.incoming S.failed intake.old intake.new self.old.counts self.new.counts result) }
+        ensures same { self.new ≡ record self.old { publishing = self.new.publishing; counts = self.new.counts } }
     {
         match (&mut self.publishing, &self.session) {
             (Some(publishing), Some(session)) if session.is_recording => {

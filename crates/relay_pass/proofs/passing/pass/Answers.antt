@@ -1,5 +1,5 @@
-use Rattle.std.proofs.Common.{◌∷◌, [], length, length-append, ◌≤◌, refl, sym, ap, subst, ◌∙◌, arith}
-use Rattle.packet_ring.specs.Views.{Publishing, Subscribing, keep_of}
+use Rattle.std.proofs.Common.{◌∷◌, [], length, length-append, refl, sym, ap, ◌∙◌, arith}
+use Rattle.packet_ring.specs.Views.{Publishing, Subscribing}
 use Rattle.player.specs.declared.report.OutStop.TheVariants as out_stop
 use Rattle.relay_pass.specs.declared.report.TakeCounts.{TakeCounts}
 use Rattle.relay_pass.specs.declared.report.PassReport.{PassReport}
@@ -8,25 +8,30 @@ use Rattle.relay_pass.specs.declared.report.StreamEnd.TheVariants as stream
 use Rattle.relay_pass.specs.Counts.{stop_of}
 use Rattle.relay_pass.proofs.Handing.{all-grew}
 use Rattle.relay_pass.proofs.Endings.{Finished, finished-failed, stop-failed, takes-went-on, uncut-on}
-use Rattle.relay_pass.proofs.KeepingUp.{all-kept, kept-few, learned-account, never-pinned, never-unkept, turn-kept-up, turn-ring, turn-seat-ring}
+use Rattle.relay_pass.proofs.KeepingUp.{all-kept, learned-account, never-pinned, never-unkept, turn-few, turn-kept-up, turn-ring, turn-seat-ring}
 use Rattle.relay_pass.proofs.Passed.{none-passed, passed-frames, passed-takes, turn-passes}
 use Rattle.relay_pass.proofs.Settling.{led-adds, led-on, led-takes}
+use Rattle.relay_pass.proofs.Turns.{none-in-turns, passed-grew, passed-in-turns, turn-in-turns}
 use Rattle.cursor.specs.Account.{cursor_of}
 use Rattle.relay_pass.proofs.Takings.{frames-count, takes-more}
 use Rattle.relay_pass.proofs.passing.pass.Goals as goal
 
 pub loop-came-init : goal.loop-came-init
 loop-came-init g c =
-    rw (c.knows_published.ensures.same, c.knows_published.ensures.same_seat) (record {
-      so_far = none-passed g.S.Source.incoming g.S.Source.failed c.args.from.now c.args.to.now c.args.intake.now c.args.publisher.now c.args.seat.now _ c.new-came.result c.new-went.result c.new-came.ensures c.new-went.ensures c.knows_published.ensures.published;
+    let learned = c.learn_published.ensures.learns in
+    let account = ap (λ (s : Subscribing). s.account) learned.same in
+    rw c.learn_published.ensures.same (record {
+      so_far = none-passed g.S.Source.incoming g.S.Source.failed c.args.from.now c.args.to.now c.args.intake.now c.args.publisher.now c.args.seat.now c.learn_published.new.seat _ c.new-came.result c.new-went.result
+          c.new-came.ensures c.new-went.ensures learned (rw c.learn_published.ensures.same at c.learn_published.ensures.whole);
       ring = refl;
-      seat_ring = refl;
+      seat_ring = ap (λ (s : Subscribing). s.ring) learned.same;
       few = omega (arith, c.left-most.ensures.value, c.left-most.type_inv, c.new-came.ensures.all);
       counted = rw c.new-went.ensures (omega arith);
       uncut = ap (λ (t : TakeCounts). t.cut) c.new-went.ensures;
       works = refl;
-      up = λ enough at. at;
+      up = λ enough at. ap cursor_of account ∙ at;
       kept = λ few enough at. ap (λ (t : TakeCounts). t.lost) c.new-went.ensures;
+      turns = λ few at. none-in-turns c.args.pace.frames c.args.pace.takes c.args.publisher.now c.args.seat.now c.learn_published.new.seat account;
     })
 
 pub take_turn-requires-clause-ring : goal.take_turn-requires-clause-ring
@@ -54,9 +59,7 @@ returns-in-WriteFailed-clause-kept_up g c few enough at =
     let up = c.loop-came.invariant.up enough at in
     let kept = c.loop-came.invariant.kept few enough at in
     let h = c.publish_turn-ended.ensures.publishes in
-    let ring = turn-ring _ _ _ _ _ _ _ _ _ _ h ∙ c.loop-came.invariant.ring in
-    let few_now = subst (λ z. c.args.pace.frames ≤ keep_of z) (sym ring) few in
-    c.take_turn.ensures.kept (kept-few c.args.pace.frames _ c.loop-came.publisher c.publish_turn-ended.new.publisher c.loop-came.seat c.publish_turn-ended.new.seat up c.publish_turn-ended.ensures.most few_now (learned-account _ _ _ _ h.learns)) ∙ kept
+    c.take_turn.ensures.kept (turn-few _ _ _ _ _ _ _ _ _ _ h c.args.publisher.now.ring c.args.pace.frames c.loop-came.invariant.ring few up c.publish_turn-ended.ensures.most) ∙ kept
 
 pub returns-in-WriteFailed-clause-in_step : goal.returns-in-WriteFailed-clause-in_step
 returns-in-WriteFailed-clause-in_step g c enough at =
@@ -69,6 +72,14 @@ returns-in-WriteFailed-clause-in_step g c enough at =
     let there = ap cursor_of (learned-account _ _ _ _ h.learns) in
     let most = c.publish_turn-ended.ensures.most in
     rw c.take_turn.ensures.same (omega (arith, up, on, there, most, frames-count c.args.to.now takes.answers, ap length cut.frames_are, length-append cut.whole (cut.last ∷ [])))
+
+pub returns-in-WriteFailed-clause-in_turns : goal.returns-in-WriteFailed-clause-in_turns
+returns-in-WriteFailed-clause-in_turns g c few at =
+    let learned = c.publish_turn-ended.ensures.publishes.learns in
+    let there = ap cursor_of (learned-account _ _ _ _ learned) in
+    let led = led-takes _ _ _ c.take_turn.ensures.takes.run in
+    passed-in-turns _ _ _ _ _ _ _ c.loop-came.publisher _ _ c.loop-came.seat _ _ _ _ c.args.pace.frames c.args.pace.takes (returns-in-WriteFailed-clause-passes g c) (c.loop-came.invariant.turns few at)
+    (rw c.take_turn.ensures.same c.publish_turn-ended.ensures.most) (omega (arith, there, led-on _ _ _ led))
 
 pub drain-out-requires : goal.drain-out-requires
 drain-out-requires g c =
@@ -110,12 +121,10 @@ returns-in-Some-clause-kept_up g c few enough at =
     let up = c.loop-came.invariant.up enough at in
     let kept = c.loop-came.invariant.kept few enough at in
     let h = c.publish_turn-ended.ensures.publishes in
-    let ring = turn-ring _ _ _ _ _ _ _ _ _ _ h ∙ c.loop-came.invariant.ring in
-    let few_now = subst (λ z. c.args.pace.frames ≤ keep_of z) (sym ring) few in
-    let first = c.take_turn.ensures.kept (kept-few c.args.pace.frames _ c.loop-came.publisher c.publish_turn-ended.new.publisher c.loop-came.seat c.publish_turn-ended.new.seat up c.publish_turn-ended.ensures.most few_now (learned-account _ _ _ _ h.learns)) in
+    let first = c.take_turn.ensures.kept (turn-few _ _ _ _ _ _ _ _ _ _ h c.args.publisher.now.ring c.args.pace.frames c.loop-came.invariant.ring few up c.publish_turn-ended.ensures.most) in
     let within = rw c.take_turn.ensures.same at c.take_turn.ensures.published.0 in
     let now_up = turn-kept-up c.args.to.now c.args.pace.frames c.args.pace.takes c.loop-came.publisher c.publish_turn-ended.new.publisher c.loop-came.seat c.publish_turn-ended.new.seat c.take_turn.new.seat _ _ _ _ _ up c.publish_turn-ended.ensures.most enough
-    h.learns c.loop-came.invariant.so_far.within c.take_turn.ensures.takes within c.take_turn.ensures.within c.in_default.not-WriteFailed c.take_turn.ensures.open c.take_turn.ensures.done c.take_turn.ensures.empty in
+    h.learns c.loop-came.invariant.so_far.whole c.take_turn.ensures.takes within c.take_turn.ensures.within c.in_default.not-WriteFailed c.take_turn.ensures.open c.take_turn.ensures.done c.take_turn.ensures.empty in
     c.drain-out.ensures.kept (rw c.take_turn.ensures.same (all-kept _ _ _ now_up)) ∙ first ∙ kept
 
 pub returns-in-Some-clause-in_step : goal.returns-in-Some-clause-in_step
@@ -124,10 +133,19 @@ returns-in-Some-clause-in_step g c enough at =
     let h = c.publish_turn-ended.ensures.publishes in
     let within = rw c.take_turn.ensures.same at c.take_turn.ensures.published.0 in
     let now_up = turn-kept-up c.args.to.now c.args.pace.frames c.args.pace.takes c.loop-came.publisher c.publish_turn-ended.new.publisher c.loop-came.seat c.publish_turn-ended.new.seat c.take_turn.new.seat _ _ _ _ _ up c.publish_turn-ended.ensures.most enough
-    h.learns c.loop-came.invariant.so_far.within c.take_turn.ensures.takes within c.take_turn.ensures.within c.in_default.not-WriteFailed c.take_turn.ensures.open c.take_turn.ensures.done c.take_turn.ensures.empty in
+    h.learns c.loop-came.invariant.so_far.whole c.take_turn.ensures.takes within c.take_turn.ensures.within c.in_default.not-WriteFailed c.take_turn.ensures.open c.take_turn.ensures.done c.take_turn.ensures.empty in
     let led = led-takes _ _ _ c.drain-out.ensures.takes.run in
     let some = c.requires.pace.0 in
     rw (c.drain-out.ensures.same, c.take_turn.ensures.same) (omega (arith, now_up, led-on _ _ _ led, some))
+
+pub returns-in-Some-clause-in_turns : goal.returns-in-Some-clause-in_turns
+returns-in-Some-clause-in_turns g c few at =
+    let learned = c.publish_turn-ended.ensures.publishes.learns in
+    let there = ap cursor_of (learned-account _ _ _ _ learned) in
+    let led = led-takes _ _ _ c.take_turn.ensures.takes.run in
+    let drained = led-takes _ _ _ c.drain-out.ensures.takes.run in
+    passed-in-turns _ _ _ _ _ _ _ c.loop-came.publisher _ _ c.loop-came.seat _ _ _ _ c.args.pace.frames c.args.pace.takes (returns-in-Some-clause-passes g c) (c.loop-came.invariant.turns few at)
+    (rw (c.drain-out.ensures.same, c.take_turn.ensures.same) c.publish_turn-ended.ensures.most) (omega (arith, there, led-on _ _ _ led, led-on _ _ _ drained))
 
 pub returns-in-Some-clause-failed : goal.returns-in-Some-clause-failed
 returns-in-Some-clause-failed g c failed = c.drain-out.ensures.failed (stop-failed _ _ (sym c.new.ensures ∙ failed))
@@ -145,9 +163,10 @@ loop-came-preserved g c =
     let led = led-takes _ _ _ takes.run in
     let ring = turn-ring _ _ _ _ _ _ _ _ _ _ h ∙ before.ring in
     let within = rw c.take_turn.ensures.same at c.take_turn.ensures.published.0 in
+    let now = passed-takes g.S.Source.incoming g.S.Source.failed c.args.from.now c.args.to.now _ _ _ _ _ _ _ _ _ _ _ _ _ _
+    (passed-frames g.S.Source.incoming g.S.Source.failed c.args.from.now c.args.to.now _ _ _ _ _ _ _ _ _ _ _ _ _ _ before.so_far h) takes within ok in
     rw c.take_turn.ensures.same (record {
-      so_far = passed-takes g.S.Source.incoming g.S.Source.failed c.args.from.now c.args.to.now _ _ _ _ _ _ _ _ _ _ _ _ _ _
-          (passed-frames g.S.Source.incoming g.S.Source.failed c.args.from.now c.args.to.now _ _ _ _ _ _ _ _ _ _ _ _ _ _ before.so_far h) takes within ok;
+      so_far = now;
       ring = ring;
       seat_ring = led.ring ∙ turn-seat-ring _ _ _ _ _ _ _ _ _ _ h ∙ before.seat_ring;
       few = omega (arith, c.publish_turn-ended.ensures.counted, before.few);
@@ -156,9 +175,10 @@ loop-came-preserved g c =
       works = c.take_turn.ensures.works ok ∙ before.works;
       up = λ enough at.
           turn-kept-up c.args.to.now c.args.pace.frames c.args.pace.takes c.loop-came.publisher c.publish_turn-ended.new.publisher c.loop-came.seat c.publish_turn-ended.new.seat c.take_turn.new.seat _ _ _ _ _ (before.up enough at) c.publish_turn-ended.ensures.most enough
-          h.learns before.so_far.within takes within c.take_turn.ensures.within ok c.take_turn.ensures.open c.take_turn.ensures.done c.take_turn.ensures.empty;
-      kept = λ few enough at. (
-          let few_now = subst (λ z. c.args.pace.frames ≤ keep_of z) (sym ring) few in
-          c.take_turn.ensures.kept (kept-few c.args.pace.frames _ c.loop-came.publisher c.publish_turn-ended.new.publisher c.loop-came.seat c.publish_turn-ended.new.seat (before.up enough at) c.publish_turn-ended.ensures.most few_now (learned-account _ _ _ _ h.learns)) ∙ before.kept few enough at
-          );
+          h.learns before.so_far.whole takes within c.take_turn.ensures.within ok c.take_turn.ensures.open c.take_turn.ensures.done c.take_turn.ensures.empty;
+      kept = λ few enough at. c.take_turn.ensures.kept (turn-few _ _ _ _ _ _ _ _ _ _ h c.args.publisher.now.ring c.args.pace.frames before.ring few (before.up enough at) c.publish_turn-ended.ensures.most) ∙ before.kept few enough at;
+      turns = λ few at.
+          turn-in-turns c.args.pace.frames c.args.pace.takes c.args.publisher.now c.loop-came.publisher c.publish_turn-ended.new.publisher c.args.seat.now c.loop-came.seat c.publish_turn-ended.new.seat c.take_turn.new.seat few at
+          (before.turns few at) c.publish_turn-ended.ensures.most (learned-account _ _ _ _ h.learns) (passed-grew _ _ _ _ _ _ _ _ _ _ _ _ _ _ now) now.whole
+          _ ok c.take_turn.ensures.open c.take_turn.ensures.done c.take_turn.ensures.empty;
     })

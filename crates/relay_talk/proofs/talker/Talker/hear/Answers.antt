@@ -1,5 +1,5 @@
 use Rattle.std.proofs.Common.{◌≡◌, inr, refl, ◌∙◌}
-use Rattle.relay_talk.proofs.Announcing.{has_ended, has_expired, heard_is, lives_on}
+use Rattle.relay_talk.proofs.Announcing.{has_ended, has_expired, has_left, heard_is, lives_on}
 use Rattle.relay_talk.proofs.talker.Talker.hear.Goals as goal
 
 pub returns-clause-expired : goal.returns-clause-expired
@@ -12,6 +12,11 @@ returns-clause-publishing c =
     has_ended c.args.self.now.book.seats c.args.self.now.book.history c.args.self.now.heard c.unwrap_or-heard.result c.args.now c.requires.seats (c.unwrap_or-heard.ensures ∙ heard_is c.args.self.now.heard c.args.now)
     c.in-Some.act c.args.self.now.publishing c.carry_out.new.self.publishing c.in-Some.ensures.is c.carry_out.ensures.publishing
 
+pub returns-clause-seat : goal.returns-clause-seat
+returns-clause-seat c =
+    has_left c.args.self.now.book.seats c.args.self.now.book.history c.args.self.now.heard c.unwrap_or-heard.result c.args.now c.requires.seats (c.unwrap_or-heard.ensures ∙ heard_is c.args.self.now.heard c.args.now)
+    c.in-Some.act c.args.self.now.seat c.carry_out.new.self.seat c.in-Some.ensures.is c.carry_out.ensures.seat
+
 pub returns-in_default-clause-expired : goal.returns-in_default-clause-expired
 returns-in_default-clause-expired c =
     let same : c.expire.new.self.history ≡ c.args.self.now.book.history = rw c.in_default.ensures.unchanged refl in
@@ -23,6 +28,14 @@ returns-in_default-clause-expired c =
 
 pub returns-in_default-clause-publishing : goal.returns-in_default-clause-publishing
 returns-in_default-clause-publishing c =
+    inr (
+      lives_on c.args.self.now.book.seats c.args.self.now.book.history c.args.self.now.heard c.unwrap_or-heard.result c.args.now c.requires.seats (c.unwrap_or-heard.ensures ∙ heard_is c.args.self.now.heard c.args.now)
+          (c.expire.ensures.none c.in_default.is),
+      refl,
+    )
+
+pub returns-in_default-clause-seat : goal.returns-in_default-clause-seat
+returns-in_default-clause-seat c =
     inr (
       lives_on c.args.self.now.book.seats c.args.self.now.book.history c.args.self.now.heard c.unwrap_or-heard.result c.args.now c.requires.seats (c.unwrap_or-heard.ensures ∙ heard_is c.args.self.now.heard c.args.now)
           (c.expire.ensures.none c.in_default.is),
