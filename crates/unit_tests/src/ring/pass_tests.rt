@@ -10,7 +10,7 @@ use transport_header::{ChannelPair, TrackChannels};
 /// An RTP packet of twelve bytes.
 const RTP: [u8; 12] = [0x80, 0x60, 0, 7, 0, 0, 0x23, 0x28, 0, 0, 0, 0];
 
-const OPTIONS: &[u8] = b"OPTIONS * RTSP/1.0\r\nCSeq: 1\r\n\r\n";
+pub(crate) const OPTIONS: &[u8] = b"OPTIONS * RTSP/1.0\r\nCSeq: 1\r\n\r\n";
 
 /// Track 0 on two channels.
 fn one_track(first: u8, second: u8) -> TrackChannels {
@@ -23,7 +23,7 @@ fn one_track(first: u8, second: u8) -> TrackChannels {
 }
 
 /// Appends the frame of an RTP packet that ends with this byte.
-fn put_frame(rt: &impl Abort, bytes: &mut Vec<u8>, channel: u8, last: u8) {
+pub(crate) fn put_frame(rt: &impl Abort, bytes: &mut Vec<u8>, channel: u8, last: u8) {
     bytes
         .extend_from_slice(&[0x24, channel, 0, 13])
         .expect(rt, "memory");
