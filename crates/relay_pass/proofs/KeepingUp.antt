@@ -35,46 +35,51 @@ never-unkept of_source from old new publisher publisher' report h = h.counts.unk
 
 -- ---- a seat that keeps up
 
-module _ (n m : ℕ) (publisher publisher' : Publishing) (seat mid seat' : Subscribing) (at : cursor_of seat.account ≡ length publisher.log) (most : length publisher'.log ≤ length publisher.log + n) (few : n ≤ m)
-    (same : mid.account ≡ seat.account) (whole : mid.seen ≡ publisher'.log) (grows : IsPrefix mid.seen seat'.seen) (within : IsPrefix seat'.seen publisher'.log)
-    (reach : cursor_of seat'.account ≤ length seat'.seen) where
+-- At a turn's end the seat is no further behind the log's end than it was at the beginning.
+abbrev pub InStep : (publisher publisher' : Publishing) → (seat seat' : Subscribing) → Type 0
+InStep publisher publisher' seat seat' = length publisher'.log + cursor_of seat.account ≤ cursor_of seat'.account + length publisher.log
+
+pub none-in-step : (publisher : Publishing) (seat seat' : Subscribing) → seat'.account ≡ seat.account → InStep publisher publisher seat seat'
+none-in-step publisher seat seat' same = let there = ap cursor_of same in omega (arith, there)
+
+-- a seat that began at the log's end has taken all
+pub none-waits : (publisher publisher' : Publishing) (seat seat' : Subscribing) → InStep publisher publisher' seat seat' → cursor_of seat.account ≡ length publisher.log → length publisher'.log ≤ cursor_of seat'.account
+none-waits publisher publisher' seat seat' so at = omega (arith, so, at)
+
+module _ (n m : ℕ) (first publisher publisher' : Publishing) (start seat mid seat' : Subscribing) (at : cursor_of start.account ≤ length first.log) (so : InStep first publisher start seat)
+    (most : length publisher'.log ≤ length publisher.log + n) (few : n ≤ m) (same : mid.account ≡ seat.account) (whole : mid.seen ≡ publisher'.log) (grows : IsPrefix mid.seen seat'.seen) where
   there : cursor_of mid.account ≡ cursor_of seat.account
   there = ap cursor_of same
 
-  empty-up : cursor_of seat'.account ≡ length seat'.seen → cursor_of seat'.account ≡ length publisher'.log
-  empty-up empty = omega (arith, empty, prefix-longer mid.seen seat'.seen grows, prefix-longer seat'.seen publisher'.log within, ap (λ (l : List Packet). length l) whole)
+  empty-step : cursor_of seat'.account ≡ length seat'.seen → InStep first publisher' start seat'
+  empty-step empty = omega (arith, at, empty, prefix-longer mid.seen seat'.seen grows, ap (λ (l : List Packet). length l) whole)
 
-  -- a turn that takes no less than it publishes, if the seat began at the log's end, leaves it there
-  pub keeps-up : (x : OutStop) → x ≢ out_stop.WriteFailed → x ≢ out_stop.Ended → (x ≡ out_stop.Done → cursor_of mid.account + m ≤ cursor_of seat'.account) → (x ≡ out_stop.Empty → cursor_of seat'.account ≡ length seat'.seen)
-      → cursor_of seat'.account ≡ length publisher'.log
-  keeps-up out_stop.Done ok going done empty = let moved = done refl in omega (arith, at, most, few, there, reach, moved, prefix-longer seat'.seen publisher'.log within)
-  keeps-up out_stop.Empty ok going done empty = empty-up (empty refl)
-  keeps-up out_stop.Ended ok going done empty = absurd (going refl)
-  keeps-up out_stop.WriteFailed ok going done empty = absurd (ok refl)
+  -- a turn that takes no less than it publishes, or takes all, leaves the seat no further behind
+  pub stays-in-step : (x : OutStop) → x ≢ out_stop.WriteFailed → x ≢ out_stop.Ended → (x ≡ out_stop.Done → cursor_of mid.account + m ≤ cursor_of seat'.account) → (x ≡ out_stop.Empty → cursor_of seat'.account ≡ length seat'.seen)
+      → InStep first publisher' start seat'
+  stays-in-step out_stop.Done ok going done empty = let moved = done refl in omega (arith, so, most, few, there, moved)
+  stays-in-step out_stop.Empty ok going done empty = empty-step (empty refl)
+  stays-in-step out_stop.Ended ok going done empty = absurd (going refl)
+  stays-in-step out_stop.WriteFailed ok going done empty = absurd (ok refl)
 
--- a turn of a seat that keeps up
-pub turn-kept-up : (to : List (Option ChannelPair)) (n m : ℕ) (publisher publisher' : Publishing) (seat mid seat' : Subscribing) (before after : Option (List ℕ)) (went went' : TakeCounts) (x : OutStop)
-    → cursor_of seat.account ≡ length publisher.log → length publisher'.log ≤ length publisher.log + n → n ≤ m
+-- the same of a turn's calls
+pub turn-in-step : (to : List (Option ChannelPair)) (n m : ℕ) (first publisher publisher' : Publishing) (start seat mid seat' : Subscribing) (before after : Option (List ℕ)) (went went' : TakeCounts) (x : OutStop)
+    → cursor_of start.account ≤ length first.log → InStep first publisher start seat → length publisher'.log ≤ length publisher.log + n → n ≤ m
     → LearnsLog publisher.log publisher'.log seat mid → seat.seen ≡ publisher.log → TakesMore to mid seat' before after went went' x
-    → IsPrefix seat'.seen publisher'.log → cursor_of seat'.account ≤ length seat'.seen
     → x ≢ out_stop.WriteFailed → x ≢ out_stop.Ended → (x ≡ out_stop.Done → cursor_of mid.account + m ≤ cursor_of seat'.account) → (x ≡ out_stop.Empty → cursor_of seat'.account ≡ length seat'.seen)
-    → cursor_of seat'.account ≡ length publisher'.log
-turn-kept-up to n m publisher publisher' seat mid seat' before after went went' x at most few learned known took within reach =
+    → InStep first publisher' start seat'
+turn-in-step to n m first publisher publisher' start seat mid seat' before after went went' x at so most few learned known took =
     let led = led-takes mid took.answers seat' took.run in
-    keeps-up n m publisher publisher' seat mid seat' at most few (ap (λ (s : Subscribing). s.account) learned.learns.same) (learned.whole (prefix-same seat.seen publisher.log known) (inl known)) led.grows within
-    reach x
+    stays-in-step n m first publisher publisher' start seat mid seat' at so most few (ap (λ (s : Subscribing). s.account) learned.learns.same) (learned.whole (prefix-same seat.seen publisher.log known) (inl known)) led.grows x
 
--- a seat that is fewer than n packets behind at the end has passed on all but fewer than n of the packets that were published
+-- if the seat is fewer than n packets further behind at the end, then fewer than n of the packets that were published weren't taken
 pub passed-in-step : {S : Type 0} (of_source : S → Option (List ℕ)) (failed : S → Bool) (from to : List (Option ChannelPair)) (old new : IntakeState S) (publisher publisher' : Publishing) (seat seat' : Subscribing)
-    (before after : Option (List ℕ)) (report : PassReport) (n : ℕ) → PassesOn of_source failed from to old new publisher publisher' seat seat' before after report → cursor_of seat.account ≡ length publisher.log
-    → length publisher'.log < cursor_of seat'.account + n → report.came.published < counted_takes report.went + cut_packets report.stop + n
-passed-in-step of_source failed from to old new publisher publisher' seat seat' before after report n h at behind =
+    (before after : Option (List ℕ)) (report : PassReport) (n : ℕ) → PassesOn of_source failed from to old new publisher publisher' seat seat' before after report
+    → length publisher'.log + cursor_of seat.account < cursor_of seat'.account + length publisher.log + n → report.came.published < counted_takes report.went + cut_packets report.stop + n
+passed-in-step of_source failed from to old new publisher publisher' seat seat' before after report n h behind =
     let hs = h.came.handlings in
     let grown : length publisher'.log ≡ length publisher.log + length (published hs) = ap (λ (l : List Packet). length l) h.came.log ∙ length-append publisher.log (published hs) in
-    omega (arith, at, behind, grown, published-count hs, h.came.counts.published, h.went.adds_up)
-
-pub all-kept : (c : ℕ) (log : List Packet) (keep : ℕ) → c ≡ length log → length log ≤ c + keep
-all-kept c log keep at = omega arith
+    omega (arith, behind, grown, published-count hs, h.came.counts.published, h.went.adds_up)
 
 pub learned-account : (old_log new_log : List Packet) (old new : Subscribing) → LearnsLog old_log new_log old new → new.account ≡ old.account
 learned-account old_log new_log old new h = ap (λ (s : Subscribing). s.account) h.learns.same
@@ -92,11 +97,11 @@ pub turn-seat-ring : {S : Type 0} (of_source : S → Option (List ℕ)) (from : 
 turn-seat-ring of_source from old new publisher publisher' seat seat' came came' h = learned-ring publisher.log publisher'.log seat seat' h.learns
 
 -- A turn publishes at most n packets, no more than are kept, to a seat that has taken all: so none of them is lost.
-kept-few : (n keep p p' c c' : ℕ) → c ≡ p → p' ≤ p + n → n ≤ keep → c' ≡ c → p' ≤ c' + keep
+kept-few : (n keep p p' c c' : ℕ) → p ≤ c → p' ≤ p + n → n ≤ keep → c' ≡ c → p' ≤ c' + keep
 kept-few n keep p p' c c' at most few there = omega arith
 
 pub turn-few : {S : Type 0} (of_source : S → Option (List ℕ)) (from : List (Option ChannelPair)) (old new : IntakeState S) (publisher publisher' : Publishing) (seat seat' : Subscribing) (came came' : FrameCounts)
-    → Publishes of_source from old new publisher publisher' seat seat' came came' → (ring : RingId) (n : ℕ) → publisher.ring ≡ ring → n ≤ keep_of ring → cursor_of seat.account ≡ length publisher.log
+    → Publishes of_source from old new publisher publisher' seat seat' came came' → (ring : RingId) (n : ℕ) → publisher.ring ≡ ring → n ≤ keep_of ring → length publisher.log ≤ cursor_of seat.account
     → length publisher'.log ≤ length publisher.log + n → length publisher'.log ≤ cursor_of seat'.account + keep_of publisher'.ring
 turn-few of_source from old new publisher publisher' seat seat' came came' h ring n same few at most =
     let few_now = subst (λ z. n ≤ keep_of z) (sym (turn-ring of_source from old new publisher publisher' seat seat' came came' h ∙ same)) few in

@@ -26,6 +26,9 @@ use transport_header::TrackChannels;
 /// Nothing is lost if a turn publishes no more than the ring keeps, takes no less than it publishes, and the seat begins at
 /// the log's end.
 ///
+/// If a turn takes no less than it publishes and the seat doesn't begin past the log's end, then at the end the seat is less
+/// than `pace.frames` packets further behind the log's end than it was at the beginning, also if a write fails.
+///
 /// If a turn takes no more than it publishes and the seat doesn't begin past the log's end, then at most `pace.frames`
 /// packets are published for each `pace.takes` that the seat takes or loses, and `pace.frames` more, also if a write fails.
 pub fn pass<S: Source + Drop, W: Sink>(
@@ -44,7 +47,7 @@ pub fn pass<S: Source + Drop, W: Sink>(
     ensures never_pinned { result.came.pinned ≡ 0 }
     ensures never_unkept { result.came.unkept ≡ 0 }
     ensures kept_up { pace.frames ≤ keep_of publisher.old.ring → pace.frames ≤ pace.takes → cursor_of seat.old.account ≡ length publisher.old.log → result.went.lost ≡ 0 }
-    ensures in_step { pace.frames ≤ pace.takes → cursor_of seat.old.account ≡ length publisher.old.log → length publisher.new.log < cursor_of seat.new.account + pace.frames }
+    ensures in_step { pace.frames ≤ pace.takes → cursor_of seat.old.account ≤ length publisher.old.log → length publisher.new.log + cursor_of seat.old.account < cursor_of seat.new.account + length publisher.old.log + pace.frames }
     ensures in_turns { pace.takes ≤ pace.frames → cursor_of seat.old.account ≤ length publisher.old.log → pace.takes * result.came.published ≤ pace.frames * (counted_takes result.went + cut_packets result.stop + pace.takes) }
     ensures failed { result.stop ≡ PassStop.WriteFailed → W.failed writer.new ≡ true }
     ensures works { result.stop ≢ PassStop.WriteFailed → W.failed writer.new ≡ W.failed writer.old }

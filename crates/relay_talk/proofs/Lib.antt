@@ -1,5 +1,6 @@
 pub mod Exchanges
 pub mod Announcing
+pub mod Leaving
 pub mod Fetching
 pub mod Taking
 pub mod Stretches

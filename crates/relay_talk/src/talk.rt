@@ -5,7 +5,7 @@ ghost use Rattle.rtsp_message.specs.Reply.{plain_text};
 ghost use Rattle.session_state.specs.Lookups.{is_open};
 ghost use Rattle.relay_talk.specs.Exchange.{Draws, IsAnswer, given_with};
 ghost use Rattle.relay_talk.specs.Publishing.{AnswersPublishing};
-ghost use Rattle.relay_talk.specs.Seat.{SeatAfterAnswer};
+ghost use Rattle.relay_talk.specs.Seat.{PassAfterAnswer, SeatAfterAnswer};
 ghost use Rattle.relay_talk.specs.Taking.{TakesWith, TalksOn, talk_state};
 ghost use Rattle.relay_talk.specs.Talk.{DoesTalk, IsTalked, Talks, exit_status, exit_line, status_of as fixed_status};
 
@@ -136,6 +136,7 @@ fn answer<W: Sink>(
     ensures failed { IfErr result (λ _. W.failed writer.new ≡ true) }
     ensures publishing { AnswersPublishing talker.old.book.history request.now (given_with word now) talker.new.book.history talker.old.publishing talker.new.publishing }
     ensures seat { SeatAfterAnswer talker.old.book request.now (given_with word now) talker.new.book.history talker.old.seat talker.new.seat }
+    ensures back { PassAfterAnswer talker.old.book request.now (given_with word now) talker.old.seat talker.new.book }
     ensures kept { talker.new.book.seats ≡ 1 }
     ensures heard { talker.new.heard ≡ talker.old.heard }
 {

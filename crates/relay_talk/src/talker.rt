@@ -11,7 +11,7 @@ ghost use Rattle.publisher.specs.Fates.{total};
 ghost use Rattle.publisher.specs.FramesIn.{answer_of};
 ghost use Rattle.relay_talk.specs.Exchange.{IsAnswer, IsAnswered, IsExpired, IsLeft, IsSettled, busy, given_with, heard_at, opening};
 ghost use Rattle.relay_talk.specs.Publishing.{AnswersPublishing, DoesPublishing, ExpiresPublishing, Fetches, IsNewRing, IsRecording, PublishesFrames, publishing_after};
-ghost use Rattle.relay_talk.specs.Seat.{PassGoesBack, SeatAfterAnswer, SeatAfterExpiry, SeatAfterReply, seat_after};
+ghost use Rattle.relay_talk.specs.Seat.{PassAfterAnswer, PassAfterExpiry, PassAfterLeave, PassAfterReply, PassGoesBack, SeatAfterAnswer, SeatAfterExpiry, SeatAfterReply, seat_after};
 ghost use Rattle.relay_talk.specs.Taking.{TakesStretch};
 
 use base_syntax::Items;
@@ -120,6 +120,7 @@ impl Talker {
         ensures expired { IsExpired self.old.book.history (heard_at self.old.heard now) now self.new.book.history }
         ensures publishing { ExpiresPublishing self.old.book.history (heard_at self.old.heard now) now self.old.publishing self.new.publishing }
         ensures seat { SeatAfterExpiry self.old.book.history (heard_at self.old.heard now) now self.old.seat self.new.seat }
+        ensures back { PassAfterExpiry self.old.book (heard_at self.old.heard now) now self.old.seat self.new.book }
         ensures heard { self.new.heard ≡ Some now }
         ensures open { is_open 1 self.new.book.history ≡ true }
         ensures kept { self.new.book.seats ≡ 1 }
@@ -141,6 +142,7 @@ impl Talker {
         ensures refused { IfNone result (IsAnswer self.old.book.history request.now (given_with word now) self.new.book.history (busy request.now)) }
         ensures publishing { AnswersPublishing self.old.book.history request.now (given_with word now) self.new.book.history self.old.publishing self.new.publishing }
         ensures seat { SeatAfterAnswer self.old.book request.now (given_with word now) self.new.book.history self.old.seat self.new.seat }
+        ensures back { PassAfterAnswer self.old.book request.now (given_with word now) self.old.seat self.new.book }
         ensures kept { self.new.book.seats ≡ 1 }
         ensures heard { self.new.heard ≡ self.old.heard }
     {
@@ -155,6 +157,7 @@ impl Talker {
         ensures reply { IfSome result (IsAnswered self.old.book.history request.now (given_with word now) self.new.book.history) }
         ensures publishing { IfSome result (λ reply. DoesPublishing self.old.book.history request.now (given_with word now) reply self.old.publishing self.new.publishing) }
         ensures seat { IfSome result (λ reply. SeatAfterReply self.old.book request.now (given_with word now) self.new.book.history reply self.old.seat self.new.seat) }
+        ensures back { IfSome result (λ reply. PassAfterReply self.old.book request.now (given_with word now) reply self.old.seat self.new.book) }
         ensures refused { IfNone result (self.new ≡ self.old) }
         ensures kept { self.new.book.seats ≡ 1 }
         ensures heard { self.new.heard ≡ self.old.heard }
@@ -212,11 +215,12 @@ impl Talker {
         }
     }
 
-    /// Hangs the connection up, and gives its seat back. Nothing more is published.
+    /// Hangs the connection up, and gives its seat back, with the pass that was kept for it. Nothing more is published.
     pub fn leave(&mut self)
         requires seats { self.old.book.seats ≡ 1 }
         requires open { is_open 1 self.old.book.history ≡ true }
         ensures left { IsLeft self.old.book.history self.new.book.history }
+        ensures back { PassAfterLeave self.old.book self.old.seat self.new.book }
         ensures closed { self.new.publishing ≡ None }
     {
         let act = self.book.hangup(TALKER);

@@ -19,7 +19,7 @@ at-end publisher publisher' seat seat' empty begins within same same_seat =
 pub returns-clause-in_step : goal.returns-clause-in_step
 returns-clause-in_step g c enough =
     let at = at-end _ _ _ _ c.in_ok-publisher.ensures.publisher.0 (ap cursor_of c.attach-seat.ensures.account) c.knows_published.ensures.published c.knows_published.ensures.same c.knows_published.ensures.same_seat in
-    passed-in-step _ _ _ _ _ _ _ _ _ _ _ _ _ _ c.pass.ensures.passes at (c.pass.ensures.in_step enough at)
+    passed-in-step _ _ _ _ _ _ _ _ _ _ _ _ _ _ c.pass.ensures.passes (c.pass.ensures.in_step enough (omega (arith, at)))
 
 pub returns-clause-in_turns : goal.returns-clause-in_turns
 returns-clause-in_turns g c few =

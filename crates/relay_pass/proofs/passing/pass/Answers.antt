@@ -8,7 +8,7 @@ use Rattle.relay_pass.specs.declared.report.StreamEnd.TheVariants as stream
 use Rattle.relay_pass.specs.Counts.{stop_of}
 use Rattle.relay_pass.proofs.Handing.{all-grew}
 use Rattle.relay_pass.proofs.Endings.{Finished, finished-failed, stop-failed, takes-went-on, uncut-on}
-use Rattle.relay_pass.proofs.KeepingUp.{all-kept, learned-account, never-pinned, never-unkept, turn-few, turn-kept-up, turn-ring, turn-seat-ring}
+use Rattle.relay_pass.proofs.KeepingUp.{learned-account, never-pinned, never-unkept, none-in-step, none-waits, turn-few, turn-in-step, turn-ring, turn-seat-ring}
 use Rattle.relay_pass.proofs.Passed.{none-passed, passed-frames, passed-takes, turn-passes}
 use Rattle.relay_pass.proofs.Settling.{led-adds, led-on, led-takes}
 use Rattle.relay_pass.proofs.Turns.{none-in-turns, passed-grew, passed-in-turns, turn-in-turns}
@@ -29,7 +29,7 @@ loop-came-init g c =
       counted = rw c.new-went.ensures (omega arith);
       uncut = ap (λ (t : TakeCounts). t.cut) c.new-went.ensures;
       works = refl;
-      up = λ enough at. ap cursor_of account ∙ at;
+      step = λ enough at. none-in-step c.args.publisher.now c.args.seat.now c.learn_published.new.seat account;
       kept = λ few enough at. ap (λ (t : TakeCounts). t.lost) c.new-went.ensures;
       turns = λ few at. none-in-turns c.args.pace.frames c.args.pace.takes c.args.publisher.now c.args.seat.now c.learn_published.new.seat account;
     })
@@ -56,14 +56,15 @@ returns-in-WriteFailed-clause-never_unkept g c = never-unkept _ _ _ _ _ _ _ (ret
 
 pub returns-in-WriteFailed-clause-kept_up : goal.returns-in-WriteFailed-clause-kept_up
 returns-in-WriteFailed-clause-kept_up g c few enough at =
-    let up = c.loop-came.invariant.up enough at in
+    let so = c.loop-came.invariant.step enough (omega (arith, at)) in
+    let up = none-waits c.args.publisher.now c.loop-came.publisher c.args.seat.now c.loop-came.seat so at in
     let kept = c.loop-came.invariant.kept few enough at in
     let h = c.publish_turn-ended.ensures.publishes in
     c.take_turn.ensures.kept (turn-few _ _ _ _ _ _ _ _ _ _ h c.args.publisher.now.ring c.args.pace.frames c.loop-came.invariant.ring few up c.publish_turn-ended.ensures.most) ∙ kept
 
 pub returns-in-WriteFailed-clause-in_step : goal.returns-in-WriteFailed-clause-in_step
 returns-in-WriteFailed-clause-in_step g c enough at =
-    let up = c.loop-came.invariant.up enough at in
+    let so = c.loop-came.invariant.step enough at in
     let h = c.publish_turn-ended.ensures.publishes in
     let takes = rw c.in-WriteFailed.is at c.take_turn.ensures.takes in
     let led = led-takes _ _ _ takes.run in
@@ -71,7 +72,7 @@ returns-in-WriteFailed-clause-in_step g c enough at =
     let cut = takes.out in
     let there = ap cursor_of (learned-account _ _ _ _ h.learns) in
     let most = c.publish_turn-ended.ensures.most in
-    rw c.take_turn.ensures.same (omega (arith, up, on, there, most, frames-count c.args.to.now takes.answers, ap length cut.frames_are, length-append cut.whole (cut.last ∷ [])))
+    rw c.take_turn.ensures.same (omega (arith, so, on, there, most, frames-count c.args.to.now takes.answers, ap length cut.frames_are, length-append cut.whole (cut.last ∷ [])))
 
 pub returns-in-WriteFailed-clause-in_turns : goal.returns-in-WriteFailed-clause-in_turns
 returns-in-WriteFailed-clause-in_turns g c few at =
@@ -118,25 +119,26 @@ returns-in-Some-clause-never_unkept g c = never-unkept _ _ _ _ _ _ _ (returns-in
 
 pub returns-in-Some-clause-kept_up : goal.returns-in-Some-clause-kept_up
 returns-in-Some-clause-kept_up g c few enough at =
-    let up = c.loop-came.invariant.up enough at in
+    let so = c.loop-came.invariant.step enough (omega (arith, at)) in
+    let up = none-waits c.args.publisher.now c.loop-came.publisher c.args.seat.now c.loop-came.seat so at in
     let kept = c.loop-came.invariant.kept few enough at in
     let h = c.publish_turn-ended.ensures.publishes in
     let first = c.take_turn.ensures.kept (turn-few _ _ _ _ _ _ _ _ _ _ h c.args.publisher.now.ring c.args.pace.frames c.loop-came.invariant.ring few up c.publish_turn-ended.ensures.most) in
-    let within = rw c.take_turn.ensures.same at c.take_turn.ensures.published.0 in
-    let now_up = turn-kept-up c.args.to.now c.args.pace.frames c.args.pace.takes c.loop-came.publisher c.publish_turn-ended.new.publisher c.loop-came.seat c.publish_turn-ended.new.seat c.take_turn.new.seat _ _ _ _ _ up c.publish_turn-ended.ensures.most enough
-    h.learns c.loop-came.invariant.so_far.whole c.take_turn.ensures.takes within c.take_turn.ensures.within c.in_default.not-WriteFailed c.take_turn.ensures.open c.take_turn.ensures.done c.take_turn.ensures.empty in
-    c.drain-out.ensures.kept (rw c.take_turn.ensures.same (all-kept _ _ _ now_up)) ∙ first ∙ kept
+    let now = turn-in-step c.args.to.now c.args.pace.frames c.args.pace.takes c.args.publisher.now c.loop-came.publisher c.publish_turn-ended.new.publisher c.args.seat.now c.loop-came.seat c.publish_turn-ended.new.seat c.take_turn.new.seat _ _ _ _ _
+    (omega (arith, at)) so c.publish_turn-ended.ensures.most enough
+    h.learns c.loop-came.invariant.so_far.whole c.take_turn.ensures.takes c.in_default.not-WriteFailed c.take_turn.ensures.open c.take_turn.ensures.done c.take_turn.ensures.empty in
+    c.drain-out.ensures.kept (rw c.take_turn.ensures.same (omega (arith, now, at))) ∙ first ∙ kept
 
 pub returns-in-Some-clause-in_step : goal.returns-in-Some-clause-in_step
 returns-in-Some-clause-in_step g c enough at =
-    let up = c.loop-came.invariant.up enough at in
+    let so = c.loop-came.invariant.step enough at in
     let h = c.publish_turn-ended.ensures.publishes in
-    let within = rw c.take_turn.ensures.same at c.take_turn.ensures.published.0 in
-    let now_up = turn-kept-up c.args.to.now c.args.pace.frames c.args.pace.takes c.loop-came.publisher c.publish_turn-ended.new.publisher c.loop-came.seat c.publish_turn-ended.new.seat c.take_turn.new.seat _ _ _ _ _ up c.publish_turn-ended.ensures.most enough
-    h.learns c.loop-came.invariant.so_far.whole c.take_turn.ensures.takes within c.take_turn.ensures.within c.in_default.not-WriteFailed c.take_turn.ensures.open c.take_turn.ensures.done c.take_turn.ensures.empty in
+    let now = turn-in-step c.args.to.now c.args.pace.frames c.args.pace.takes c.args.publisher.now c.loop-came.publisher c.publish_turn-ended.new.publisher c.args.seat.now c.loop-came.seat c.publish_turn-ended.new.seat c.take_turn.new.seat _ _ _ _ _
+    at so c.publish_turn-ended.ensures.most enough
+    h.learns c.loop-came.invariant.so_far.whole c.take_turn.ensures.takes c.in_default.not-WriteFailed c.take_turn.ensures.open c.take_turn.ensures.done c.take_turn.ensures.empty in
     let led = led-takes _ _ _ c.drain-out.ensures.takes.run in
     let some = c.requires.pace.0 in
-    rw (c.drain-out.ensures.same, c.take_turn.ensures.same) (omega (arith, now_up, led-on _ _ _ led, some))
+    rw (c.drain-out.ensures.same, c.take_turn.ensures.same) (omega (arith, now, led-on _ _ _ led, some))
 
 pub returns-in-Some-clause-in_turns : goal.returns-in-Some-clause-in_turns
 returns-in-Some-clause-in_turns g c few at =
@@ -173,10 +175,11 @@ loop-came-preserved g c =
       counted = c.take_turn.ensures.counted;
       uncut = uncut-on _ _ _ _ _ _ _ _ ok takes;
       works = c.take_turn.ensures.works ok ∙ before.works;
-      up = λ enough at.
-          turn-kept-up c.args.to.now c.args.pace.frames c.args.pace.takes c.loop-came.publisher c.publish_turn-ended.new.publisher c.loop-came.seat c.publish_turn-ended.new.seat c.take_turn.new.seat _ _ _ _ _ (before.up enough at) c.publish_turn-ended.ensures.most enough
-          h.learns before.so_far.whole takes within c.take_turn.ensures.within ok c.take_turn.ensures.open c.take_turn.ensures.done c.take_turn.ensures.empty;
-      kept = λ few enough at. c.take_turn.ensures.kept (turn-few _ _ _ _ _ _ _ _ _ _ h c.args.publisher.now.ring c.args.pace.frames before.ring few (before.up enough at) c.publish_turn-ended.ensures.most) ∙ before.kept few enough at;
+      step = λ enough at.
+          turn-in-step c.args.to.now c.args.pace.frames c.args.pace.takes c.args.publisher.now c.loop-came.publisher c.publish_turn-ended.new.publisher c.args.seat.now c.loop-came.seat c.publish_turn-ended.new.seat c.take_turn.new.seat _ _ _ _ _
+          at (before.step enough at) c.publish_turn-ended.ensures.most enough
+          h.learns before.so_far.whole takes ok c.take_turn.ensures.open c.take_turn.ensures.done c.take_turn.ensures.empty;
+      kept = λ few enough at. c.take_turn.ensures.kept (turn-few _ _ _ _ _ _ _ _ _ _ h c.args.publisher.now.ring c.args.pace.frames before.ring few (none-waits c.args.publisher.now c.loop-came.publisher c.args.seat.now c.loop-came.seat (before.step enough (omega (arith, at))) at) c.publish_turn-ended.ensures.most) ∙ before.kept few enough at;
       turns = λ few at.
           turn-in-turns c.args.pace.frames c.args.pace.takes c.args.publisher.now c.loop-came.publisher c.publish_turn-ended.new.publisher c.args.seat.now c.loop-came.seat c.publish_turn-ended.new.seat c.take_turn.new.seat few at
           (before.turns few at) c.publish_turn-ended.ensures.most (learned-account _ _ _ _ h.learns) (passed-grew _ _ _ _ _ _ _ _ _ _ _ _ _ _ now) now.whole

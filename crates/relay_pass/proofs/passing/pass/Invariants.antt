@@ -4,6 +4,7 @@ use Rattle.packet_ring.specs.Views.{keep_of}
 use Rattle.rtsp_message.specs.Intakes.{weight}
 use Rattle.publisher.specs.Fates.{total}
 use Rattle.relay_pass.specs.Counts.{counted_takes, counts_of}
+use Rattle.relay_pass.proofs.KeepingUp.{InStep}
 use Rattle.relay_pass.proofs.Passed.{Passed}
 use Rattle.relay_pass.proofs.Turns.{InTurns}
 use Rattle.relay_pass.proofs.passing.pass.Given as goal
@@ -17,7 +18,7 @@ invariant-loop-came g l = record {
   counted : counted_takes l.went ≤ cursor_of l.seat.account;
   uncut : l.went.cut ≡ 0;
   works : g.W.Sink.failed l.writer ≡ g.W.Sink.failed l.fn.writer;
-  up : l.pace.frames ≤ l.pace.takes → cursor_of l.fn.seat.account ≡ length l.fn.publisher.log → cursor_of l.seat.account ≡ length l.publisher.log;
+  step : l.pace.frames ≤ l.pace.takes → cursor_of l.fn.seat.account ≤ length l.fn.publisher.log → InStep l.fn.publisher l.publisher l.fn.seat l.seat;
   kept : l.pace.frames ≤ keep_of l.fn.publisher.ring → l.pace.frames ≤ l.pace.takes → cursor_of l.fn.seat.account ≡ length l.fn.publisher.log → l.went.lost ≡ 0;
   turns : l.pace.takes ≤ l.pace.frames → cursor_of l.fn.seat.account ≤ length l.fn.publisher.log → InTurns l.pace.frames l.pace.takes l.fn.publisher l.publisher l.fn.seat l.seat;
 }

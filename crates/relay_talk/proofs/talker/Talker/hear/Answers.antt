@@ -1,5 +1,7 @@
 use Rattle.std.proofs.Common.{◌≡◌, inr, refl, ◌∙◌}
+use Rattle.relay_talk.specs.Exchange.{heard_at}
 use Rattle.relay_talk.proofs.Announcing.{has_ended, has_expired, has_left, heard_is, lives_on}
+use Rattle.relay_talk.proofs.Leaving.{expires_pass}
 use Rattle.relay_talk.proofs.talker.Talker.hear.Goals as goal
 
 pub returns-clause-expired : goal.returns-clause-expired
@@ -16,6 +18,12 @@ pub returns-clause-seat : goal.returns-clause-seat
 returns-clause-seat c =
     has_left c.args.self.now.book.seats c.args.self.now.book.history c.args.self.now.heard c.unwrap_or-heard.result c.args.now c.requires.seats (c.unwrap_or-heard.ensures ∙ heard_is c.args.self.now.heard c.args.now)
     c.in-Some.act c.args.self.now.seat c.carry_out.new.self.seat c.in-Some.ensures.is c.carry_out.ensures.seat
+
+pub returns-clause-back : goal.returns-clause-back
+returns-clause-back c =
+    expires_pass c.args.self.now.book c.expire.new.self c.carry_out.new.self.book c.in-Some.act c.args.self.now.seat c.carry_out.ensures.settled c.carry_out.ensures.back
+    c.args.self.now.book.seats c.unwrap_or-heard.result (heard_at c.args.self.now.heard c.args.now) c.args.now c.requires.seats (c.unwrap_or-heard.ensures ∙ heard_is c.args.self.now.heard c.args.now)
+    c.in-Some.ensures.is c.in-Some.ensures.ends
 
 pub returns-in_default-clause-expired : goal.returns-in_default-clause-expired
 returns-in_default-clause-expired c =
@@ -40,4 +48,12 @@ returns-in_default-clause-seat c =
       lives_on c.args.self.now.book.seats c.args.self.now.book.history c.args.self.now.heard c.unwrap_or-heard.result c.args.now c.requires.seats (c.unwrap_or-heard.ensures ∙ heard_is c.args.self.now.heard c.args.now)
           (c.expire.ensures.none c.in_default.is),
       refl,
+    )
+
+pub returns-in_default-clause-back : goal.returns-in_default-clause-back
+returns-in_default-clause-back c =
+    inr (
+      lives_on c.args.self.now.book.seats c.args.self.now.book.history c.args.self.now.heard c.unwrap_or-heard.result c.args.now c.requires.seats (c.unwrap_or-heard.ensures ∙ heard_is c.args.self.now.heard c.args.now)
+          (c.expire.ensures.none c.in_default.is),
+      c.in_default.ensures.unchanged,
     )

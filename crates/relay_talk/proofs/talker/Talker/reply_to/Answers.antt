@@ -7,9 +7,11 @@ use Rattle.packet_ring.specs.Views.{Passing}
 use Rattle.session_state.specs.declared.act.Act.{Act}
 use Rattle.session_state.specs.History.{History}
 use Rattle.session_state.specs.Legal.{IsReplyOf}
+use Rattle.session_lock.specs.Books.{Remembered}
 use Rattle.relay_talk.specs.Exchange.{given_with}
-use Rattle.relay_talk.specs.Seat.{seat_after}
+use Rattle.relay_talk.specs.Seat.{PassGoesBack, seat_after}
 use Rattle.relay_talk.proofs.Announcing.{acts_on, opens_by_announce}
+use Rattle.relay_talk.proofs.Leaving.{requested}
 use Rattle.relay_talk.proofs.talker.Talker.reply_to.Goals as goal
 
 -- the reply that the book gives is one of a talk: of one seat, and without points
@@ -41,4 +43,22 @@ returns-clause-seat c =
         settled = rw c.empty.ensures at (rw c.in-Ok-call.ensures.history at c.carry_out.ensures.settled);
       },
       c.carry_out.ensures.seat ∙ ap (λ (pass : Option (Option Passing)). seat_after answer.act (option_flatten pass) c.args.self.now.seat) c.in-Ok-call.ensures.pass,
+    )
+
+pub returns-clause-back : goal.returns-clause-back
+returns-clause-back c =
+    let answer = c.in-Ok-call.answer in
+    let before = c.args.self.now.book in
+    let called = c.in-Ok-call.ensures in (
+      record {
+        act = answer.act;
+        is_reply = of_talk _ before.history c.args.request.now c.args.word c.args.now _ answer.reply answer.act c.requires.seats c.empty.ensures called.reply;
+        settled = rw c.empty.ensures at (rw called.history at c.carry_out.ensures.settled);
+      },
+      _,
+      c.in-Ok.ensures.offer,
+      subst (λ (b : Remembered (Option Passing)). PassGoesBack answer.act c.args.self.now.seat b c.carry_out.new.self.book)
+          (requested c.args.request.now (given_with c.args.word c.args.now) answer.reply answer.act _ before c.call.new.self called.seats called.cut
+          (rw c.empty.ensures at called.history) called.kept called.spares)
+          c.carry_out.ensures.back,
     )
