@@ -1,16 +1,17 @@
 """What README.md says of numbers, versions, crates and measurements, against the files that have them: for `tools/check-docs`."""
 import collections
 import glob
-import math
 import os
 import re
 
+from constants import chosen, constants_of
 from readme import parts, sentences, spans, table
 
 STAMP, CRATES, MEASUREMENTS = "dist/relay-x86_64-linux.stamp", "crates.txt", "docs/MEASUREMENTS.md"
 
-# A constant of the sources: its file, its name, and what it is divided by for the unit that README has.
-Constant = collections.namedtuple("Constant", "path name unit", defaults=[1])
+# A constant of the sources: its crate, its name, with the module before it if the crate has several of that name, and what it is divided
+# by for the unit that README has.
+Constant = collections.namedtuple("Constant", "crate name unit", defaults=[1])
 
 # A second and a minute in milliseconds, a millisecond in microseconds.
 SECOND, MINUTE, MILLISECOND = 1_000, 60_000, 1_000
@@ -21,30 +22,28 @@ FOURTH = MILLISECOND / 4
 # Words of README, with the place of each constant that they have.
 SAID = [
     ("Mounts; tracks of a mount; bytes of its name | {}; {}; {} |",
-     Constant("mounts/src/mounts", "MAX_MOUNTS"), Constant("sdp/src/lib", "MAX_TRACKS"), Constant("mounts/src/names", "MAX_NAME")),
-    ("A name has 1 to {} bytes", Constant("mounts/src/names", "MAX_NAME")),
-    ("| Connections | {:,}, ", Constant("session_state/src/world", "MAX_CONNECTIONS")),
-    ("Request head; body; packet | {:,} bytes; {:,} bytes;",
-     Constant("rtsp_message/src/lib", "MAX_HEAD"), Constant("rtsp_message/src/lib", "MAX_BODY")),
-    ("A session expires {} seconds after ", Constant("session_state/src/world/expiring", "SESSION_LIFE", SECOND)),
-    ("`session expired after {} s of silence`", Constant("session_state/src/world/expiring", "SESSION_LIFE", SECOND)),
-    ("acknowledges nothing for {} seconds", Constant("relay_fanout/src/listening", "UNACKNOWLEDGED", SECOND)),
-    ("`no acknowledgement for {} s`", Constant("relay_fanout/src/listening", "UNACKNOWLEDGED", SECOND)),
-    ("disconnected {:in_words} seconds later", Constant("relay_main/src/serve", "AFTER_END", SECOND)),
-    ("Disconnect players {:in_words} seconds after ", Constant("relay_main/src/serve", "AFTER_END", SECOND)),
-    ("`no SETUP for {} s after its ANNOUNCE`", Constant("relay_server/src/watched", "SETUP_WAIT", SECOND)),
-    ("A report has at most {} lines", Constant("relay_server/src/reports", "MOST_LINES")),
-    ("Memory of the last {} requests", Constant("relay_server/src/shared", "KEPT")),
-    ("more than {:in_words} a second", Constant("relay_accounts/src/line_rate", "MOST")),
-    ("once {:in_words} minute for each mount", Constant("relay_accounts/src/refused_requests", "KNOWN", MINUTE)),
-    ("and why, once {:in_words} minute", Constant("relay_accounts/src/tally", "WHILE", MINUTE)),
-    ("| {} if the system grants it", Constant("relay_main/src/serve", "SEND_BUFFER")),
+     Constant("mounts", "MAX_MOUNTS"), Constant("sdp", "MAX_TRACKS"), Constant("mounts", "MAX_NAME")),
+    ("A name has 1 to {} bytes", Constant("mounts", "MAX_NAME")),
+    ("| Connections | {:,}, ", Constant("session_state", "MAX_CONNECTIONS")),
+    ("A session expires {} seconds after ", Constant("session_state", "SESSION_LIFE", SECOND)),
+    ("`session expired after {} s of silence`", Constant("session_state", "SESSION_LIFE", SECOND)),
+    ("acknowledges nothing for {} seconds", Constant("relay_fanout", "UNACKNOWLEDGED", SECOND)),
+    ("`no acknowledgement for {} s`", Constant("relay_fanout", "UNACKNOWLEDGED", SECOND)),
+    ("disconnected {:in_words} seconds later", Constant("relay_main", "AFTER_END", SECOND)),
+    ("Disconnect players {:in_words} seconds after ", Constant("relay_main", "AFTER_END", SECOND)),
+    ("`no SETUP for {} s after its ANNOUNCE`", Constant("relay_server", "SETUP_WAIT", SECOND)),
+    ("A report has at most {} lines", Constant("relay_log", "REPORT_LINES")),
+    ("Memory of the last {} requests", Constant("relay_server", "KEPT_ENTRIES")),
+    ("more than {:in_words} a second", Constant("relay_log", "LINES_A_SECOND")),
+    ("once {:in_words} minute for each mount", Constant("relay_log", "REFUSED_KEPT", MINUTE)),
+    ("and why, once {:in_words} minute", Constant("relay_log", "TALLY_TIME", MINUTE)),
+    ("| {} if the system grants it", Constant("relay_main", "SEND_BUFFER")),
     ("at most {} milliseconds in any {}.",
-     Constant("pacing/src/allowance", "MOST", MILLISECOND), Constant("pacing/src/allowance", "WINDOW", FOURTH)),
-    ("is still copying, after {} milliseconds, the old packet", Constant("relay_fanout/src/pauses", "MOST")),
-    ("unless {} have come", Constant("relay_fanout/src/writing_side", "TAKES")),
+     Constant("pacing", "allowance::MOST", MILLISECOND), Constant("pacing", "allowance::WINDOW", FOURTH)),
+    ("is still copying, after {} milliseconds, the old packet", Constant("relay_fanout", "PAUSES")),
+    ("unless {} have come", Constant("relay_fanout", "TAKES")),
     ("If {} packets exceed {} KB",
-     Constant("relay_fanout/src/writing_side", "TAKES"), Constant("relay_fanout/src/writing_side", "GATHERED", 1_024)),
+     Constant("relay_fanout", "TAKES"), Constant("relay_fanout", "GATHERED", 1_024)),
 ]
 
 # The words of numbers that README doesn't have in digits; one minute is `a minute`.
@@ -63,10 +62,9 @@ class Number(int):
 
 
 def number_of(constant, text_of):
-    """Returns a constant in README's unit, or `None` if the file has no such constant or if it is no whole number of that unit."""
-    path = f"crates/{constant.path}.rt"
-    found = os.path.exists(path) and re.search(rf"\bconst {constant.name}: \w+ = (\d[\d_]*(?: \* \d[\d_]*)*);", text_of(path))
-    number = found and math.prod(map(int, found[1].split(" * "))) / constant.unit
+    """Returns a constant in README's unit, or `None` if its crate hasn't exactly one such constant, or if it is no whole number of that unit."""
+    found = chosen(constants_of(constant.crate, text_of), constant.name)
+    number = found[0].number / constant.unit if len(found) == 1 and found[0].number else None
     return Number(number) if number and number.is_integer() else None
 
 
@@ -75,7 +73,7 @@ def wrong_constants(text, text_of):
     for words, *constants in SAID:
         numbers = [number_of(it, text_of) for it in constants]
         for constant in (constant for constant, number in zip(constants, numbers) if number is None):
-            yield f"crates/{constant.path}.rt has no number {constant.name} as tools/program/facts.py has it for {words!r}"
+            yield f"{constant.crate} has no number {constant.name} as tools/program/facts.py has it for {words!r}"
         if None not in numbers and (said := words.format(*numbers)) not in text:
             yield f"it has no words {said!r}, as {', '.join(it.name for it in constants)} of the sources would have it"
 

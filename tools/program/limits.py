@@ -291,6 +291,18 @@ def connections_of_an_address_are_limited(program):
     yield from connections_are_counted(program)
 
 
+def refused_connections_are_closed(program):
+    """Connections that are refused at almost the same moment are all closed soon, though their peers stay."""
+    with serving(program, "--per-address", "1") as server, contextlib.ExitStack() as peers:
+        wanted(peers.enter_context(Peer(server)).ask("OPTIONS", "*"))
+        before = server.descriptors()
+        late = [peers.enter_context(Peer(server)) for _ in range(MANY)]
+        for peer in late:
+            yield from reads_full(peer)
+        if not until(5, lambda: server.descriptors() == before):
+            yield f"it has {server.descriptors()} descriptors after {MANY} refused connections, and {before} before"
+
+
 def connections_are_counted(program):
     """While MANY connections are refused, each has its answer; their line counts them in the end, and names the last one."""
     with ending(program, MANY + 1, "--per-address", "1") as server, Camera(server) as camera:
@@ -562,6 +574,7 @@ LONG = [(announced_mount_is_to_be_set_up, ())]
 PARTS = [(part, ()) for part in (networks_say_who_may, checks_of_the_request_come_first, owner_sets_up_its_own_mount_alone)]
 PARTS += [(part, ()) for part in (mapped_addresses_are_ipv4, ipv6_addresses_count_by_64_bits, faults_of_options_are_reported)]
 PARTS += [(part, ()) for part in (connections_of_an_address_are_limited, mounts_of_an_address_are_limited, refused_mounts_dont_count)]
+PARTS += [(refused_connections_are_closed, ())]
 PARTS += [(ends_are_counted_by_what_they_are, ()), *((silent_publisher_is_disconnected, mode) for mode in MODES)]
 
 # For the processors' time.

@@ -15,7 +15,7 @@ README = TOP / "README.md"
 ALERTS = re.compile(r"(?m)^    journalctl .* grep -E '([^']+)'$")
 
 # The counts of an account, and the reasons for which connections are refused.
-COUNTS, REFUSALS = "relay_accounts/src/counts.rt", "relay_server/src/refusal.rt"
+COUNTS, REFUSALS = "relay_accounts/src/counts.rt", "relay_log/src/refusal.rt"
 
 # README's table of symptoms, and its column of the lines that the program writes then.
 SYMPTOMS, SYMPTOM_LINE = "If something is wrong", "Line in the log"

@@ -104,6 +104,10 @@ class Server:
     def threads(self):
         return len(os.listdir(f"/proc/{self.pid}/task"))
 
+    def descriptors(self):
+        """How many descriptors it has open."""
+        return len(os.listdir(f"/proc/{self.pid}/fd"))
+
     def has_ended(self, seconds=30):
         """Whether it ends by itself, as it does with `--accept`, with status 0."""
         try:

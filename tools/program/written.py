@@ -8,9 +8,12 @@ from readme import cells, parts, spans
 TOP = pathlib.Path(__file__).resolve().parent.parent.parent
 
 # Crates that the program has nothing of.
-OTHER_PROGRAMS = re.compile(r"bench|transcripts|\w+_tests")
+OTHER_PROGRAMS = re.compile(r"bench|transcripts|test_kit|\w+_tests")
 
-CALL = re.compile(r'\b(warn|info|error|debug|trace|eprintln|eprint)!\(\s*(?:[\w.]+;\s*"((?:[^"\\]|\\.)*)")?')
+CALL = re.compile(r'\b(warn|info|error|debug|trace|eprintln|eprint)!\(\s*(?:[\w.]+;\s*(target: TARGET,\s*)?"((?:[^"\\]|\\.)*)")?')
+
+# Where the lines of a file say that they come from, if that isn't its module.
+TARGET = re.compile(r'^const TARGET: &str = "([\w:]+)";$', re.MULTILINE)
 
 # A line with the program's name in place of a level and a source.
 NAMED, OWN = "relay: ", re.compile(r'"relay: ((?:[^"\\]|\\.)*)"')
@@ -33,8 +36,8 @@ OF_TESTS = {"bad word", "bad line {number}", "stream fault {number}", "read fail
 VALUES = {
     ("relay_server::server", "{end}"): ("relay_accounts/src/ending.rt",),
     ("relay_server::events", "{counts}"): ("relay_accounts/src/counts.rt",),
-    ("relay_server::refusing", "{why}"): ("relay_server/src/refusal.rt",),
-    ("relay_server::refusing", "{line}"): ("relay_accounts/src/refused_requests.rt",),
+    ("relay_server::refusing", "{why}"): ("relay_log/src/refusal.rt",),
+    ("relay_server::refusing", "{line}"): ("relay_log/src/refused_line.rt",),
     ("relay_server::reports", "{line}"): ("status/src/mount_status.rt", "status/src/player_status.rt"),
 }
 
@@ -67,9 +70,11 @@ def kinds():
         crate, _, *modules = path.relative_to(TOP / "crates").with_suffix("").parts
         if OTHER_PROGRAMS.fullmatch(crate):
             continue
-        target, text = "::".join([crate, *(it for it in modules if it not in ("lib", "main"))]), text_of(path)
-        for call, form in CALL.findall(text):
+        module, text = "::".join([crate, *(it for it in modules if it not in ("lib", "main"))]), text_of(path)
+        named = TARGET.search(text)
+        for call, has_target, form in CALL.findall(text):
             if call in LEVELS:
+                target = named and named[1] if has_target else module
                 yield f"[{LEVELS[call]} {target}] ", form or None
             elif not form.startswith(NAMED):
                 yield "", form or None

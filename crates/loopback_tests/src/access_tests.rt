@@ -1,6 +1,5 @@
 //! What peers may do by their addresses, and how much one address may have.
 use crate::held::{Held, Latch};
-use crate::kept::Kept;
 use crate::loopback::{ANNOUNCE, Client, OPTIONS, Running, Set, listening, start_with, status};
 use crate::refused_tests::{Refusing, all_told, late_is_refused};
 use crate::scripted::asks_at_last;
@@ -17,6 +16,7 @@ use std::sync::Wait;
 use std::sync::atomic::{AtomicUsize, Ordering};
 use std::thread::Threads;
 use std::time::Clock;
+use test_kit::Kept;
 
 /// Announces another mount than `ANNOUNCE`.
 const ANNOUNCE_OTHER: &[u8] =
@@ -77,7 +77,7 @@ fn is_served<R: Net<Stream = TcpStream> + Abort>(rt: &R, alloc: Global, addr: So
 fn a_connection_without_a_thread_does_not_count(rt: HostRuntime) {
     let alloc = rt.alloc();
     let (listener, addr) = listening(&rt);
-    let served = Kept::new(rt, alloc);
+    let served = Kept::new(rt, alloc).expect(&rt, "memory");
     let gate = Refusing::new(0);
     let set = Set::of(2, 1);
     let access = one_connection();

@@ -1,11 +1,10 @@
 //! Sessions that expire over loopback, by a clock that the test moves.
 use crate::dial::Dial;
-use crate::held::wait_for;
-use crate::kept::{Kept, is_only_end};
+use crate::lines::is_only_end;
 use crate::loopback::{ANNOUNCE, Client, MODES, OPTIONS, Set, listening, start, start_on, status};
 use crate::scripted::{
-    FRAME, Peers, SETUP_OUT, asks_at_last, passes_on, play, player, plays_at_last, publisher,
-    stalled, status_in,
+    Peers, SETUP_OUT, asks_at_last, passes_on, play, player, plays_at_last, publisher, stalled,
+    status_in,
 };
 use log::Log;
 use relay_server::{Gate, OpenGate};
@@ -18,6 +17,7 @@ use std::sync::atomic::{AtomicBool, Ordering};
 use std::sync::{Arc, Wait};
 use std::thread::Threads;
 use std::time::Clock;
+use test_kit::{FRAME, Kept, wait_for};
 
 /// An RTCP packet as a frame on the channel of a player.
 const REPORT: &[u8] = b"\x24\x05\x00\x08\x80\xc9\x00\x01\x00\x00\x00\x00";
@@ -73,7 +73,7 @@ where
 fn a_vanished_publishers_name_is_free_and_one_line_tells_it(rt: HostRuntime) {
     let alloc = rt.alloc();
     for writers in MODES {
-        let served = Kept::new(rt, alloc);
+        let served = Kept::new(rt, alloc).expect(&rt, "memory");
         let camera = vanishes_from(&rt, served, alloc, writers);
         let want = format!(in alloc;
             "[WARN  relay_server::server] {camera}: publisher of cam: session expired after 60 s of silence (connection 1)"
@@ -287,7 +287,7 @@ fn warnings_of(lines: &[String], peer: &str) -> usize {
 fn a_reply_that_waits_is_whole_and_then_the_session_has_expired(rt: HostRuntime) {
     let alloc = rt.alloc();
     for writers in MODES {
-        let served = Kept::new(rt, alloc);
+        let served = Kept::new(rt, alloc).expect(&rt, "memory");
         let first = reads_late_from(&rt, served, alloc, writers);
         let peer = format!(in alloc; " {first}: ").expect(&rt, "memory");
         let want = format!(in alloc;

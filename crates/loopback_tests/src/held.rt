@@ -4,19 +4,8 @@ use std::alloc::Global;
 use std::process::Abort;
 use std::sync::Arc;
 use std::sync::atomic::{AtomicBool, Ordering};
-use std::thread;
-use std::time::{Clock, Duration};
-
-/// Waits until a word is set, for at most ten seconds. Returns whether it is.
-pub(crate) fn wait_for<R: Clock>(rt: &R, word: &AtomicBool) -> bool {
-    for _ in 0..10_000u32 {
-        if word.load(Ordering::SeqCst) {
-            return true;
-        }
-        thread::sleep(rt, Duration::from_millis(1));
-    }
-    false
-}
+use std::time::Clock;
+use test_kit::wait_for;
 
 /// What a test and the gate of its server signal each other.
 #[derive(Drop)]

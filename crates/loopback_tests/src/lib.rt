@@ -13,7 +13,7 @@ mod expiry_tests;
 #[cfg(test)]
 mod held;
 #[cfg(test)]
-mod kept;
+mod lines;
 #[cfg(test)]
 mod loopback;
 #[cfg(test)]

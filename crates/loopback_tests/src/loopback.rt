@@ -6,8 +6,8 @@ use packet_ring::Pass;
 use relay_server::{
     Accepts, Access, Gate, Options, RingMaker, Seat, SharedBook, Stopping, run_server,
 };
-use relay_talk::FixedWord;
 use session_lock::Book;
+use session_words::FixedWord;
 use std::alloc::{AllocError, Global};
 use std::collections::hash_map::RandomState;
 use std::io::{Eprint, Read, Write};

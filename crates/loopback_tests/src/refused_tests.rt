@@ -1,5 +1,5 @@
 //! Accepts and threads that are refused.
-use crate::kept::{Kept, is_only_end};
+use crate::lines::is_only_end;
 use crate::loopback::{Client, Set, listening, start, start_on};
 use crate::scripted::{SETUP_OUT, passes_on, play, plays_at_last, publisher};
 use crate::serving_tests::two_clients_ask;
@@ -10,6 +10,7 @@ use std::net::{Net, SocketAddr, TcpListener, TcpStream};
 use std::process::Abort;
 use std::sync::atomic::{AtomicU64, Ordering};
 use std::time::{Clock, Duration, Instant};
+use test_kit::Kept;
 
 /// A listener that fails three times before each connection.
 #[derive(Drop)]
@@ -53,7 +54,7 @@ fn an_accept_that_fails_is_tried_again(rt: HostRuntime) {
         listener,
         asked: AtomicU64::new(0),
     };
-    let served = Kept::new(rt, alloc);
+    let served = Kept::new(rt, alloc).expect(&rt, "memory");
     let server = start_on(&rt, served, alloc, failing, addr, Set::of(2, 1), OpenGate);
     two_clients_ask(&rt, alloc, server.addr);
     server.end(&rt);
@@ -105,7 +106,7 @@ pub(crate) fn late_is_refused<R: Net<Stream = TcpStream> + Abort>(
 fn a_connection_without_a_thread_is_refused(rt: HostRuntime) {
     let alloc = rt.alloc();
     let (listener, addr) = listening(&rt);
-    let served = Kept::new(rt, alloc);
+    let served = Kept::new(rt, alloc).expect(&rt, "memory");
     let gate = Refusing::new(0);
     let server = start_on(&rt, served, alloc, listener, addr, Set::of(3, 1), gate);
     late_is_refused(&rt, alloc, server.addr);
@@ -132,7 +133,7 @@ fn a_refused_connection_leaves_its_place(rt: HostRuntime) {
 fn a_connection_of_a_full_server_is_refused(rt: HostRuntime) {
     let alloc = rt.alloc();
     let (listener, addr) = listening(&rt);
-    let served = Kept::new(rt, alloc);
+    let served = Kept::new(rt, alloc).expect(&rt, "memory");
     let server = start_on(&rt, served, alloc, listener, addr, Set::of(1, 1), OpenGate);
     assert!(rt; server.fill(&rt) == 1024);
     let _late = late_is_refused(&rt, alloc, server.addr);
@@ -165,7 +166,7 @@ fn seat_is_free_again<R: Net<Stream = TcpStream> + Clock + Abort>(
 fn a_player_without_a_thread_for_its_frames_is_let_go(rt: HostRuntime) {
     let alloc = rt.alloc();
     let (listener, addr) = listening(&rt);
-    let served = Kept::new(rt, alloc);
+    let served = Kept::new(rt, alloc).expect(&rt, "memory");
     let gate = Refusing::new(3);
     let server = start_on(&rt, served, alloc, listener, addr, Set::of(3, 1), gate);
     let first = seat_is_free_again(&rt, alloc, server.addr);
@@ -201,7 +202,7 @@ fn a_server_without_a_thread_of_its_own_does_not_begin(rt: HostRuntime) {
     let alloc = rt.alloc();
     for number in 0..HELPERS {
         let (listener, addr) = listening(&rt);
-        let served = Kept::new(rt, alloc);
+        let served = Kept::new(rt, alloc).expect(&rt, "memory");
         let gate = Lacking {
             number,
             asked: AtomicU64::new(0),

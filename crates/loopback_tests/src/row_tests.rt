@@ -1,10 +1,10 @@
 //! Rows of requests over loopback.
 use crate::loopback::{Client, MODES, Set, start};
-use crate::scripted::FRAME;
 use relay_server::OpenGate;
 use std::alloc::Global;
 use std::net::{Net, SocketAddr, TcpStream};
 use std::process::Abort;
+use test_kit::FRAME;
 
 /// A request of one of two clients, and the status and the body that it is answered with.
 #[derive(Clone, Copy)]

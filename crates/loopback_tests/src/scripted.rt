@@ -5,6 +5,7 @@ use std::net::{Net, SocketAddr, TcpStream};
 use std::process::Abort;
 use std::thread;
 use std::time::{Clock, Duration};
+use test_kit::{FRAME, PACKET};
 
 pub(crate) const SETUP_IN: &[u8] =
     b"SETUP rtsp://127.0.0.1:8554/cam/streamid=0 RTSP/1.0\r\nCSeq: 3\r\nTransport: RTP/AVP/TCP;unicast;interleaved=0-1;mode=record\r\n\r\n";
@@ -14,9 +15,6 @@ pub(crate) const RECORD: &[u8] =
 
 pub(crate) const SETUP_OUT: &[u8] =
     b"SETUP rtsp://127.0.0.1:8554/cam/trackID=0 RTSP/1.0\r\nCSeq: 3\r\nTransport: RTP/AVP/TCP;unicast;interleaved=4-5\r\n\r\n";
-
-/// An RTP packet with number 7 and timestamp 9,000, as a frame on channel 0.
-pub(crate) const FRAME: &[u8] = b"\x24\x00\x00\x0c\x80\x60\x00\x07\x00\x00\x23\x28\x00\x00\x00\x00";
 
 /// A client that has announced `cam` and records into it.
 pub(crate) fn publisher<R: Net<Stream = TcpStream> + Abort>(
@@ -109,7 +107,7 @@ impl Peers {
 
 /// Returns whether the packet of `FRAME` comes next.
 fn has_frame(rt: &impl Abort, player: &mut Client) -> bool {
-    player.bytes(rt, 16).as_slice().ends_with(&FRAME[4..])
+    player.bytes(rt, 16).as_slice().ends_with(PACKET)
 }
 
 /// Returns whether the packet of `FRAME` comes from a camera to a player.

@@ -1,11 +1,12 @@
 //! Connections over loopback.
 use crate::held::{Held, Latch};
 use crate::loopback::{Client, MODES, OPTIONS, Set, start, status};
-use crate::scripted::{FRAME, Peers, SETUP_OUT, passes_on, play, publisher, status_in};
+use crate::scripted::{Peers, SETUP_OUT, passes_on, play, publisher, status_in};
 use relay_server::OpenGate;
 use std::alloc::Global;
 use std::net::{Net, SocketAddr, TcpStream};
 use std::process::Abort;
+use test_kit::{FRAME, PACKET};
 
 /// A frame comes to its player on the channel that it set up. After that the server has read all that the camera sent.
 fn comes_out<R: Abort>(rt: &R, camera: &mut Client, player: &mut Client) {
@@ -14,7 +15,7 @@ fn comes_out<R: Abort>(rt: &R, camera: &mut Client, player: &mut Client) {
     camera.say(rt, FRAME);
     let frame = player.bytes(rt, 16);
     assert!(rt;
-        frame.as_slice().starts_with(b"\x24\x04\x00\x0c") && frame.as_slice().ends_with(&FRAME[4..])
+        frame.as_slice().starts_with(b"\x24\x04\x00\x0c") && frame.as_slice().ends_with(PACKET)
     );
     // One that is refused, because it has 16,385 bytes: no player is sent its number.
     camera.say(rt, b"\x24\x00\x40\x01\x80\x60\x00\x63");

@@ -2,5 +2,5 @@ pub mod Patiences
 pub mod ReadRates
 pub mod Rounds
 pub mod Allowances
-pub mod Insisting
+pub mod Retrying
 pub mod Recent

@@ -4,17 +4,17 @@
 #![tactic(auto)]
 
 mod allowance;
-mod insisting;
 mod patience;
 mod read_rate;
 mod recent;
+mod retrying;
 mod round;
 mod standing;
 
 pub use allowance::Allowance;
-pub use insisting::{Insisting, Pause};
 pub use patience::Patience;
 pub use read_rate::ReadRate;
 pub use recent::{Back, Mark, Recent, Start};
+pub use retrying::{Pause, Retrying};
 pub use round::Round;
 pub use standing::Standing;

@@ -5,6 +5,7 @@
 mod fate;
 mod observing;
 mod offering;
+mod points;
 mod relaying;
 mod report;
 mod rtp;
@@ -12,6 +13,7 @@ mod rtp;
 pub use fate::Fate;
 pub use observing::FateObserver;
 pub use offering::publish_frame;
+pub use points::point_to_post;
 pub use relaying::{relay_in, relay_in_observed};
 pub use report::{InReport, InStop};
-pub use rtp::{is_rtp, point_of};
+pub use rtp::point_of;

@@ -18,7 +18,7 @@ use transport_header::{Point, TrackChannels};
 /// result.
 ///
 /// `points` has a place for each track that is set up, which becomes the point of the last RTP packet
-/// published. `Posting` of `relay_fanout` also posts each point as soon as its packet is in the log.
+/// published. `MountFeed` of `relay_fanout` also posts each point as soon as its packet is in the log.
 /// Over any other feed, as in `talk`, the caller has the points from here alone, all at once when this
 /// returns.
 pub fn relay_in<S: Source + Drop, F: Feed>(

@@ -5,7 +5,7 @@ ghost use Rattle.publisher.specs.Rtp.{IsRtp, point_of as point_in};
 use transport_header::Point;
 
 /// The bytes of the fixed header.
-const FIXED_HEADER: usize = 12;
+pub(crate) const FIXED_HEADER: usize = 12;
 
 /// The bytes that name one contributing source.
 const SOURCE: usize = 4;
@@ -15,7 +15,7 @@ const VERSION: u8 = 2;
 
 /// Returns whether the bytes are an RTP packet: the version is 2, and the length is at least that of the
 /// fixed header and of the contributing sources that it counts.
-pub fn is_rtp(bytes: &[u8]) -> bool
+pub(crate) fn is_rtp(bytes: &[u8]) -> bool
     ensures { IsTrue result ↔ IsRtp bytes.now }
 {
     if bytes.len() < FIXED_HEADER {

@@ -1,9 +1,6 @@
-pub mod Backlogs
 pub mod Capped
 pub mod Counting
 pub mod Endings
 pub mod Handing
 pub mod Incoming
-pub mod Rates
 pub mod Reporting
-pub mod Tallies

@@ -5,7 +5,7 @@ ghost use Rattle.publisher.specs.FramesIn.{RelaysSeen};
 ghost use Rattle.relay_accounts.specs.Incoming.{DropsFrames};
 
 use crate::counts::Counts;
-use crate::heard::Heard;
+use crate::last_activity::LastActivity;
 use cursor::Feed;
 use interleaved::Source;
 use publisher::{FateObserver, InReport, InStop, relay_in_observed};
@@ -32,7 +32,7 @@ pub fn publish_frames<S: Source + Drop, F: Feed, O: FateObserver>(
 pub fn skip_frames<S: Source + Drop>(
     intake: &mut Intake<S>,
     counts: &mut Counts,
-    heard: &Heard,
+    heard: &LastActivity,
 ) -> InStop
     ensures { DropsFrames S.incoming S.failed intake.old intake.new counts.old counts.new result }
 {

@@ -2,7 +2,7 @@
 use Rattle.std.specs.Prelude.{ℕ, Bool, ◌*◌, ◌-◌, ◌^◌, min, Option, None, Some, if◌then◌else◌}
 use Rattle.std.specs.Option.{unwrap_or}
 use Rattle.relay_command.specs.declared.settings.Settings.{Settings}
-use Rattle.relay_server.specs.declared.options.Options.{Options}
+use Rattle.relay_server.specs.declared.listen.options.Options.{Options}
 
 -- seconds in milliseconds, which stay at 2^64 - 1
 abbrev pub milliseconds_of : (seconds : Option ℕ) → Option ℕ

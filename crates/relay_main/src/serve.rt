@@ -11,7 +11,7 @@ use relay_server::{
     Access, ClockMoments, OpenGate, Options, RingMaker, Stopping, limit_peers, run_server,
     set_send_buffer, shared_book, stop_listening,
 };
-use relay_talk::{DrawnWords, NoWords};
+use session_words::{DrawnWords, NoWords};
 use std::alloc::{AllocError, Global};
 use std::collections::hash_map::RandomState;
 use std::io::{Eprint, ErrorKind, Read};

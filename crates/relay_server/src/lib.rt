@@ -1,44 +1,29 @@
-//! The server: connections over sockets, the threads that read and play, and what they share.
+//! The server in two folders: `listen` accepts connections and has the threads that all of them share, and `connection` is what the
+//! thread of one connection does. What they log is in `relay_log`.
 #![tactic(auto)]
 
-mod accepts;
-mod access;
-mod clock_moments;
 mod connection;
-mod events;
-mod frame_notes;
-mod gate;
-mod hearing;
-mod helpers;
-mod lines;
-mod options;
-mod peers;
-mod published;
-mod refusal;
-mod refusing;
-mod reports;
-mod server;
-mod shared;
-mod stopping;
-mod watched;
+mod limits;
+mod listen;
 
-pub use accepts::Accepts;
-pub use access::{Access, Rights};
-pub use clock_moments::ClockMoments;
-pub use connection::{Outgoing, run_connection};
-pub use events::Events;
-pub use gate::{Gate, OpenGate};
-pub use hearing::Hearing;
-pub use lines::Lines;
-pub use options::Options;
-pub use refusal::Refusal;
+pub use connection::clock_moments::ClockMoments;
+pub use connection::connection_clock::ConnectionClock;
+pub use connection::idle_policy::IdlePolicy;
+pub use connection::idle_reader::IdleReader;
+pub use connection::outgoing::Outgoing;
+pub use connection::running::run_connection;
+pub use connection::server_book::{SharedBook, shared_book};
+pub use connection::shared::Shared;
+pub use listen::accepts::Accepts;
+pub use listen::access::Access;
+pub use listen::gate::{Gate, OpenGate};
+pub use listen::options::Options;
+pub use listen::rights::Rights;
+pub use listen::server::run_server;
+pub use listen::stopping::Stopping;
 pub use relay_accounts::{ConnectionEnd, Counts, Outcome, Part};
 pub use relay_fanout::{
     HangUp, Maker, RingMaker, Seat, Socket, Writers, WritingSide, limit_peers, set_send_buffer,
     stop_listening,
 };
-pub use reports::Reports;
-pub use server::{run_server, tell_end, tell_last_account};
-pub use shared::{Shared, SharedBook, shared_book};
-pub use stopping::Stopping;
-pub use watched::{Silence, Watched};
+pub use relay_log::{Events, Lines, Refusal, Reports, tell_end, tell_last_account};

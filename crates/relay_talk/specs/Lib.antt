@@ -1,4 +1,3 @@
-pub mod SessionWords
 pub mod Exchange
 pub mod Publishing
 pub mod Seat

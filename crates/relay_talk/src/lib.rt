@@ -5,8 +5,6 @@
 pub mod laws;
 mod talk;
 mod talker;
-mod words;
 
 pub use talk::{Ended, TalkEnd, do_talk, run_talk, talk_end};
 pub use talker::Talker;
-pub use words::{DrawnWords, FixedWord, NoWords, WordSource, read_word, word_source};

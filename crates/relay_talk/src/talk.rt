@@ -60,7 +60,7 @@ pub fn run_talk<R: Source + Drop, W: Sink, V: Words, N: Moments>(
 
 impl Talker {
     /// Answers the messages of an intake to its end, and publishes the frames that come in while the session records. Each answer
-    /// is written before more is read: no clause says so, `prompt_tests` of `unit_tests` show it.
+    /// is written before more is read: no clause says so, `prompt_tests` of `talk_tests` show it.
     pub fn answer_all<R: Source + Drop, W: Sink, V: Words, N: Moments>(
         &mut self,
         intake: &mut Intake<R>,

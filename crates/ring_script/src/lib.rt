@@ -22,7 +22,4 @@ pub use call_line::CallLine;
 pub use ends::{StepsEnd, steps_end};
 pub use item::read_actor;
 pub use plan::{Plan, PlanFault};
-pub use plan_reading::read_plan;
-pub use printing::put_trace;
 pub use running::{run_steps, run_steps_out};
-pub use script::script_of;

@@ -10,7 +10,7 @@ use std::alloc::Global;
 /// Reads an input: `keep N`, `seats N`, any number of call lines, and one `go` line. An LF ends a
 /// line, and a last line without one counts; empty lines are skipped. The first bad line decides.
 #[tactic(auto, using(crate::proofs::Reading::nothing_read, crate::proofs::Reading::line_read))]
-pub fn read_plan(alloc: Global, text: &[u8]) -> Result<Plan, PlanFault>
+pub(crate) fn read_plan(alloc: Global, text: &[u8]) -> Result<Plan, PlanFault>
     ensures { MatchResult result (Reads text.now) (IsRefused text.now) }
 {
     let mut draft = Draft::Empty;

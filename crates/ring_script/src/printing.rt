@@ -186,7 +186,7 @@ fn put_events(
 
 /// Appends the text of a trace: one line a step, then one line an event. The only error is out of
 /// memory, and a part of the text may stand in `out` then.
-pub fn put_trace(out: &mut Vec<u8>, trace: &Trace) -> Result<(), AllocError>
+pub(crate) fn put_trace(out: &mut Vec<u8>, trace: &Trace) -> Result<(), AllocError>
     ensures { OnOk result (out.new.items ≡ out.old.items ++ trace_text trace.now) }
 {
     put_steps(out, trace.steps.as_slice())?;

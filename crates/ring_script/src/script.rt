@@ -11,7 +11,11 @@ use std::alloc::{AllocError, Global};
 
 /// The script of so many seats, at most as many as a ring may have: each actor's calls in the order of its lines. The
 /// only error is out of memory.
-pub fn script_of(alloc: Global, seats: usize, lines: Items<CallLine>) -> Result<Script, AllocError>
+pub(crate) fn script_of(
+    alloc: Global,
+    seats: usize,
+    lines: Items<CallLine>,
+) -> Result<Script, AllocError>
     requires { seats ≤ 1024 }
     ensures { IfOk result (λ script. calls_of script ≡ record { publisher = publisher_calls lines; seats = all_seats seats lines }) }
 {

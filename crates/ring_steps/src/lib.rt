@@ -15,7 +15,6 @@ mod made;
 mod making;
 mod progress;
 mod publishing;
-mod readiness;
 mod ring;
 pub mod run_laws;
 mod running_out;

@@ -1,6 +1,6 @@
 //! What becomes of the packets of a player that is too slow, and of its mount.
 use crate::connection_tests::{ANNOUNCE, SETUP};
-use crate::devices::{Count, FRAME, Flag, Manner, Staged, Written, count, flag, has_come, joined};
+use crate::devices::{Flag, Manner, Staged, Written, flag, joined};
 use crate::rings::Rings;
 use crate::serving::{
     Serving, SharedRings, Watch, book_of, line_in, serve_in_thread, serve_source, shared_over,
@@ -14,6 +14,7 @@ use std::sync::atomic::Ordering;
 use std::sync::{Arc, Wait};
 use std::thread::Threads;
 use std::time::Clock;
+use test_kit::{Count, FRAME, count, has_come};
 
 /// In the session that the second word began.
 const RECORD: &[u8] = b"RECORD rtsp://h/a RTSP/1.0\nCSeq: 3\nSession: 0000000100000002\n\n";
@@ -73,7 +74,7 @@ impl Stall {
         Stall {
             waits: flag(rt, alloc),
             read: flag(rt, alloc),
-            writes: count(rt, alloc),
+            writes: count(alloc).expect(rt, "memory"),
         }
     }
 

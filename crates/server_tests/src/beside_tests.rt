@@ -2,7 +2,7 @@
 use crate::connection_tests::{
     ANNOUNCE, ANNOUNCED, IN_SESSION, NO_RING, OTHER, PAUSE, RECORD, SET_UP, SETUP,
 };
-use crate::devices::{FRAME, has_come, joined};
+use crate::devices::joined;
 use crate::moments::Still;
 use crate::rings::Rings;
 use crate::serving::{Serving, SharedRings, book_of, serve_camera, shared_over, told_by};
@@ -14,6 +14,7 @@ use std::sync::atomic::Ordering;
 use std::sync::{Arc, Wait};
 use std::thread::Threads;
 use std::time::Clock;
+use test_kit::{FRAME, has_come};
 
 const PAUSED: &[u8] = b"RTSP/1.0 200 OK\r\nCSeq: 4\r\nSession: 000000010000abcd\r\n\r\n";
 

@@ -1,4 +1,5 @@
 //! The moments of a clock.
+use relay_fanout::{Reading, SteadyClock};
 use relay_server::ClockMoments;
 use session_state::Moments;
 use std::alloc::Global;
@@ -70,6 +71,31 @@ fn moments_are_milliseconds_of_a_clock_that_does_not_go_back(rt: HostRuntime) {
         let mut moments = ClockMoments::new(Shown::new(&rt, alloc, times));
         for moment in want.iter() {
             assert!(rt; moments.now() == *moment, "row {place}: {moment}");
+        }
+    }
+}
+
+/// What a clock shows when it is made and at each reading, and each moment in microseconds, with whether it was read.
+const READINGS: [(&[Option<u64>], &[(u64, bool)]); 2] = [
+    (
+        &[Some(1_000), Some(8_000), None, Some(2_000), Some(9_500)],
+        &[(7_000, true), (7_000, false), (7_000, true), (8_500, true)],
+    ),
+    (&[None, Some(8_000)], &[(0, false)]),
+];
+
+#[test]
+fn a_reading_that_fails_is_the_last_moment(rt: HostRuntime) {
+    let alloc = rt.alloc();
+    for (place, (times, want)) in READINGS.iter().enumerate() {
+        let shown = Shown::new(&rt, alloc, times);
+        let mut clock = SteadyClock::new(&shown);
+        for (moment, is_read) in want.iter() {
+            let reading = Reading {
+                moment: *moment,
+                is_read: *is_read,
+            };
+            assert!(rt; clock.read(&shown) == reading, "row {place}: {moment}");
         }
     }
 }

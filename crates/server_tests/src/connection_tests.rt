@@ -5,7 +5,7 @@ use crate::rings::Rings;
 use crate::serving::{book_of, line_to, sent_on, shared_over};
 use crate::words::OneWord;
 use interleaved::ListSource;
-use relay_server::{ConnectionEnd, Counts, Events, Hearing, Rights, run_connection};
+use relay_server::{ConnectionClock, ConnectionEnd, Counts, Events, Rights, run_connection};
 use rtsp_message::Fault;
 use std::alloc::Global;
 use std::process::Abort;
@@ -57,7 +57,7 @@ where
         None
     };
     let source = ListSource::new(peer.said, 7, fail_at);
-    let hearing = Hearing::new(alloc, Still).expect(&rt, "memory");
+    let connection_clock = ConnectionClock::new(alloc, Still).expect(&rt, "memory");
     let outcome = run_connection(
         rt,
         alloc,
@@ -66,7 +66,7 @@ where
         source,
         sent_on(line),
         Events::none(),
-        hearing,
+        connection_clock,
         Rights::all(),
     );
     let written = Vec::from_slice(alloc, bytes.lock(&rt).as_slice()).expect(&rt, "memory");

@@ -3,47 +3,21 @@ ghost use Rattle.std.specs.Prelude.{◌≤◌};
 
 use crate::moments::Dial;
 use interleaved::TryWrite;
-use relay_server::HangUp;
 use std::alloc::Global;
+use std::io;
 use std::io::{Read, Write};
 use std::process::Abort;
-use std::sync::atomic::{AtomicBool, AtomicU64, Ordering};
-use std::sync::{Arc, Mutex, Wait};
-use std::time::{Clock, Duration};
-use std::{io, thread};
-
-/// An RTP packet with number 7 and timestamp 9,000, as a frame on channel 0.
-pub(crate) const FRAME: &[u8] = b"\x24\x00\x00\x0c\x80\x60\x00\x07\x00\x00\x23\x28\x00\x00\x00\x00";
-
-/// Bytes that are written, shared with the thread that reads them.
-pub(crate) type Bytes = Arc<Mutex<Vec<u8>>, Global>;
+use std::sync::atomic::{AtomicBool, Ordering};
+use std::sync::{Arc, Wait};
+use std::time::Clock;
+use test_kit::{Bytes, Count, wait_for};
 
 /// A word by which a device is let on.
 pub(crate) type Flag = Arc<AtomicBool, Global>;
 
-/// A number that is counted up.
-pub(crate) type Count = Arc<AtomicU64, Global>;
-
 /// A word that isn't set.
 pub(crate) fn flag(rt: &impl Abort, alloc: Global) -> Flag {
     Arc::new(alloc, AtomicBool::new(false)).expect(rt, "memory")
-}
-
-/// A number that is 0.
-pub(crate) fn count(rt: &impl Abort, alloc: Global) -> Count {
-    Arc::new(alloc, AtomicU64::new(0)).expect(rt, "memory")
-}
-
-/// A connection that needs no hanging up.
-#[derive(Clone, Copy, Drop)]
-pub(crate) struct Open;
-
-impl HangUp for Open {
-    fn hang_up(&self) {}
-
-    fn close_writes(&self) {}
-
-    fn limit_waits(&self, _wait: u64) {}
 }
 
 /// Keeps what is written for the threads that share it.
@@ -110,16 +84,6 @@ impl<R: Wait + Clock> Write for Written<R> {
 }
 
 impl<R: Wait + Clock> TryWrite for Written<R> {}
-
-/// Waits until a word is set, for at most 10,000 turns of a millisecond.
-pub(crate) fn wait_for<R: Clock>(rt: &R, word: &AtomicBool) {
-    for _ in 0..10_000u32 {
-        if word.load(Ordering::SeqCst) {
-            return;
-        }
-        thread::sleep(rt, Duration::from_millis(1));
-    }
-}
 
 /// Gives the first part, and the second after it is let on, for which it waits at most 10,000 turns of a millisecond.
 #[derive(Drop)]
@@ -199,18 +163,4 @@ pub(crate) fn joined(rt: &impl Abort, alloc: Global, parts: &[&[u8]]) -> Vec<u8>
         all.extend_from_slice(part).expect(rt, "memory");
     }
     all
-}
-
-/// Waits until at least `least` bytes were written and `end` is the end of them, for at most 10,000 turns of a
-/// millisecond.
-pub(crate) fn has_come<R: Wait + Clock>(rt: &R, bytes: &Bytes, least: usize, end: &[u8]) -> bool {
-    for _ in 0..10_000u32 {
-        let written = bytes.lock(rt);
-        if written.len() >= least && written.as_slice().ends_with(end) {
-            return true;
-        }
-        drop(written);
-        thread::sleep(rt, Duration::from_millis(1));
-    }
-    false
 }

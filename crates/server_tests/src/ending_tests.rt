@@ -1,6 +1,6 @@
 //! The end of a mount while a reply is being written to its player.
 use crate::account_tests::{SET_UP, SETUP_OUT, Stall, stalled_line};
-use crate::devices::{Bytes, Count, Flag, Staged, count, flag, has_come, joined, wait_for};
+use crate::devices::{Flag, Staged, flag, joined};
 use crate::expiry_tests::{PLAY, camera};
 use crate::moments::Dial;
 use crate::rings::{Parting, Rings};
@@ -9,7 +9,8 @@ use crate::slow_reply_tests::{ANSWERED, ASKS};
 use crate::words::OneWord;
 use interleaved::Reading;
 use relay_server::{
-    ConnectionEnd, Events, HangUp, Hearing, OpenGate, Outgoing, Rights, Shared, run_connection,
+    ConnectionClock, ConnectionEnd, Events, HangUp, OpenGate, Outgoing, Rights, Shared,
+    run_connection,
 };
 use std::alloc::Global;
 use std::process::Abort;
@@ -19,6 +20,7 @@ use std::sync::{Arc, Wait};
 use std::thread;
 use std::thread::Threads;
 use std::time::{Clock, Duration};
+use test_kit::{Bytes, Count, count, has_come, wait_for};
 
 /// Notes when its peer is sent the end of the stream, and how many bytes were written by then.
 #[derive(Drop)]
@@ -72,7 +74,7 @@ where
     let close = Arc::try_clone(close).expect(&rt, "a count of its users");
     let said = joined(&rt, alloc, &[SETUP_OUT, PLAY]);
     let source = Staged::new(rt, said, joined(&rt, alloc, &[ASKS]), let_on).until(close);
-    let wire = Noting {
+    let shutdown = Noting {
         rt,
         written: Arc::try_clone(&watch.written).expect(&rt, "a count of its users"),
         bytes: Arc::try_clone(bytes).expect(&rt, "a count of its users"),
@@ -80,16 +82,24 @@ where
     };
     let outgoing = Outgoing {
         writing: stalled_line(rt, alloc, &watch, stall),
-        wire,
+        shutdown,
         writers: None,
     };
     let shared = Arc::try_clone(shared).expect(&rt, "a count of its users");
-    let hearing = Hearing::new(alloc, Dial::STILL).expect(&rt, "memory");
+    let connection_clock = ConnectionClock::new(alloc, Dial::STILL).expect(&rt, "memory");
     let thread = thread::spawn(&rt, move || {
         let (reader, events) = (Reading::new(source), Events::none());
         let rights = Rights::all();
         run_connection(
-            rt, alloc, shared, 2, reader, outgoing, events, hearing, rights,
+            rt,
+            alloc,
+            shared,
+            2,
+            reader,
+            outgoing,
+            events,
+            connection_clock,
+            rights,
         )
     })
     .expect(&rt, "a thread");
@@ -105,7 +115,7 @@ fn the_end_comes_after_the_reply_that_is_being_written(rt: HostRuntime) {
     let parting = Parting::new(&rt, alloc);
     let shared = shared(&rt, alloc, &parting);
     let (mount_ends, closes, is_told) = (flag(&rt, alloc), flag(&rt, alloc), flag(&rt, alloc));
-    let bytes = count(&rt, alloc);
+    let bytes = count(alloc).expect(&rt, "memory");
     let stall = Stall::new(&rt, alloc);
     let camera = camera(rt, alloc, &shared, Dial::STILL, &mount_ends);
     let player = player(rt, alloc, &shared, &stall, (&bytes, &is_told), &closes);

@@ -2,7 +2,7 @@
 use crate::account_tests::{SET_UP as PLAYS, SETUP_OUT};
 use crate::beside_tests::recording;
 use crate::connection_tests::{ANNOUNCE, ANNOUNCED, IN_SESSION, PAUSE, RECORD, SET_UP, SETUP};
-use crate::devices::{Flag, Staged, flag, has_come, joined, wait_for};
+use crate::devices::{Flag, Staged, flag, joined};
 use crate::moments::{Dial, Leaping, Still};
 use crate::rings::Rings;
 use crate::serving::{
@@ -18,6 +18,7 @@ use std::sync::atomic::Ordering;
 use std::sync::{Arc, Wait};
 use std::thread::Threads;
 use std::time::Clock;
+use test_kit::{has_come, wait_for};
 
 /// Returns what a connection that sends this is sent, by a clock that leaps when its fourth message comes. The clock is read
 /// when the connection comes, too.

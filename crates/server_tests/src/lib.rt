@@ -20,9 +20,9 @@ mod ending_tests;
 #[cfg(test)]
 mod expiry_tests;
 #[cfg(test)]
-mod kept;
-#[cfg(test)]
 mod limits_tests;
+#[cfg(test)]
+mod lines;
 #[cfg(test)]
 mod looking_tests;
 #[cfg(test)]

@@ -2,14 +2,14 @@
 use crate::connection_tests::{
     ANNOUNCE, ANNOUNCED, IN_SESSION, PAUSE, RECORD, SET_UP, SETUP, TEARDOWN,
 };
-use crate::devices::{FRAME, joined};
+use crate::devices::joined;
 use crate::moments::Dial;
 use crate::rings::Rings;
 use crate::serving::{Served, book_of, serve_with, shared_over};
 use crate::steps::{SILENT, Step, Stepped};
 use crate::words::OneWord;
 use interleaved::Reading;
-use relay_server::{ConnectionEnd, Events, Hearing, Rights, Silence, Watched};
+use relay_server::{ConnectionClock, ConnectionEnd, Events, IdlePolicy, IdleReader, Rights};
 use session_state::Moments;
 use std::alloc::Global;
 use std::process::Abort;
@@ -17,9 +17,10 @@ use std::random::RandomSource;
 use std::sync::{Arc, Wait};
 use std::thread::Threads;
 use std::time::Clock;
+use test_kit::FRAME;
 
 /// Silence is checked every two seconds, and a connection that records is disconnected after five.
-const FIVE_SECONDS: Silence = Silence {
+const FIVE_SECONDS: IdlePolicy = IdlePolicy {
     looks: 2_000,
     idle: None,
     silent: Some(5_000),
@@ -107,12 +108,24 @@ where
     let theirs = Arc::try_clone(&book).expect(&rt, "a count of its users");
     let shared = shared_over(&rt, alloc, theirs, Rings::of(&rt, alloc, 1), OneWord);
     let mut clock = Dial::new(&rt, alloc);
-    let hearing = Hearing::new(alloc, clock).expect(&rt, "memory");
+    let connection_clock = ConnectionClock::new(alloc, clock).expect(&rt, "memory");
     let source = Stepped::new(&rt, alloc, clock, first, then);
-    let watched = Watched::new(rt, source, &book, 1, &hearing, FIVE_SECONDS).expect(&rt, "memory");
-    let reading = Reading::new(watched);
+    let idle_reader = IdleReader::new(rt, source, &book, 1, &connection_clock, FIVE_SECONDS).expect(
+        &rt, "memory",
+    );
+    let reading = Reading::new(idle_reader);
     let events = Events::none();
-    let served = serve_with(rt, alloc, &shared, 1, reading, events, hearing, rights);
+    let served = serve_with(
+        rt,
+        rt,
+        alloc,
+        &shared,
+        1,
+        reading,
+        events,
+        connection_clock,
+        rights,
+    );
     (served, clock.now())
 }
 

@@ -2,7 +2,7 @@
 use crate::account_tests::SETUP_OUT;
 use crate::beside_tests::recording;
 use crate::connection_tests::{ANNOUNCED, OTHER};
-use crate::devices::{Count, Staged, count, has_come, joined};
+use crate::devices::{Staged, joined};
 use crate::moments::Dial;
 use crate::rings::{Owned, Rings};
 use crate::serving::{
@@ -13,7 +13,7 @@ use crate::steps::{SILENT, Step, Stepped};
 use crate::words::OneWord;
 use interleaved::Reading;
 use packet_ring::Pass;
-use relay_server::{ConnectionEnd, Events, Hearing, Seat, Silence, Watched};
+use relay_server::{ConnectionClock, ConnectionEnd, Events, IdlePolicy, IdleReader, Seat};
 use std::alloc::Global;
 use std::io::Read;
 use std::process::Abort;
@@ -22,6 +22,7 @@ use std::sync::{Arc, Wait};
 use std::thread;
 use std::thread::Threads;
 use std::time::{Clock, Duration};
+use test_kit::{Count, count, has_come};
 
 /// How many reads return before silence is checked, a tenth of a second after one another. The last of them returns two seconds
 /// after the connection came.
@@ -39,14 +40,14 @@ fn each_tenth(rt: &impl Abort, alloc: Global) -> Vec<Step> {
 }
 
 /// Makes one more read than those that don't need the book, and counts the reads that have returned.
-fn read_on<R, S>(mut watched: Watched<R, Seat<Owned<Pass>>, Dial, S>, reads: &Count)
+fn read_on<R, S>(mut idle_reader: IdleReader<R, Seat<Owned<Pass>>, Dial, S>, reads: &Count)
 where
     R: Wait + Clock + Copy,
     S: Read + Drop,
 {
     let mut buffer = [0; 16];
     for _ in 0..READS.saturating_add(1) {
-        if watched.read(&mut buffer).is_ok() {
+        if idle_reader.read(&mut buffer).is_ok() {
             reads.fetch_add(1, Ordering::SeqCst);
         }
     }
@@ -69,14 +70,16 @@ fn the_book_is_asked_each_two_seconds_and_no_more_often(rt: HostRuntime) {
     let alloc = rt.alloc();
     let book = book_of(&rt, alloc, 1, 1);
     let clock = Dial::new(&rt, alloc);
-    let hearing = Hearing::new(alloc, clock).expect(&rt, "memory");
+    let connection_clock = ConnectionClock::new(alloc, clock).expect(&rt, "memory");
     let steps = each_tenth(&rt, alloc);
     let source = Stepped::new(&rt, alloc, clock, steps.as_slice(), &[]);
-    let watched = Watched::new(rt, source, &book, 1, &hearing, SILENCE).expect(&rt, "memory");
-    let reads = count(&rt, alloc);
+    let idle_reader = IdleReader::new(rt, source, &book, 1, &connection_clock, SILENCE).expect(
+        &rt, "memory",
+    );
+    let reads = count(alloc).expect(&rt, "memory");
     let theirs = Arc::try_clone(&reads).expect(&rt, "a count of its users");
     let held = book.lock(&rt);
-    let reading = thread::spawn(&rt, move || read_on(watched, &theirs)).expect(&rt, "a thread");
+    let reading = thread::spawn(&rt, move || read_on(idle_reader, &theirs)).expect(&rt, "a thread");
     assert!(rt; come_to(&rt, &reads, READS));
     thread::sleep(&rt, Duration::from_millis(50));
     assert!(rt; reads.load(Ordering::SeqCst) == READS);
@@ -86,7 +89,7 @@ fn the_book_is_asked_each_two_seconds_and_no_more_often(rt: HostRuntime) {
 }
 
 /// Only a session's end is checked.
-const STAYS: Silence = Silence {
+const STAYS: IdlePolicy = IdlePolicy {
     looks: 2_000,
     idle: None,
     silent: None,
@@ -127,11 +130,22 @@ fn a_connection_is_told_of_by_its_last_session(rt: HostRuntime) {
     let camera = recording(rt, alloc, &shared);
     let other = other_camera(rt, alloc, &shared);
     let clock = Dial::new(&rt, alloc);
-    let hearing = Hearing::new(alloc, clock).expect(&rt, "memory");
+    let connection_clock = ConnectionClock::new(alloc, clock).expect(&rt, "memory");
     let source = Stepped::new(&rt, alloc, clock, &TWO_MOUNTS, &[]);
-    let watched = Watched::new(rt, source, &book, 2, &hearing, STAYS).expect(&rt, "memory");
-    let reading = Reading::new(watched);
-    let served = serve_here(rt, alloc, &shared, 2, reading, Events::none(), hearing);
+    let idle_reader = IdleReader::new(rt, source, &book, 2, &connection_clock, STAYS).expect(
+        &rt, "memory",
+    );
+    let reading = Reading::new(idle_reader);
+    let served = serve_here(
+        rt,
+        rt,
+        alloc,
+        &shared,
+        2,
+        reading,
+        Events::none(),
+        connection_clock,
+    );
     let outcome = served.outcome;
     assert!(rt; outcome.end == ConnectionEnd::Done);
     let part = outcome.part.expect(&rt, "a part in a mount");

@@ -6,7 +6,7 @@ use crate::rings::Rings;
 use crate::serving::{Served, book_of, serve_here, shared_over};
 use crate::words::OneWord;
 use interleaved::ListSource;
-use relay_server::{ConnectionEnd, Events, Hearing};
+use relay_server::{ConnectionClock, ConnectionEnd, Events};
 use std::sync::Arc;
 
 /// Two requests.
@@ -20,17 +20,18 @@ fn a_connection_that_is_refused_memory_leaves_its_place(rt: HostRuntime) {
     book.lock(&rt).connect().ok().expect(&rt, "memory");
     let theirs = Arc::try_clone(&book).expect(&rt, "a count of its users");
     let shared = shared_over(&rt, alloc, theirs, Rings::of(&rt, alloc, 1), OneWord);
-    let hearing = Hearing::new(alloc, Still).expect(&rt, "memory");
+    let connection_clock = ConnectionClock::new(alloc, Still).expect(&rt, "memory");
     let said = Vec::from_slice(alloc, ASKED).expect(&rt, "memory");
     let source = ListSource::new(said, 7, None);
     let Served { outcome, told } = serve_here(
+        rt,
         rt,
         alloc,
         &shared,
         1,
         source,
         Events::none(),
-        hearing,
+        connection_clock,
     );
     let good = replies(told.as_slice(), b"RTSP/1.0 200 ");
     let refused = replies(told.as_slice(), b"RTSP/1.0 503 ");

@@ -2,7 +2,7 @@
 use crate::account_tests::{
     LAST, PACKETS, PUBLIC_END, Stall, accounted, playing, published, recording,
 };
-use crate::devices::{Manner, Written, count, flag, has_come, wait_for};
+use crate::devices::{Manner, Written, flag};
 use crate::rings::Rings;
 use crate::serving::{SharedRings, Watch, book_of, shared_over};
 use crate::words::CountedWords;
@@ -15,6 +15,7 @@ use std::sync::atomic::Ordering;
 use std::sync::{Arc, Wait};
 use std::thread;
 use std::time::Duration;
+use test_kit::{count, has_come, wait_for};
 
 /// Lengths of replies: the shortest, lengths about that of the gathering buffer, and longer ones.
 const LENGTHS: [usize; 6] = [28, 32_767, 32_768, 32_769, 65_536, 100_000];
@@ -24,7 +25,7 @@ const LENGTHS: [usize; 6] = [28, 32_767, 32_768, 32_769, 65_536, 100_000];
 fn a_reply_of_any_length_is_written_out_at_once(rt: HostRuntime) {
     let alloc = rt.alloc();
     let watch = Watch::new(&rt, alloc);
-    let writes = count(&rt, alloc);
+    let writes = count(alloc).expect(&rt, "memory");
     let manner = Manner::Held {
         free: usize::MAX,
         waits: flag(&rt, alloc),

@@ -1,5 +1,5 @@
 //! Rings for tests. Some are refused memory, and a flag is set when a ring's last owner is dropped.
-use crate::devices::{Count, Flag, count, flag};
+use crate::devices::{Flag, flag};
 use cursor::{Account, Feed, Left, Lend, Refused, Taken, Tap, Visit};
 use pacing::Back;
 use packet_ring::{Pass, Publisher, Subscriber};
@@ -10,6 +10,7 @@ use std::process::Abort;
 use std::sync::Arc;
 use std::sync::atomic::Ordering;
 use std::thread;
+use test_kit::{Count, count};
 
 /// A thread that leaves a ring for ever sets a flag, and waits until it is let on, for at most ten million turns.
 #[derive(Drop)]
@@ -151,7 +152,7 @@ impl Rings {
     pub(crate) fn keeping(rt: &impl Abort, alloc: Global, seats: usize, keep: usize) -> Rings {
         Rings {
             maker: RingMaker::new(keep.clamp(1, 4095), seats.min(1024), 16),
-            made: count(rt, alloc),
+            made: count(alloc).expect(rt, "memory"),
             gone: flag(rt, alloc),
             refused: 0..0,
             parting: None,

@@ -1,12 +1,12 @@
 //! Connections over devices in memory, for tests.
-use crate::devices::{Bytes, Flag, Manner, Open, Staged, Written, flag};
+use crate::devices::{Flag, Manner, Staged, Written, flag};
 use crate::rings::{Owned, Rings};
 use crate::words::OneWord;
 use interleaved::{ListSource, Reading, Sink, Source, Writing};
 use packet_ring::Pass;
 use relay_server::{
-    ConnectionEnd, Counts, Events, Hearing, OpenGate, Outcome, Outgoing, Rights, Seat, Shared,
-    SharedBook, WritingSide, run_connection,
+    ConnectionClock, ConnectionEnd, Counts, Events, OpenGate, Outcome, Outgoing, Rights, Seat,
+    Shared, SharedBook, WritingSide, run_connection,
 };
 use session_lock::Book;
 use session_state::{Moments, Words};
@@ -19,6 +19,7 @@ use std::sync::{Arc, Mutex, Wait};
 use std::thread;
 use std::thread::{JoinHandle, Threads};
 use std::time::Clock;
+use test_kit::{Bytes, Open};
 
 /// What connections over rings share.
 pub(crate) type SharedRings<V> = Arc<Shared<Rings, V, OpenGate>, Global>;
@@ -110,7 +111,7 @@ impl Serving {
 pub(crate) fn sent_on<T, W: Sink>(line: WritingSide<W>) -> Outgoing<T, W, Open> {
     Outgoing {
         writing: line,
-        wire: Open,
+        shutdown: Open,
         writers: None,
     }
 }
@@ -122,44 +123,58 @@ pub(crate) struct Served {
     pub(crate) told: Vec<u8>,
 }
 
-/// Serves a connection in this thread. Its peer sends what this source gives, and takes all that is written.
-pub(crate) fn serve_here<R, S, N>(
-    rt: R,
+/// Serves a connection in this thread, with this runtime; `host` has its devices. Its peer sends what this source gives, and takes all that is written.
+pub(crate) fn serve_here<R, K, S, N>(
+    host: R,
+    rt: K,
     alloc: Global,
     shared: &SharedRings<OneWord>,
     conn: u64,
     source: S,
-    events: Events<R>,
-    hearing: Hearing<N>,
+    events: Events<K>,
+    connection_clock: ConnectionClock<N>,
 ) -> Served
 where
-    R: Threads + Wait + Clock + Abort + Copy + Drop + Send + 'static,
+    R: Wait + Clock + Abort + Copy + Drop + Send + 'static,
+    K: Threads + Wait + Clock + Copy + Drop + Send + 'static,
     S: Source + Drop,
     N: Moments + Drop,
 {
     let rights = Rights::all();
-    serve_with(rt, alloc, shared, conn, source, events, hearing, rights)
+    serve_with(
+        host,
+        rt,
+        alloc,
+        shared,
+        conn,
+        source,
+        events,
+        connection_clock,
+        rights,
+    )
 }
 
 /// The same of a connection that has these rights.
-pub(crate) fn serve_with<R, S, N>(
-    rt: R,
+pub(crate) fn serve_with<R, K, S, N>(
+    host: R,
+    rt: K,
     alloc: Global,
     shared: &SharedRings<OneWord>,
     conn: u64,
     source: S,
-    events: Events<R>,
-    hearing: Hearing<N>,
+    events: Events<K>,
+    connection_clock: ConnectionClock<N>,
     rights: Rights,
 ) -> Served
 where
-    R: Threads + Wait + Clock + Abort + Copy + Drop + Send + 'static,
+    R: Wait + Clock + Abort + Copy + Drop + Send + 'static,
+    K: Threads + Wait + Clock + Copy + Drop + Send + 'static,
     S: Source + Drop,
     N: Moments + Drop,
 {
-    let bytes = Arc::new(alloc, Mutex::new(Vec::new(alloc))).expect(&rt, "memory");
-    let line = line_to(rt, alloc, &bytes, 10_000);
-    let shared = Arc::try_clone(shared).expect(&rt, "a count of its users");
+    let bytes = Arc::new(alloc, Mutex::new(Vec::new(alloc))).expect(&host, "memory");
+    let line = line_to(host, alloc, &bytes, 10_000);
+    let shared = Arc::try_clone(shared).expect(&host, "a count of its users");
     let outcome = run_connection(
         rt,
         alloc,
@@ -168,10 +183,10 @@ where
         source,
         sent_on(line),
         events,
-        hearing,
+        connection_clock,
         rights,
     );
-    let told = Vec::from_slice(alloc, bytes.lock(&rt).as_slice()).expect(&rt, "memory");
+    let told = Vec::from_slice(alloc, bytes.lock(&host).as_slice()).expect(&host, "memory");
     Served { outcome, told }
 }
 
@@ -205,10 +220,19 @@ where
     R: Threads + Wait + Clock + Abort + Copy + Drop + Send + 'static,
     N: Moments + Drop,
 {
-    let hearing = Hearing::new(alloc, clock).expect(&rt, "memory");
+    let connection_clock = ConnectionClock::new(alloc, clock).expect(&rt, "memory");
     let source = ListSource::new(said, 7, None);
     let events = Events::none();
-    let Served { outcome, told } = serve_here(rt, alloc, shared, conn, source, events, hearing);
+    let Served { outcome, told } = serve_here(
+        rt,
+        rt,
+        alloc,
+        shared,
+        conn,
+        source,
+        events,
+        connection_clock,
+    );
     assert!(rt; outcome.end == end);
     told
 }
@@ -227,7 +251,7 @@ where
     V: Words + Drop + Send + 'static,
 {
     let theirs = Arc::try_clone(shared).expect(&rt, "a count of its users");
-    let hearing = Hearing::new(alloc, source.clock).expect(&rt, "memory");
+    let connection_clock = ConnectionClock::new(alloc, source.clock).expect(&rt, "memory");
     thread::spawn(&rt, move || {
         run_connection(
             rt,
@@ -237,7 +261,7 @@ where
             Reading::new(source),
             sent_on(line),
             Events::none(),
-            hearing,
+            connection_clock,
             Rights::all(),
         )
     })

@@ -2,9 +2,9 @@
 use crate::connection_tests::{
     ANNOUNCE, ANNOUNCED, IN_SESSION, NO_RING, PAUSE, RECORD, SET_UP, SETUP,
 };
-use crate::devices::{FRAME, joined};
+use crate::devices::joined;
 use crate::expiry_tests::{NO_SESSION, PAUSED};
-use crate::kept::{Kept, lines_to, verbose};
+use crate::lines::{lines_to, reports_an_end, verbose};
 use crate::moments::Dial;
 use crate::rings::{Owned, Rings};
 use crate::serving::{Served, SharedRings, book_of, serve_here, shared_over};
@@ -12,7 +12,9 @@ use crate::steps::{SILENT, Step, Stepped};
 use crate::words::OneWord;
 use interleaved::Reading;
 use packet_ring::Pass;
-use relay_server::{ConnectionEnd, Events, Hearing, Seat, SharedBook, Silence, Watched};
+use relay_server::{
+    ConnectionClock, ConnectionEnd, Events, IdlePolicy, IdleReader, Seat, SharedBook,
+};
 use session_state::Moments;
 use std::alloc::Global;
 use std::io::ErrorKind;
@@ -21,9 +23,10 @@ use std::random::RandomSource;
 use std::sync::{Arc, Wait};
 use std::thread::Threads;
 use std::time::Clock;
+use test_kit::{FRAME, Kept};
 
 /// Silence is checked every two seconds, and a connection without a session is disconnected after a minute.
-pub(crate) const SILENCE: Silence = Silence {
+pub(crate) const SILENCE: IdlePolicy = IdlePolicy {
     looks: 2_000,
     idle: Some(60_000),
     silent: None,
@@ -38,24 +41,37 @@ struct Ended {
 }
 
 /// Serves connection 1 of this book, which sends `first`, and then `then`.
-fn serve_over<R>(
-    rt: R,
+fn serve_over<R, K>(
+    host: R,
+    rt: K,
     alloc: Global,
     book: &SharedBook<Seat<Owned<Pass>>>,
     shared: &SharedRings<OneWord>,
     first: &[Step],
     then: &[Step],
-    events: Events<R>,
+    events: Events<K>,
 ) -> Ended
 where
-    R: Threads + Wait + Clock + Abort + Copy + Drop + Send + 'static,
+    R: Wait + Clock + Abort + Copy + Drop + Send + 'static,
+    K: Threads + Wait + Clock + Copy + Drop + Send + 'static,
 {
-    let mut clock = Dial::new(&rt, alloc);
-    let hearing = Hearing::new(alloc, clock).expect(&rt, "memory");
-    let source = Stepped::new(&rt, alloc, clock, first, then);
-    let watched = Watched::new(rt, source, book, 1, &hearing, SILENCE).expect(&rt, "memory");
-    let reading = Reading::new(watched);
-    let Served { outcome, told } = serve_here(rt, alloc, shared, 1, reading, events, hearing);
+    let mut clock = Dial::new(&host, alloc);
+    let connection_clock = ConnectionClock::new(alloc, clock).expect(&host, "memory");
+    let source = Stepped::new(&host, alloc, clock, first, then);
+    let idle_reader = IdleReader::new(host, source, book, 1, &connection_clock, SILENCE).expect(
+        &host, "memory",
+    );
+    let reading = Reading::new(idle_reader);
+    let Served { outcome, told } = serve_here(
+        host,
+        rt,
+        alloc,
+        shared,
+        1,
+        reading,
+        events,
+        connection_clock,
+    );
     Ended {
         end: outcome.end,
         moment: clock.now(),
@@ -71,7 +87,7 @@ where
     let book = book_of(&rt, alloc, 1, 1);
     let theirs = Arc::try_clone(&book).expect(&rt, "a count of its users");
     let shared = shared_over(&rt, alloc, theirs, Rings::of(&rt, alloc, 1), OneWord);
-    serve_over(rt, alloc, &book, &shared, first, then, Events::none())
+    serve_over(rt, rt, alloc, &book, &shared, first, then, Events::none())
 }
 
 /// A camera that records.
@@ -142,7 +158,16 @@ fn a_request_without_an_answer_of_the_book_is_heard(rt: HostRuntime) {
     let rings = Rings::refusing(&rt, alloc, 1..2);
     let shared = shared_over(&rt, alloc, theirs, rings, OneWord);
     let then = [(40_000, Ok(ANNOUNCE)), (99_999, Ok(PAUSE))];
-    let served = serve_over(rt, alloc, &book, &shared, &RECORDS, &then, Events::none());
+    let served = serve_over(
+        rt,
+        rt,
+        alloc,
+        &book,
+        &shared,
+        &RECORDS,
+        &then,
+        Events::none(),
+    );
     let told = joined(
         &rt,
         alloc,
@@ -163,13 +188,14 @@ const OVER: [(Step, ConnectionEnd); 2] = [
 fn an_expired_mount_is_not_recorded(rt: HostRuntime) {
     let alloc = rt.alloc();
     for (step, end) in OVER {
-        let kept = Kept::new(rt, alloc);
+        let kept = Kept::new(rt, alloc).expect(&rt, "memory");
         let lines = lines_to(&rt, alloc, kept);
         let book = book_of(&rt, alloc, 1, 1);
         let theirs = Arc::try_clone(&book).expect(&rt, "a count of its users");
         let shared = shared_over(&rt, alloc, theirs, Rings::of(&rt, alloc, 1), OneWord);
         let then = [(0, Ok(FRAME)), step];
         let served = serve_over(
+            rt,
             kept,
             alloc,
             &book,
@@ -180,7 +206,7 @@ fn an_expired_mount_is_not_recorded(rt: HostRuntime) {
         );
         assert!(rt; served.end == end, "{end}");
         assert!(rt; shared.recorded(&rt) == 0, "{end}");
-        assert!(rt; kept.tells_an_end(&lines), "{end}");
+        assert!(rt; reports_an_end(&rt, &kept, &lines), "{end}");
     }
 }
 

@@ -3,7 +3,7 @@ ghost use Rattle.std.specs.Prelude.{◌≤◌};
 
 use crate::account_tests::SETUP_OUT;
 use crate::connection_tests::{ANNOUNCE, ANNOUNCED, IN_SESSION, PAUSE, RECORD, SET_UP, SETUP};
-use crate::devices::{Bytes, flag, joined};
+use crate::devices::{flag, joined};
 use crate::expiry_tests::{NO_SESSION, PAUSED, PLAY, PLAY_AGAIN, PLAYER_PAUSE, camera, replies};
 use crate::moments::{Dial, Still};
 use crate::rings::{Owned, Rings};
@@ -14,7 +14,8 @@ use crate::words::OneWord;
 use interleaved::{Reading, TryWrite, Writing};
 use packet_ring::Pass;
 use relay_server::{
-    ConnectionEnd, Events, Hearing, Rights, Seat, SharedBook, Watched, WritingSide, run_connection,
+    ConnectionClock, ConnectionEnd, Events, IdleReader, Rights, Seat, SharedBook, WritingSide,
+    run_connection,
 };
 use session_state::Moments;
 use std::alloc::Global;
@@ -26,6 +27,7 @@ use std::sync::atomic::Ordering;
 use std::sync::{Arc, Mutex, Wait};
 use std::thread::Threads;
 use std::time::Clock;
+use test_kit::Bytes;
 
 /// The moment from which a socket takes a byte at a time. The request with the slow reply comes then.
 const SLOW_FROM: u64 = 1_000;
@@ -102,18 +104,20 @@ where
         clock,
         slow: row.slow,
     };
-    let hearing = Hearing::new(alloc, clock).expect(&rt, "memory");
+    let connection_clock = ConnectionClock::new(alloc, clock).expect(&rt, "memory");
     let source = Stepped::new(&rt, alloc, clock, first, row.then);
-    let watched = Watched::new(rt, source, book, conn, &hearing, SILENCE).expect(&rt, "memory");
+    let idle_reader = IdleReader::new(rt, source, book, conn, &connection_clock, SILENCE).expect(
+        &rt, "memory",
+    );
     let outcome = run_connection(
         rt,
         alloc,
         shared,
         conn,
-        Reading::new(watched),
+        Reading::new(idle_reader),
         sent_on(WritingSide::new(alloc, Writing::new(sink), 16)),
         Events::none(),
-        hearing,
+        connection_clock,
         Rights::all(),
     );
     Served {

@@ -20,7 +20,7 @@ mod words;
 mod world;
 
 pub use act::Act;
-pub use checks::{Check, sound_method};
+pub use checks::sound_method;
 pub use decision::Decision;
 pub use entry::Entry;
 pub use fault::ConnectFault;

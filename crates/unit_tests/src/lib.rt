@@ -9,8 +9,4 @@ mod fanout;
 #[cfg(test)]
 mod ring;
 #[cfg(test)]
-mod session;
-#[cfg(test)]
-mod talk;
-#[cfg(test)]
 mod texts;

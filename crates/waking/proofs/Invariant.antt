@@ -15,33 +15,33 @@ is_over asleep = true
 abbrev pub IsCared : View → Type 0
 IsCared v = (v.writer.sweep.again ≡ true) ⊎ WillRaise v ⊎ (v.player.here ≡ false) ⊎ (v.player.due ≡ true)
     ⊎ ((v.player.attention.again ≡ true) × WillFindMark v)
-    ⊎ ((v.player.attention.again ≡ false) × (v.player.waits ≡ false) × (v.player.attention.seen ≡ v.mount.wakes))
+    ⊎ ((v.player.attention.again ≡ false) × (v.player.waits ≡ false) × (v.player.attention.seen ≡ v.mount.player_wakeups))
 
 pub record Sound (v : View) : Type 0 where
   -- what was read was no later than what is
-  pub seen : v.player.attention.seen ≤ v.mount.wakes
-  pub known : v.player.known ≤ v.mount.wakes
-  pub read : v.writer.read ≤ v.words.raised
+  pub seen : v.player.attention.seen ≤ v.mount.player_wakeups
+  pub known : v.player.known ≤ v.mount.player_wakeups
+  pub read : v.writer.read ≤ v.words.writer_wakeups
   -- the waking thread comes for marks
-  pub notified : 0 < v.mount.news → WillAsk v
+  pub notified : 0 < v.mount.mark_count → WillAsk v
   -- what the player hadn't taken was told, or will be
   pub told : v.player.here ≡ true → v.player.stage ≢ Some holds → v.player.looked ≢ v.mount.logged
-      → (v.player.attention.seen ≢ v.mount.wakes) ⊎ (0 < v.mount.publishing) ⊎ (0 < v.mount.news) ⊎ (0 < v.mount.telling) ⊎ (v.mount.took ≡ true)
+      → (v.player.attention.seen ≢ v.mount.player_wakeups) ⊎ (0 < v.mount.publishing) ⊎ (0 < v.mount.mark_count) ⊎ (0 < v.mount.telling) ⊎ (v.mount.took ≡ true)
       ⊎ (v.player.attention.again ≡ true) ⊎ (v.player.waits ≡ true)
   -- who is being looked at is looked at by its writer, which looks at nobody else
   pub looked_at : is_some v.player.stage ≡ true → v.writer.place ≡ looking v.number
   -- a look that isn't over doesn't count
   pub underway : is_some v.player.stage ≡ true → v.player.done ≡ false
   -- a wake-up after the writer read their count raises the word after the writer read that
-  pub fresh : is_some v.player.stage ≡ true → v.words.raised ≡ v.writer.read → (v.player.known ≡ v.mount.wakes) ⊎ WillRaise v
+  pub fresh : is_some v.player.stage ≡ true → v.words.writer_wakeups ≡ v.writer.read → (v.player.known ≡ v.mount.player_wakeups) ⊎ WillRaise v
   -- who took the writer's mark raises the word after that
-  pub mark : v.player.stage ≡ Some marked → v.words.raised ≡ v.writer.read → (v.player.skipped ≡ true) ⊎ WillRaise v
+  pub mark : v.player.stage ≡ Some marked → v.words.writer_wakeups ≡ v.writer.read → (v.player.skipped ≡ true) ⊎ WillRaise v
   -- until the word is raised, who was looked at is cared for
-  pub cared : v.words.raised ≡ v.writer.read → (v.player.done ≡ true) ⊎ (is_over v.writer.place ≡ true) → IsCared v
+  pub cared : v.words.writer_wakeups ≡ v.writer.read → (v.player.done ≡ true) ⊎ (is_over v.writer.place ≡ true) → IsCared v
   pub limited : v.player.due ≡ true → is_some v.writer.sweep.later ≡ true
   pub over : is_over v.writer.place ≡ true → v.writer.sweep.again ≡ false
   -- a writer sleeps on the word that it read, or is about to be woken
-  pub word : v.writer.place ≡ asleep → (v.words.raised ≡ v.writer.read) ⊎ (0 < v.words.calling)
+  pub word : v.writer.place ≡ asleep → (v.words.writer_wakeups ≡ v.writer.read) ⊎ (0 < v.words.calling)
 
 -- of each player
 abbrev pub AllSound : State → Type 0

@@ -15,7 +15,7 @@ pub end_keeps : (v : View) → Sound v → v.writer.place ≡ between → v.writ
     → Sound (record v { writer = writer_after_sweep ends_sweep v.words v.writer })
 end_keeps v h may quiet met = search arith
 
-pub sleep_keeps : (v : View) → Sound v → v.writer.place ≡ ends → v.words.raised ≡ v.writer.read → Sound (record v { writer = writer_after_sweep sleeps v.words v.writer })
+pub sleep_keeps : (v : View) → Sound v → v.writer.place ≡ ends → v.words.writer_wakeups ≡ v.writer.read → Sound (record v { writer = writer_after_sweep sleeps v.words v.writer })
 sleep_keeps v h may same = search arith
 
 pub return_keeps : (v : View) → Sound v → (v.writer.place ≡ ends) ⊎ (v.writer.place ≡ asleep) → Sound (record v { writer = writer_after_sweep returns v.words v.writer })

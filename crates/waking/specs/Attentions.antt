@@ -15,5 +15,5 @@ abbrev pub held : Attention → Attention
 held attention = record attention { again = false }
 
 -- it had taken all, and before that its mount's players had been woken so often
-abbrev pub emptied : (wakes : ℕ) → Attention
-emptied wakes = record { seen = wakes; again = false }
+abbrev pub emptied : (player_wakeups : ℕ) → Attention
+emptied player_wakeups = record { seen = player_wakeups; again = false }

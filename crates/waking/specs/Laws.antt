@@ -30,7 +30,7 @@ WillRaise v = (0 < v.mount.raising) ⊎ (v.mount.owed ≡ true) ⊎ (0 < v.playe
 -- find the mount marked, who is about to count a wake-up, to raise the word or to wake who sleeps on it, or who will find the
 -- line marked
 abbrev pub IsComing : View → Type 0
-IsComing v = (0 < v.mount.publishing) ⊎ ((0 < v.mount.news) × WillAsk v) ⊎ (0 < v.mount.telling) ⊎ (v.mount.took ≡ true)
+IsComing v = (0 < v.mount.publishing) ⊎ ((0 < v.mount.mark_count) × WillAsk v) ⊎ (0 < v.mount.telling) ⊎ (v.mount.took ≡ true)
     ⊎ WillRaise v ⊎ (0 < v.words.calling) ⊎ WillFindMark v
 
 -- the player is to be looked at: there is something in the log that it hadn't taken, or it came, used up its takes or was skipped,

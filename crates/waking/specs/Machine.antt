@@ -15,7 +15,7 @@ pub record Words : Type 0 where
   -- whether the waking thread was notified since it last began to ask mounts for marks
   pub notified : Bool
   -- how often the word that writers sleep on was raised
-  pub raised : ℕ
+  pub writer_wakeups : ℕ
   -- how many threads have raised it, and are about to wake who sleeps
   pub calling : ℕ
 
@@ -24,9 +24,9 @@ pub record Mount : Type 0 where
   -- how many packets were put into its log, and one more once it has ended
   pub logged : ℕ
   -- its marks since they were last taken
-  pub news : ℕ
+  pub mark_count : ℕ
   -- how often its players were woken
-  pub wakes : ℕ
+  pub player_wakeups : ℕ
   -- how many threads have put something into the log, and haven't told it
   pub publishing : ℕ
   -- how many have marked it, and haven't notified
@@ -111,8 +111,8 @@ pub record State : Type 0 where
 -- before all: nothing is published, and no player has come
 abbrev pub start : (mount_of writer_of : ℕ → ℕ) → State
 start mount_of writer_of = record {
-  words = record { notified = false; raised = 0; calling = 0 };
-  mounts = λ _. record { logged = 0; news = 0; wakes = 0; publishing = 0; notifying = 0; telling = 0; raising = 0; asked = true; took = false; owed = false };
+  words = record { notified = false; writer_wakeups = 0; calling = 0 };
+  mounts = λ _. record { logged = 0; mark_count = 0; player_wakeups = 0; publishing = 0; notifying = 0; telling = 0; raising = 0; asked = true; took = false; owed = false };
   players = λ _. record {
     replying = 0;
     parting = 0;
@@ -138,7 +138,7 @@ put all number it other = if number == other then it else all other
 
 -- who raises the word; to wake who sleeps is a step of its own
 abbrev pub raised_once : Words → Words
-raised_once words = record words { raised = next_of words.raised; calling = words.calling + 1 }
+raised_once words = record words { writer_wakeups = next_of words.writer_wakeups; calling = words.calling + 1 }
 
 -- what concerns one mount
 pub data MountStep : Type 0 where
@@ -174,22 +174,22 @@ MayMount finds_notified words mount = (0 < mount.notifying) × (words.notified �
 MayMount notifies words mount = 0 < mount.notifying
 MayMount tells words mount = 0 < mount.telling
 MayMount raises words mount = 0 < mount.raising
-MayMount finds_no_marks words mount = (mount.asked ≡ false) × (mount.news ≡ 0)
-MayMount takes_marks words mount = (mount.asked ≡ false) × (0 < mount.news)
+MayMount finds_no_marks words mount = (mount.asked ≡ false) × (mount.mark_count ≡ 0)
+MayMount takes_marks words mount = (mount.asked ≡ false) × (0 < mount.mark_count)
 MayMount counts words mount = mount.took ≡ true
 
 abbrev pub mount_after : MountStep → Mount → Mount
 mount_after logs mount = record mount { logged = mount.logged + 1; publishing = mount.publishing + 1 }
-mount_after marks mount = record mount { publishing = mount.publishing - 1; news = next_of mount.news; notifying = mount.notifying + 1 }
-mount_after wakes_itself mount = record mount { publishing = mount.publishing - 1; news = 0; telling = mount.telling + 1 }
-mount_after hurries mount = record mount { news = 0; telling = mount.telling + 1 }
+mount_after marks mount = record mount { publishing = mount.publishing - 1; mark_count = next_of mount.mark_count; notifying = mount.notifying + 1 }
+mount_after wakes_itself mount = record mount { publishing = mount.publishing - 1; mark_count = 0; telling = mount.telling + 1 }
+mount_after hurries mount = record mount { mark_count = 0; telling = mount.telling + 1 }
 mount_after finds_notified mount = record mount { notifying = mount.notifying - 1 }
 mount_after notifies mount = record mount { notifying = mount.notifying - 1 }
-mount_after tells mount = record mount { telling = mount.telling - 1; wakes = next_of mount.wakes; raising = mount.raising + 1 }
+mount_after tells mount = record mount { telling = mount.telling - 1; player_wakeups = next_of mount.player_wakeups; raising = mount.raising + 1 }
 mount_after raises mount = record mount { raising = mount.raising - 1 }
 mount_after finds_no_marks mount = record mount { asked = true }
-mount_after takes_marks mount = record mount { asked = true; news = 0; took = true }
-mount_after counts mount = record mount { took = false; wakes = next_of mount.wakes; owed = true }
+mount_after takes_marks mount = record mount { asked = true; mark_count = 0; took = true }
+mount_after counts mount = record mount { took = false; player_wakeups = next_of mount.player_wakeups; owed = true }
 
 abbrev pub words_after_mount : MountStep → Words → Words
 words_after_mount notifies words = record words { notified = true }
@@ -298,7 +298,7 @@ seen_to player = record player { stage = None; done = true }
 
 abbrev pub player_after_look : LookStep → Mount → Player → Player
 player_after_look (passes_over time) mount player = seen_to (record player { due = true })
-player_after_look reads_wakes mount player = record player { known = mount.wakes; stage = Some knows; done = false }
+player_after_look reads_wakes mount player = record player { known = mount.player_wakeups; stage = Some knows; done = false }
 player_after_look finds_nothing mount player = seen_to player
 player_after_look (finds_no_time time) mount player = seen_to (record player { due = true })
 player_after_look gets_line mount player = record player { stage = Some holds; attention = held player.attention }
@@ -352,11 +352,11 @@ MaySweep begins s w = (s.writers w).place ≡ awake
 MaySweep sweeps_again s w = (s.writers w).place ≡ between
 MaySweep ends_sweep s w = ((s.writers w).place ≡ between) × ((s.writers w).sweep.again ≡ false) × ((s.writers w).list ≡ (s.writers w).sweep.changes)
     × ((player : ℕ) → w ≡ s.writer_of player → (s.players player).here ≡ true → (s.players player).done ≡ true)
-MaySweep sleeps s w = ((s.writers w).place ≡ ends) × (s.words.raised ≡ (s.writers w).read)
+MaySweep sleeps s w = ((s.writers w).place ≡ ends) × (s.words.writer_wakeups ≡ (s.writers w).read)
 MaySweep returns s w = ((s.writers w).place ≡ ends) ⊎ ((s.writers w).place ≡ asleep)
 
 abbrev pub writer_after_sweep : SweepStep → Words → Writer → Writer
-writer_after_sweep begins words writer = record writer { place = between; read = words.raised; sweep = begun writer.list }
+writer_after_sweep begins words writer = record writer { place = between; read = words.writer_wakeups; sweep = begun writer.list }
 writer_after_sweep sweeps_again words writer = record writer { place = awake }
 writer_after_sweep ends_sweep words writer = record writer { place = ends }
 writer_after_sweep sleeps words writer = record writer { place = asleep }

@@ -24,10 +24,10 @@ impl Attention {
 
     /// Whether there is nothing to take where its mount's players were woken so often: nobody was woken since it had taken all,
     /// and it isn't to be looked at again.
-    pub fn is_settled(&self, wakes: u64) -> bool
-        ensures { IsTrue result ↔ ((self.now.again ≡ false) × (wakes ≡ self.now.seen)) }
+    pub fn is_settled(&self, player_wakeups: u64) -> bool
+        ensures { IsTrue result ↔ ((self.now.again ≡ false) × (player_wakeups ≡ self.now.seen)) }
     {
-        !self.again && wakes == self.seen
+        !self.again && player_wakeups == self.seen
     }
 
     /// It is to be looked at again: its takes were used up, or its line was taken.
@@ -44,12 +44,12 @@ impl Attention {
         self.again = false;
     }
 
-    /// It has taken all. `wakes` was read before, so that what came since is another wake-up.
-    pub fn found_empty(&mut self, wakes: u64)
-        ensures { self.new ≡ emptied wakes }
+    /// It has taken all. `player_wakeups` was read before, so that what came since is another wake-up.
+    pub fn found_empty(&mut self, player_wakeups: u64)
+        ensures { self.new ≡ emptied player_wakeups }
     {
         *self = Attention {
-            seen: wakes,
+            seen: player_wakeups,
             again: false,
         };
     }

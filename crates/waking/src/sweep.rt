@@ -5,7 +5,7 @@ ghost use Rattle.waking.specs.Sweeps.{added, begun};
 /// What a writer does with a player next.
 #[derive(Clone, Copy, Debug, PartialEq, Eq, Drop)]
 pub enum Next {
-    /// Nothing, until its mount has news or a lock is given back.
+    /// Nothing, until its mount is marked or a lock is given back.
     Sleep,
     /// It looks at it again at once.
     Again,

@@ -1,13 +1,13 @@
 //! How a connection's requests are decided.
-use crate::connection::Connection;
+use crate::connection::frame_notes::{FrameNotes, Publishing};
+use crate::connection::serving::Connection;
 use crate::connection::session_snapshot::SessionSnapshot;
-use crate::frame_notes::{FrameNotes, Publishing};
-use crate::gate::Gate;
+use crate::listen::gate::Gate;
 use base_syntax::{Bytes, Items};
 use interleaved::Sink;
 use pacing::Back;
 use relay_accounts::Part;
-use relay_fanout::{Busy, HangUp, Maker, MountSignal, Offer, Posting, Seat, WakeSignal};
+use relay_fanout::{Busy, HangUp, Maker, MountFeed, MountSignal, Offer, Seat, WakeSignal};
 use rtsp_message::Request;
 use session_lock::{Answer, AskFault, Copies};
 use session_state::{Given, Method, Moments, Session, Words, read_method};
@@ -45,7 +45,7 @@ impl From<Busy> for NoAnswer {
 /// An answer, and with an ANNOUNCE the feed of the mount that it has opened.
 pub(super) type Asked<R, M> = (
     Answer<Seat<<M as Maker>::Pass>>,
-    Option<Publishing<R, Posting<R, <M as Maker>::In>>>,
+    Option<Publishing<R, MountFeed<R, <M as Maker>::In>>>,
 );
 
 impl<R, M, V, G, W, H, N> Connection<R, M, V, G, W, H, N>
@@ -97,7 +97,7 @@ where
         given: &Given,
     ) -> Result<Asked<R, M>, NoAnswer> {
         let wake_signal = Arc::try_clone(&self.shared.wake_signal)?;
-        let watch = Arc::try_clone(self.hearing.watch())?;
+        let watch = Arc::try_clone(self.clock.watch())?;
         let Offer {
             feed,
             signal,
@@ -109,13 +109,13 @@ where
             return Err(NoAnswer);
         };
         let (answer, back) = self.ask_with_seats(request, given, seats);
-        let posting = self.settle(feed, signal, back, wake_signal);
+        let mount_feed = self.settle(feed, signal, back, wake_signal);
         let notes = FrameNotes {
             rt: self.rt,
             watch,
             signal: noted,
         };
-        Ok((answer?, posting.map(|feed| Publishing { feed, notes })))
+        Ok((answer?, mount_feed.map(|feed| Publishing { feed, notes })))
     }
 
     /// Asks with these seats. What isn't used of them comes back.
@@ -144,11 +144,11 @@ where
         signal: Arc<MountSignal, Global>,
         back: Option<Vec<Seat<M::Pass>>>,
         wake_signal: Arc<WakeSignal, Global>,
-    ) -> Option<Posting<R, M::In>> {
+    ) -> Option<MountFeed<R, M::In>> {
         let Some(seats) = back else {
             self.shared.offers.leave(&self.rt);
             let keep = self.shared.maker.keep();
-            return Some(Posting::new(self.rt, feed, signal, wake_signal, keep));
+            return Some(MountFeed::new(self.rt, feed, signal, wake_signal, keep));
         };
         let offer = Offer {
             feed,

@@ -1,6 +1,6 @@
 //! Requests that are refused before the book is asked, and what the connection's silence is measured by.
-use crate::connection::Connection;
-use crate::gate::Gate;
+use crate::connection::serving::Connection;
+use crate::listen::gate::Gate;
 use interleaved::Sink;
 use relay_fanout::{HangUp, Maker};
 use rtsp_message::{Request, Status};
@@ -43,9 +43,7 @@ where
         };
         let has_mount = self.publishing.is_some();
         let is_announced = has_mount && self.session.is_none();
-        self.hearing
-            .watch()
-            .note_session(is_recording, is_announced);
+        self.clock.watch().note_session(is_recording, is_announced);
         if !has_mount {
             self.rights.leave_mount(&self.rt);
         }

@@ -1,6 +1,6 @@
 //! What is done if a session has expired, or its connection was silent for too long.
-use crate::connection::Connection;
-use crate::gate::Gate;
+use crate::connection::serving::Connection;
+use crate::listen::gate::Gate;
 use interleaved::Sink;
 use relay_accounts::ConnectionEnd;
 use relay_fanout::{HangUp, Maker};
@@ -22,7 +22,7 @@ where
 {
     /// Ends the session if it has expired by this moment, and stops its frames or ends its mount. The connection goes on.
     pub(super) fn expire(&mut self, now: u64) -> Result<(), ConnectionEnd> {
-        let last = self.hearing.watch().heard.last();
+        let last = self.clock.watch().heard.last();
         let mut book = self.shared.book.lock(&self.rt);
         let act = book.expire(self.conn, last, now);
         // It may have expired before, while the peer was silent.
@@ -50,7 +50,7 @@ where
 
     /// How the connection ends whose reads have failed: by its silence, if that made them fail.
     pub(super) fn read_failure(&self) -> ConnectionEnd {
-        self.hearing
+        self.clock
             .watch()
             .end(&self.rt)
             .unwrap_or(ConnectionEnd::ReadFailed)

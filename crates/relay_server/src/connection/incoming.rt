@@ -1,11 +1,11 @@
 //! What comes in between a connection's requests.
 ghost use Rattle.std.specs.Prelude.{◌≡◌, true, None, IfSome, IfNone, IsSomeAnd, option_map};
-ghost use Rattle.pacing.specs.Insisting.{PublishesAtLast};
+ghost use Rattle.pacing.specs.Retrying.{PublishesAtLast};
 ghost use Rattle.relay_accounts.specs.Incoming.{DropsFrames, PublishesFrames};
 
-use crate::connection::Connection;
-use crate::frame_notes::Publishing;
-use crate::gate::Gate;
+use crate::connection::frame_notes::Publishing;
+use crate::connection::serving::Connection;
+use crate::listen::gate::Gate;
 use interleaved::{Sink, Source};
 use publisher::InStop;
 use relay_accounts::{publish_frames, skip_frames};
@@ -42,7 +42,7 @@ where
                 self.counts.add_in(&report);
                 report.stop
             }
-            _ => skip_frames(intake, &mut self.counts, &self.hearing.watch().heard),
+            _ => skip_frames(intake, &mut self.counts, &self.clock.watch().heard),
         }
     }
 }

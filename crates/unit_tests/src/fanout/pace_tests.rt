@@ -1,16 +1,15 @@
 //! A publisher, and the players that it is slowed to.
-use crate::fanout::devices::has_come;
-use crate::fanout::packets::FRAME;
 use crate::fanout::stage::{KEEP, Mount, Seated, Writer};
 use cursor::{Feed, Left, Refused};
 use packet_ring::Publisher;
-use relay_fanout::{MountSignal, Posting, WakeSignal};
+use relay_fanout::{MountFeed, MountSignal, WakeSignal};
 use std::alloc::Global;
 use std::process::Abort;
 use std::sync::{Arc, Wait};
 use std::thread;
 use std::thread::{JoinHandle, Threads};
 use std::time::{Clock, Duration, Instant};
+use test_kit::{FRAME, PACKET, has_come};
 
 /// How many packets come at once: more than are kept.
 const BURST: u64 = 160;
@@ -21,7 +20,7 @@ const TRIES: u32 = 5;
 /// A mount whose players keep up.
 #[derive(Drop)]
 struct Stage<R: Wait + Clock + Drop> {
-    feed: Posting<R, Publisher>,
+    feed: MountFeed<R, Publisher>,
     players: Vec<Seated<R>>,
     writers: Arc<Writer<R>, Global>,
     writer: JoinHandle<()>,
@@ -54,7 +53,7 @@ where
         signal,
         writers,
     } = mount;
-    let mut feed = Posting::new(rt, publisher, signal, wake_signal, KEEP);
+    let mut feed = MountFeed::new(rt, publisher, signal, wake_signal, KEEP);
     publish(&rt, &mut feed, 1);
     for player in &players {
         assert!(rt; has_come(&rt, &player.bytes, FRAME.len(), FRAME));
@@ -68,9 +67,13 @@ where
 }
 
 /// Publishes `count` packets.
-fn publish<R: Wait + Clock + Drop>(rt: &impl Abort, feed: &mut Posting<R, Publisher>, count: u64) {
+fn publish<R: Wait + Clock + Drop>(
+    rt: &impl Abort,
+    feed: &mut MountFeed<R, Publisher>,
+    count: u64,
+) {
     for _ in 0..count {
-        let published = feed.publish(0, FRAME.get(4..).unwrap_or(b""));
+        let published = feed.publish(0, PACKET);
         assert!(rt; !matches!(published, Err(Refused::TooLong)));
     }
 }
@@ -150,7 +153,7 @@ where
     thread::sleep(&rt, Duration::from_millis(300));
     if let Some(player) = stage.players.first() {
         player.let_on(None);
-        assert!(rt; has_come(&rt, &player.bytes, 2 * FRAME.len(), FRAME));
+        assert!(rt; has_come(&rt, &player.bytes, FRAME.len().saturating_mul(2), FRAME));
     }
     thread::sleep(&rt, Duration::from_millis(20));
     publish(&rt, &mut stage.feed, BURST);
@@ -259,7 +262,7 @@ fn tried_for<R: Wait + Clock + Abort + Copy + Drop>(rt: R, alloc: Global) -> u64
     let theirs = Arc::try_clone(&wake_signal).expect(&rt, "a count of its users");
     let signal = MountSignal::new(alloc, 1, theirs).expect(&rt, "memory");
     let signal = Arc::new(alloc, signal).expect(&rt, "memory");
-    let mut feed = Posting::new(rt, Pinned, signal, wake_signal, KEEP);
+    let mut feed = MountFeed::new(rt, Pinned, signal, wake_signal, KEEP);
     let began = Instant::now(&rt).expect(&rt, "a clock");
     assert!(rt; feed.publish(0, FRAME) == Err(Refused::Pinned { pins: 1 }));
     passed(&rt, began)

@@ -2,7 +2,7 @@
 ghost use Rattle.std.specs.Prelude.{None, ⊤};
 
 use cursor::{Feed, Refused};
-use pacing::{Insisting, Pause, Round};
+use pacing::{Pause, Retrying, Round};
 use std::cell::Cell;
 
 /// What was done, in order, as the digits of a number: a try is 1, and a pause with the number that is due is 2.
@@ -82,20 +82,20 @@ impl Pause for Counted<'_> {
 }
 
 /// A feed that retries, over one that refuses `refusals` publishes as pinned.
-fn insisting(refusals: u64, done: &Done) -> Insisting<Pinned<'_>, Counted<'_>> {
+fn retrying(refusals: u64, done: &Done) -> Retrying<Pinned<'_>, Counted<'_>> {
     let feed = Pinned {
         refusals,
         number: 0,
         done,
     };
-    Insisting::new(feed, Counted(done))
+    Retrying::new(feed, Counted(done))
 }
 
 /// Three tries meet a reader, with a pause after each, and the fourth publishes, once.
 #[test]
 fn a_pinned_publish_is_tried_again(rt: HostRuntime) {
     let done = Done::new();
-    let mut feed = insisting(3, &done);
+    let mut feed = retrying(3, &done);
     assert!(rt; feed.publish(0, b"A") == Ok(1) && done.take() == (1_212_121, 3));
     assert!(rt; feed.publish(0, b"B") == Ok(2) && done.take() == (1, 0));
 }
@@ -105,7 +105,7 @@ fn a_pinned_publish_is_tried_again(rt: HostRuntime) {
 #[test]
 fn a_publish_that_stays_pinned_is_given_up(rt: HostRuntime) {
     let done = Done::new();
-    let mut feed = insisting(43, &done);
+    let mut feed = retrying(43, &done);
     let pinned = Err(Refused::Pinned { pins: 1 });
     assert!(rt; feed.publish(0, b"long A") == Err(Refused::TooLong) && done.take() == (1, 0));
     assert!(rt; feed.publish(0, b"A") == pinned && done.take().1 == 40);

@@ -1,9 +1,6 @@
 //! Packets as frames, for tests.
 use std::alloc::{AllocError, Global};
 
-/// An RTP packet with number 7 and timestamp 9,000, as a frame on channel 0.
-pub(crate) const FRAME: &[u8] = b"\x24\x00\x00\x0c\x80\x60\x00\x07\x00\x00\x23\x28\x00\x00\x00\x00";
-
 /// RTP packets of twelve bytes, as frames on channel 0, whose numbers go up from 0.
 pub(crate) fn small_frames(alloc: Global, count: u16) -> Result<Vec<u8>, AllocError> {
     let mut frames = Vec::new(alloc);

@@ -1,10 +1,9 @@
 //! A mount and its players without connections, whose sockets are in memory, for tests.
-use crate::fanout::devices::{Bytes, Count, Open, count};
 use cursor::{Left, Tap};
 use interleaved::{TryWrite, Writing};
 use packet_ring::{Pass, Publisher, Subscriber};
 use relay_fanout::{
-    Frames, Maker, MountSignal, RingMaker, SharedPlayer, TapPlace, Waits, WakeSignal, Writers,
+    Maker, MountSignal, RingMaker, SeatHold, SendSide, TapPlace, Waits, WakeSignal, Writers,
     WritingSide,
 };
 use std::alloc::Global;
@@ -15,6 +14,7 @@ use std::sync::{Arc, Mutex, Wait};
 use std::thread::{JoinHandle, Threads};
 use std::time::{Clock, Duration};
 use std::{io, thread};
+use test_kit::{Bytes, Count, Open, count};
 use transport_header::{ChannelPair, TrackChannels};
 
 /// The most bytes of a packet's frame.
@@ -108,7 +108,7 @@ impl<R: Wait + Clock> Write for Valve<R> {
 
 impl<R: Wait + Clock> TryWrite for Valve<R> {}
 
-pub(crate) type Player<R> = SharedPlayer<Subscriber, Writing<Valve<R>>, Open>;
+pub(crate) type Player<R> = SendSide<Subscriber, Writing<Valve<R>>, Open>;
 
 pub(crate) type Writer<R> = Writers<Subscriber, Writing<Valve<R>>, Open>;
 
@@ -116,7 +116,7 @@ pub(crate) type Writer<R> = Writers<Subscriber, Writing<Valve<R>>, Open>;
 #[derive(Drop)]
 pub(crate) struct Seated<R: Wait + Clock + Drop> {
     pub(crate) player: Arc<Player<R>, Global>,
-    pub(crate) frames: Frames,
+    pub(crate) frames: SeatHold,
     pub(crate) bytes: Bytes,
     pub(crate) room: Count,
     pub(crate) writes: Count,
@@ -146,8 +146,8 @@ impl<R: Wait + Clock + Abort + Copy + Drop> Seated<R> {
         wait: u64,
     ) -> Seated<R> {
         let bytes = Arc::new(alloc, Mutex::new(Vec::new(alloc))).expect(&rt, "memory");
-        let room = count(&rt, alloc);
-        let writes = count(&rt, alloc);
+        let room = count(alloc).expect(&rt, "memory");
+        let writes = count(alloc).expect(&rt, "memory");
         let socket = Valve {
             rt,
             bytes: Arc::try_clone(&bytes).expect(&rt, "a count of its users"),
@@ -156,13 +156,13 @@ impl<R: Wait + Clock + Abort + Copy + Drop> Seated<R> {
             wait,
         };
         let line = WritingSide::new(alloc, Writing::new(socket), LONGEST);
-        let player = SharedPlayer::new(line, Open);
+        let player = SendSide::new(line, Open);
         signal.attached(seat, tap.cursor());
         player.put(&rt, tap);
         let signal = Arc::try_clone(signal).expect(&rt, "a count of its users");
         Seated {
             player: Arc::new(alloc, player).expect(&rt, "memory"),
-            frames: Frames::new(1, seat, signal),
+            frames: SeatHold::new(1, seat, signal),
             bytes,
             room,
             writes,

@@ -1,9 +1,9 @@
 //! A player at a writer, whose socket takes nothing, or almost nothing, for a while.
-use crate::fanout::devices::has_come;
 use crate::fanout::packets::{number_in, small_frames};
 use crate::fanout::stage::{KEEP, LONGEST, Mount, Seated};
+use crate::fanout::unreadable::Unreadable;
 use cursor::{Feed, Left};
-use relay_fanout::{Maker, MountSignal, Posting, TapPlace};
+use relay_fanout::{Maker, MountFeed, MountSignal, TapPlace};
 use std::alloc::Global;
 use std::process::Abort;
 use std::sync::atomic::Ordering;
@@ -11,6 +11,7 @@ use std::sync::{Arc, Wait};
 use std::thread;
 use std::thread::{JoinHandle, Threads};
 use std::time::{Clock, Duration};
+use test_kit::has_come;
 
 /// How many packets are published before the player is first looked at, and how many while its socket takes nothing.
 const BEFORE: u16 = 3;
@@ -116,6 +117,12 @@ fn a_player_with_a_rest_takes_nothing_until_it_is_gone(rt: HostRuntime) {
     goes_on_behind_its_rest(rt, rt.alloc());
 }
 
+/// A clock that can't be read gives nobody up, and a socket that is to be tried later is tried at the next look.
+#[test]
+fn a_clock_that_fails_for_good_gives_no_player_up(rt: HostRuntime) {
+    goes_on_behind_its_rest(Unreadable { rt }, rt.alloc());
+}
+
 /// How many packets are published while the socket takes almost nothing.
 const LATE: u16 = 10;
 
@@ -151,7 +158,7 @@ where
         writers,
     } = mount;
     let theirs = Arc::try_clone(&signal).expect(&rt, "a count of its users");
-    let mut feed = Posting::new(rt, publisher, theirs, wake_signal, KEEP);
+    let mut feed = MountFeed::new(rt, publisher, theirs, wake_signal, KEEP);
     publish(&rt, &mut feed, &signal, then);
     let _waited = feed.end();
     for _ in 0..SINGLY {

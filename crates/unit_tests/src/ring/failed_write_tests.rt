@@ -15,7 +15,7 @@ const PACKETS: u64 = 200;
 
 /// What happened at the two devices of a pass.
 #[derive(Drop)]
-struct Wire {
+struct Peer {
     /// The sink has refused a write.
     has_refused: Cell<bool>,
     /// A read came after that.
@@ -26,7 +26,7 @@ struct Wire {
 #[derive(Drop)]
 struct Noting<'a, S> {
     inner: S,
-    wire: &'a Wire,
+    peer: &'a Peer,
 }
 
 impl<S: Source> Source for Noting<'_, S> {
@@ -39,8 +39,8 @@ impl<S: Source> Source for Noting<'_, S> {
     ghost gives = { λ old bytes new. S.gives old.inner bytes new.inner };
 
     fn read(&mut self, buf: &mut [u8]) -> Result<usize, Failed> {
-        if self.wire.has_refused.get() {
-            self.wire.late.set(true);
+        if self.peer.has_refused.get() {
+            self.peer.late.set(true);
         }
         self.inner.read(buf)
     }
@@ -59,7 +59,7 @@ impl<S: Source> Source for Noting<'_, S> {
 struct Refusing<'a> {
     writes: u64,
     failed: bool,
-    wire: &'a Wire,
+    peer: &'a Peer,
 }
 
 impl Sink for Refusing<'_> {
@@ -70,7 +70,7 @@ impl Sink for Refusing<'_> {
     fn write(&mut self, bytes: &[u8]) -> Result<usize, Failed> {
         if self.failed || self.writes == 0 {
             self.failed = true;
-            self.wire.has_refused.set(true);
+            self.peer.has_refused.set(true);
             return Err(Failed);
         }
         self.writes -= 1;
@@ -117,18 +117,18 @@ struct Outcome {
 
 /// Passes the stream on over a ring that keeps all its packets.
 fn outcome_of(rt: &impl Abort, alloc: Global, case: Case) -> Outcome {
-    let wire = Wire {
+    let peer = Peer {
         has_refused: Cell::new(false),
         late: Cell::new(false),
     };
     let stream = stream_of(rt, alloc);
     let bytes = stream.len() as u64;
     let inner = ListSource::new(stream, case.piece.max(1), None);
-    let mut intake = Intake::new(alloc, Noting { inner, wire: &wire });
+    let mut intake = Intake::new(alloc, Noting { inner, peer: &peer });
     let mut sink = Refusing {
         writes: case.writes,
         failed: false,
-        wire: &wire,
+        peer: &peer,
     };
     let size = RingSize {
         keep: 512,
@@ -149,7 +149,7 @@ fn outcome_of(rt: &impl Abort, alloc: Global, case: Case) -> Outcome {
     Outcome {
         report,
         read: bytes.saturating_sub(left),
-        late: wire.late.get(),
+        late: peer.late.get(),
     }
 }
 

@@ -8,13 +8,13 @@ use std::test::Fail;
 
 /// A source that counts its reads, and gives at most `first` bytes in the first of them.
 #[derive(Drop)]
-struct Watched<'a, S> {
+struct Observed<'a, S> {
     inner: S,
     first: usize,
     reads: &'a Cell<usize>,
 }
 
-impl<'a, S: Source> Source for Watched<'a, S> {
+impl<'a, S: Source> Source for Observed<'a, S> {
     ghost incoming = { λ s. S.incoming s.inner };
 
     ghost bound = { λ s. S.bound s.inner };
@@ -49,11 +49,11 @@ fn watching<'a>(
     first: usize,
     piece: usize,
     reads: &'a Cell<usize>,
-) -> Result<Intake<Watched<'a, ListSource>>, Fail> {
+) -> Result<Intake<Observed<'a, ListSource>>, Fail> {
     let inner = ListSource::new(Vec::from_slice(alloc, bytes)?, piece.max(1), None);
     Ok(Intake::new(
         alloc,
-        Watched {
+        Observed {
             inner,
             first,
             reads,

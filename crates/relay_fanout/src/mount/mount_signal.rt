@@ -1,0 +1,218 @@
+//! The signal that wakes the players of a mount when there are packets.
+use crate::flow::pace::{KnownLevel, Pace};
+use crate::limits::TAKES;
+use crate::mount::player_figures::PlayerFigures;
+use crate::mount::tallies::Tallies;
+use crate::wake::wake_signal::WakeSignal;
+use crate::wake::writers_word::low_half;
+use base_syntax::Items;
+use pacing::Start;
+use publisher::Fate;
+use relay_accounts::{MountTally, lost_so_far};
+use std::alloc::{AllocError, Global};
+use std::sync::atomic::{AtomicBool, AtomicU64, Ordering};
+use std::sync::{Arc, Mutex, Wait};
+use transport_header::{MOST_TRACKS, Point};
+use waking::{NO_MARKS, are_marks, next_word};
+
+/// A player's position: how many packets it was sent, how many were reported lost to it, and the number of the next one.
+#[derive(Clone, Copy, Drop)]
+pub(crate) struct Stand {
+    pub(crate) cursor: u64,
+    pub(crate) sent: u64,
+    pub(crate) lost: u64,
+}
+
+/// What the publisher of a mount and its players share beside the ring: the point of each track, and the word that
+/// players sleep on while there is nothing to take.
+///
+/// Any thread of the server may use it. The points' lock is held for a copy of them or a change of one.
+pub struct MountSignal {
+    points: Mutex<[Option<Point>; MOST_TRACKS]>,
+    /// How many packets came since the players were last woken.
+    marks: AtomicU64,
+    /// How often the players were woken.
+    player_wakeups: AtomicU64,
+    /// Whether no packet comes any more.
+    ended: AtomicBool,
+    /// Which players keep up with the publisher.
+    pub(crate) pace: Pace,
+    pub(crate) tallies: Tallies,
+    wake_signal: Arc<WakeSignal, Global>,
+}
+
+impl Drop for MountSignal {
+    fn drop(self) {
+        let MountSignal {
+            points: _,
+            marks: _,
+            player_wakeups: _,
+            ended: _,
+            pace: _,
+            tallies: _,
+            wake_signal: _,
+        } = self;
+    }
+}
+
+impl MountSignal {
+    /// The signal of a mount with `seats` seats, in the server of this wake signal.
+    pub fn new(
+        alloc: Global,
+        seats: usize,
+        wake_signal: Arc<WakeSignal, Global>,
+    ) -> Result<MountSignal, AllocError> {
+        Ok(MountSignal {
+            points: Mutex::new([None; MOST_TRACKS]),
+            marks: AtomicU64::new(NO_MARKS),
+            player_wakeups: AtomicU64::new(0),
+            ended: AtomicBool::new(false),
+            pace: Pace::new(alloc, seats)?,
+            tallies: Tallies::new(alloc, seats)?,
+            wake_signal,
+        })
+    }
+
+    /// Sets the point of a track to that of its last packet.
+    pub(crate) fn post(&self, rt: &impl Wait, track: usize, point: Point) {
+        let mut points = self.points.lock(rt);
+        if let Some(place) = points.get_mut(track) {
+            *place = Some(point);
+        }
+    }
+
+    /// Returns the point of each track.
+    pub(crate) fn points(
+        &self,
+        rt: &impl Wait,
+        alloc: Global,
+    ) -> Result<Items<Option<Point>>, AllocError> {
+        let points = *self.points.lock(rt);
+        Ok(Items::new(Vec::from_slice(alloc, points.as_slice())?))
+    }
+
+    /// Notes that a packet came. Doesn't wake the players. Returns true when a full batch (16 packets) is waiting.
+    ///
+    /// Called once the packet can be taken, and before the waking thread is notified.
+    pub(crate) fn mark(&self) -> bool {
+        let before = self
+            .marks
+            .fetch_update(Ordering::SeqCst, Ordering::SeqCst, |marks| {
+                Some(next_word(marks))
+            });
+        before == Ok(TAKES - 1)
+    }
+
+    /// Wakes the players if packets came since they were last woken, except those that a writer has. Returns whether any came.
+    pub(crate) fn wake_if_marked(&self) -> bool {
+        let is_marked = are_marks(self.marks.swap(NO_MARKS, Ordering::SeqCst));
+        if is_marked {
+            self.wake_threads();
+        }
+        is_marked
+    }
+
+    /// A player is attached to its seat, at this cursor. The player before it has left.
+    pub fn attached(&self, seat: usize, cursor: u64) {
+        self.pace.stand(seat, cursor);
+        self.tallies.set_player(seat, 0, 0);
+    }
+
+    /// A player is at this position, and may have more to take.
+    pub(crate) fn reach(&self, rt: &impl Wait, seat: usize, stand: Stand, known: &mut KnownLevel) {
+        self.pace.reach(rt, seat, stand.cursor, known);
+        self.tallies.set_player(seat, stand.sent, stand.lost);
+    }
+
+    /// A player is at this position, and had nothing more to take.
+    pub(crate) fn level(&self, rt: &impl Wait, seat: usize, stand: Stand, known: &mut KnownLevel) {
+        self.pace.level(rt, seat, stand.cursor, known);
+        self.tallies.set_player(seat, stand.sent, stand.lost);
+    }
+
+    /// A player is at this position, and nothing more comes.
+    pub(crate) fn stand(&self, seat: usize, stand: Stand) {
+        self.pace.stand(seat, stand.cursor);
+        self.tallies.set_player(seat, stand.sent, stand.lost);
+    }
+
+    /// Counts a frame of the publisher with `bytes` bytes of data that came at this moment, in milliseconds, and met this fate.
+    pub fn note(&self, rt: &impl Wait, fate: Fate, bytes: usize, now: u64) {
+        self.tallies.add(rt, fate, bytes, now);
+    }
+
+    /// The mount is recorded from this moment on.
+    pub fn begin(&self, rt: &impl Wait, now: u64) {
+        self.tallies.begin(rt, now);
+    }
+
+    /// Returns what became of the frames that came to the mount.
+    pub fn tally(&self, rt: &impl Wait) -> MountTally {
+        self.tallies.of_mount(rt)
+    }
+
+    /// Returns the moment of its last packet, or of its first RECORD if no packet came, in milliseconds.
+    pub fn last_packet(&self, rt: &impl Wait) -> u64 {
+        self.tallies.last(rt)
+    }
+
+    /// Returns where a player starts at this moment, in milliseconds, that is to be sent the packets of the last `milliseconds`, at
+    /// most half of the `keep` that the ring keeps; and whether it is the first player of the mount whose start is shortened so.
+    pub fn start(&self, rt: &impl Wait, now: u64, milliseconds: u64, keep: u64) -> (Start, bool) {
+        self.tallies.start(rt, now, milliseconds, keep)
+    }
+
+    /// Returns the figures of the player in a seat, of a ring that keeps `keep` packets. It has lost at least what was reported
+    /// lost, and of the packets after its cursor those that aren't kept any more. Its next sixteen takes may have been made and
+    /// not reported yet.
+    pub fn player(&self, rt: &impl Wait, seat: usize, keep: u64) -> PlayerFigures {
+        // In this order, each before what is written first: none counts as lost twice.
+        let published = self.tally(rt).packets;
+        let lost = self.tallies.lost(seat);
+        let cursor = self.pace.cursor(seat);
+        PlayerFigures {
+            sent: self.tallies.sent(seat),
+            lost: lost_so_far(lost, cursor, published, keep.saturating_add(TAKES)),
+            behind: published.saturating_sub(cursor),
+        }
+    }
+
+    /// No packet comes any more.
+    pub(crate) fn end(&self) {
+        self.ended.store(true, Ordering::SeqCst);
+        self.wake();
+    }
+
+    pub(crate) fn has_ended(&self) -> bool {
+        self.ended.load(Ordering::SeqCst)
+    }
+
+    /// Wakes the players of the mount, whatever came.
+    pub fn wake(&self) {
+        // The marks first: for a mark that is made after this, the thread that makes it notifies.
+        self.marks.store(NO_MARKS, Ordering::SeqCst);
+        self.wake_threads();
+        // After the wake-up is counted: a writer that reads the word from here on sees it.
+        self.wake_signal.writers.raise();
+    }
+
+    /// Wakes the players that have a thread of their own.
+    fn wake_threads(&self) {
+        let _ = self
+            .player_wakeups
+            .fetch_update(Ordering::SeqCst, Ordering::SeqCst, |word| {
+                Some(next_word(word))
+            });
+        self.player_wakeups.wake_all();
+    }
+
+    /// Returns how often the players were woken. If it is read before a look at the ring, no wake-up is missed.
+    pub(crate) fn player_wakeups(&self) -> u64 {
+        self.player_wakeups.load(Ordering::SeqCst)
+    }
+
+    /// Sleeps until the players are woken once more than `player_wakeups` times. It may also return for no reason.
+    pub(crate) fn sleep(&self, rt: &impl Wait, player_wakeups: u64) {
+        self.player_wakeups.park(rt, low_half(player_wakeups));
+    }
+}

@@ -1,0 +1,99 @@
+//! The mounts that are being recorded, by number.
+use crate::mount::mount_signal::MountSignal;
+use base_syntax::Items;
+use std::alloc::{AllocError, Global};
+use std::sync::{Arc, Mutex, Wait};
+use transport_header::Point;
+
+/// A mount that is being recorded.
+#[derive(Drop)]
+struct RecordingMount {
+    mount: u64,
+    signal: Arc<MountSignal, Global>,
+}
+
+/// The mounts that are being recorded, each with the signal of its packets.
+///
+/// Its lock is held for a walk over the mounts, and no other lock is taken meanwhile. The room for the most mounts that may
+/// exist is allocated beforehand.
+pub struct RecordingMounts {
+    mounts: Mutex<Vec<RecordingMount>>,
+}
+
+impl Drop for RecordingMounts {
+    fn drop(self) {
+        let RecordingMounts { mounts: _ } = self;
+    }
+}
+
+impl RecordingMounts {
+    /// No mount is being recorded, and at most `most` will be.
+    pub fn new(alloc: Global, most: usize) -> Result<RecordingMounts, AllocError> {
+        let mounts = Vec::with_capacity(alloc, most)?;
+        Ok(RecordingMounts {
+            mounts: Mutex::new(mounts),
+        })
+    }
+
+    /// Adds a mount that is being recorded. If memory is refused, its points aren't reported and the waking thread doesn't wake
+    /// its players.
+    pub fn add(
+        &self,
+        rt: &impl Wait,
+        mount: u64,
+        signal: &Arc<MountSignal, Global>,
+    ) -> Result<(), AllocError> {
+        let signal = Arc::try_clone(signal)?;
+        let mut mounts = self.mounts.lock(rt);
+        mounts.push(RecordingMount { mount, signal })?;
+        Ok(())
+    }
+
+    /// Removes a mount that has ended.
+    pub fn remove(&self, rt: &impl Wait, mount: u64) {
+        let mut mounts = self.mounts.lock(rt);
+        mounts.retain(|registered| registered.mount != mount);
+    }
+
+    /// Returns how many mounts are being recorded.
+    pub fn len(&self, rt: &impl Wait) -> usize {
+        self.mounts.lock(rt).len()
+    }
+
+    /// Returns the points of a mount's tracks. The list is empty if the mount isn't recorded.
+    pub fn points(
+        &self,
+        rt: &impl Wait,
+        alloc: Global,
+        mount: u64,
+    ) -> Result<Items<Option<Point>>, AllocError> {
+        match self.signal_of(rt, mount)? {
+            Some(signal) => signal.points(rt, alloc),
+            None => Ok(Items::empty(alloc)),
+        }
+    }
+
+    fn signal_of(
+        &self,
+        rt: &impl Wait,
+        mount: u64,
+    ) -> Result<Option<Arc<MountSignal, Global>>, AllocError> {
+        let mounts = self.mounts.lock(rt);
+        for registered in mounts.iter() {
+            if registered.mount == mount {
+                return Ok(Some(Arc::try_clone(&registered.signal)?));
+            }
+        }
+        Ok(None)
+    }
+
+    /// Wakes the players of each mount that packets came to, except those that a writer has. Returns whether there was one.
+    pub(crate) fn wake_marked(&self, rt: &impl Wait) -> bool {
+        let mounts = self.mounts.lock(rt);
+        let mut is_any = false;
+        for registered in mounts.iter() {
+            is_any |= registered.signal.wake_if_marked();
+        }
+        is_any
+    }
+}

@@ -1,0 +1,82 @@
+//! A socket that threads share.
+use relay_accounts::WireFailure;
+use std::io;
+use std::io::ErrorKind;
+use std::net::TcpStream;
+use std::sync::atomic::{AtomicBool, Ordering};
+
+/// A socket that threads share, and how the system has ended it.
+#[derive(Drop)]
+pub struct SharedSocket {
+    stream: TcpStream,
+    was_reset: AtomicBool,
+    is_unacknowledged: AtomicBool,
+}
+
+impl SharedSocket {
+    pub fn new(stream: TcpStream) -> SharedSocket {
+        SharedSocket {
+            stream,
+            was_reset: AtomicBool::new(false),
+            is_unacknowledged: AtomicBool::new(false),
+        }
+    }
+
+    pub fn stream(&self) -> &TcpStream {
+        &self.stream
+    }
+
+    /// Notes how the system has ended the connection, if a read or a write failed by that.
+    pub(super) fn note<T>(&self, moved: &io::Result<T>) {
+        if let Err(error) = moved {
+            self.note_error(error);
+        }
+    }
+
+    pub(super) fn note_error(&self, error: &io::Error) {
+        if is_reset(error) {
+            self.was_reset.store(true, Ordering::SeqCst);
+        }
+        if is_unanswered(error) {
+            self.note_stall();
+        }
+    }
+
+    /// Notes a write that failed, which one does that took no byte for as long as the socket says, too.
+    pub(super) fn note_write(&self, written: &io::Result<usize>) {
+        match written {
+            Err(error) if error.kind() == ErrorKind::WouldBlock => self.note_stall(),
+            _ => self.note(written),
+        }
+    }
+
+    pub(super) fn note_stall(&self) {
+        self.is_unacknowledged.store(true, Ordering::SeqCst);
+    }
+
+    /// What fails after the system has given the peer up fails as after a reset, so that comes second.
+    pub(super) fn failure(&self) -> Option<WireFailure> {
+        if self.is_unacknowledged.load(Ordering::SeqCst) {
+            return Some(WireFailure::NoAcknowledgement);
+        }
+        let was_reset = self.was_reset.load(Ordering::SeqCst);
+        was_reset.then_some(WireFailure::Reset)
+    }
+}
+
+/// Whether a read or a write failed because the peer has reset the connection, or has closed it and reads no more.
+fn is_reset(error: &io::Error) -> bool {
+    matches!(
+        error.kind(),
+        ErrorKind::ConnectionReset | ErrorKind::BrokenPipe
+    )
+}
+
+/// Whether a read or a write failed because the system has given the peer up, which acknowledges nothing. If its link is cut, the
+/// system may say that it can't be reached in place of how long it has waited.
+fn is_unanswered(error: &io::Error) -> bool {
+    matches!(
+        error.kind(),
+        ErrorKind::TimedOut | ErrorKind::HostUnreachable | ErrorKind::NetworkUnreachable
+    )
+}

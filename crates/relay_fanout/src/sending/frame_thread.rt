@@ -1,0 +1,142 @@
+//! A thread of its own that sends a connection's frames.
+ghost use Rattle.relay_fanout.specs.Ways.{HasRoom};
+
+use crate::flow::pace::KnownLevel;
+use crate::mount::leave::Leave;
+use crate::mount::mount_signal::{MountSignal, Stand};
+use crate::net::hang_up::HangUp;
+use crate::sending::send_side::SendSide;
+use crate::sending::sent_frames::SentFrames;
+use crate::sending::tap_place::TapPlace;
+use crate::sending::way::Way;
+use cursor::Lend;
+use interleaved::Sink;
+use player::OutStop;
+use relay_accounts::{FrameEnd, Handover};
+use std::alloc::Global;
+use std::sync::{Arc, Wait};
+use std::time::{Clock, Duration};
+use transport_header::TrackChannels;
+
+/// What a frame thread is given.
+#[derive(Drop)]
+pub(crate) struct Sending {
+    pub(crate) signal: Arc<MountSignal, Global>,
+    pub(crate) seat: usize,
+    pub(crate) channels: TrackChannels,
+    /// For how long the connection may stay open after its mount has ended. `None` for ever.
+    pub(crate) after_end: Option<Duration>,
+    /// Whether packets are written from where they lie in the ring.
+    pub(crate) is_direct: bool,
+}
+
+impl<T: Lend + Leave + Drop, W: Sink + Drop, H: HangUp + Drop> SendSide<T, W, H> {
+    /// Sends what the tap gives until a stop is requested, the mount has ended or the connection fails. Returns how the frames
+    /// ended.
+    pub(crate) fn send<R: Wait + Clock>(
+        &self,
+        rt: &R,
+        alloc: Global,
+        sending: &Sending,
+    ) -> SentFrames {
+        let Sending {
+            signal,
+            seat,
+            after_end,
+            ..
+        } = sending;
+        let mut handover = Handover::new();
+        signal.pace.join(rt, *seat);
+        let end = match &mut self.seat.lock(rt).tap {
+            TapPlace::Attached(tap) => self.send_all(rt, alloc, tap, sending, &mut handover),
+            _ => FrameEnd::Stopped,
+        };
+        signal.pace.leave(rt, *seat);
+        if end == FrameEnd::Ended {
+            self.seat.lock(rt).tap.leave();
+        }
+        let end = if self.phase.is_running(rt) {
+            self.end_connection(rt, end, *after_end);
+            end
+        } else {
+            FrameEnd::Stopped
+        };
+        self.phase.end(rt);
+        SentFrames { end, handover }
+    }
+
+    /// Disconnects the player if the frames ended by themselves, so that the thread that reads sees it. At the end of the mount
+    /// the connection stays open if `after_end` is `None`. Else the end of the stream is sent, and the player is disconnected
+    /// after that time; a stop ends the wait.
+    fn end_connection<R: Wait + Clock>(&self, rt: &R, end: FrameEnd, after_end: Option<Duration>) {
+        if end == FrameEnd::Ended {
+            let Some(most) = after_end else {
+                return;
+            };
+            self.writing.close_writes(rt, &self.shutdown);
+            if self.phase.wait_for_stop(rt, most) {
+                return;
+            }
+        }
+        self.shutdown.hang_up();
+    }
+
+    fn send_all(
+        &self,
+        rt: &impl Wait,
+        alloc: Global,
+        tap: &mut T,
+        sending: &Sending,
+        handover: &mut Handover,
+    ) -> FrameEnd {
+        match Way::new(alloc, sending.is_direct, tap.packet_bytes()) {
+            Ok(mut way) => self.send_from(rt, tap, sending, &mut way, handover),
+            Err(_) => FrameEnd::OutOfMemory,
+        }
+    }
+
+    fn send_from(
+        &self,
+        rt: &impl Wait,
+        tap: &mut T,
+        sending: &Sending,
+        way: &mut Way,
+        handover: &mut Handover,
+    ) -> FrameEnd
+        requires { HasRoom way.old (T.packet_bytes tap.old) }
+    {
+        let signal: &MountSignal = &sending.signal;
+        let seat = sending.seat;
+        let mut known = KnownLevel::new();
+        for _ in rt.forever() {
+            // Read before the look at the tap, so that no wake-up is missed.
+            let player_wakeups = signal.player_wakeups();
+            if !self.phase.is_running(rt) {
+                return FrameEnd::Stopped;
+            }
+            let stop = self
+                .writing
+                .relay(rt, tap, &sending.channels, way, handover);
+            // All frames before the last batch were taken, and that batch too unless a write failed.
+            let stand = Stand {
+                cursor: tap.cursor(),
+                sent: handover.handed(0).sent,
+                lost: tap.account().lost,
+            };
+            match stop {
+                OutStop::Done => signal.reach(rt, seat, stand, &mut known),
+                OutStop::Empty => {
+                    // Before it sleeps: the publisher opens a round before it wakes.
+                    signal.level(rt, seat, stand, &mut known);
+                    signal.sleep(rt, player_wakeups);
+                }
+                OutStop::Ended => {
+                    signal.stand(seat, stand);
+                    return FrameEnd::Ended;
+                }
+                OutStop::WriteFailed => return FrameEnd::WriteFailed,
+            }
+        }
+        unreachable!()
+    }
+}

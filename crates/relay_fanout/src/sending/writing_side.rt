@@ -1,0 +1,116 @@
+//! What a connection's replies and frames are written on.
+ghost use Rattle.std.specs.Prelude.{◌≡◌};
+ghost use Rattle.relay_fanout.specs.Ways.{HasRoom};
+
+use crate::limits::GATHERED;
+use crate::net::hang_up::HangUp;
+use crate::sending::counted::Counted;
+use crate::sending::gather::{Line, gather, gather_held};
+use crate::sending::way::Way;
+use cursor::Lend;
+use interleaved::{FRAME_HEAD, Failed, Gathering, Sink, write_all};
+use player::OutStop;
+use relay_accounts::Handover;
+use std::alloc::Global;
+use std::sync::atomic::{AtomicBool, Ordering};
+use std::sync::{Mutex, MutexGuard, Wait};
+use transport_header::TrackChannels;
+
+/// The sink of a connection. A reply, or the frames of up to sixteen takes, are written while its lock is held, so that
+/// each stays whole. Its lock may be held while the peer reads nothing. The only lock that is taken meanwhile is that of
+/// the mount's pace, which is held for a few words.
+///
+/// A writer never waits. If the lock is taken, the writer skips the connection and marks it; the thread that gives the lock
+/// back checks the mark afterwards.
+#[derive(Drop)]
+pub struct WritingSide<W: Sink> {
+    sink: Mutex<Line<W>>,
+    gathers: bool,
+    skipped: AtomicBool,
+}
+
+impl<W: Sink + Drop> WritingSide<W> {
+    /// The writing side for frames of at most `longest` bytes of data. Without memory for a buffer each frame is written by
+    /// itself.
+    pub fn new(alloc: Global, sink: W, longest: usize) -> WritingSide<W> {
+        let room = longest.saturating_add(FRAME_HEAD).saturating_add(GATHERED);
+        let (buffer, gathers) = match Vec::from_elem(alloc, 0, room) {
+            Ok(buffer) => (buffer, true),
+            Err(_) => (Vec::new(alloc), false),
+        };
+        WritingSide {
+            sink: Mutex::new(Gathering::new(Counted::new(sink), buffer)),
+            gathers,
+            skipped: AtomicBool::new(false),
+        }
+    }
+
+    /// Returns whether there is a buffer, without which no writer sends frames.
+    pub fn gathers(&self) -> bool {
+        self.gathers
+    }
+
+    /// Returns the sink, if no thread has it. Else marks it and returns `None`: the thread that has the sink wakes the writers
+    /// after it gives it back.
+    pub(crate) fn try_hold(&self) -> Option<MutexGuard<'_, Line<W>>> {
+        if let Some(sink) = self.sink.try_lock() {
+            return Some(sink);
+        }
+        self.skipped.store(true, Ordering::SeqCst);
+        // Once more after the mark: a thread that gave the sink back before the mark wakes no writer.
+        self.sink.try_lock()
+    }
+
+    /// Returns whether a writer has skipped it since the last call. Called after the sink was given back; the swap isn't
+    /// reordered before that.
+    pub(crate) fn was_skipped(&self) -> bool {
+        self.skipped.swap(false, Ordering::SeqCst)
+    }
+
+    /// Writes a reply.
+    pub fn write(&self, rt: &impl Wait, text: &[u8]) -> Result<(), Failed> {
+        let mut sink = self.sink.lock(rt);
+        if let Err(_) = write_all(&mut *sink, text) {
+            return Err(Failed);
+        }
+        sink.flush()
+    }
+
+    /// Returns how many bytes the socket has taken.
+    pub fn taken(&self, rt: &impl Wait) -> u64 {
+        self.sink.lock(rt).inner().taken()
+    }
+
+    /// Sends the peer the end of its stream, after what is being written.
+    pub(crate) fn close_writes(&self, rt: &impl Wait, shutdown: &impl HangUp) {
+        let _sink = self.sink.lock(rt);
+        shutdown.close_writes();
+    }
+
+    /// Writes the frames of the next packets of a tap, and returns why no more came.
+    pub(crate) fn relay<T: Lend>(
+        &self,
+        rt: &impl Wait,
+        tap: &mut T,
+        channels: &TrackChannels,
+        way: &mut Way,
+        handover: &mut Handover,
+    ) -> OutStop
+        requires { HasRoom way.old (T.packet_bytes tap.old) }
+        ensures same { T.packet_bytes tap.new ≡ T.packet_bytes tap.old }
+        ensures room { HasRoom way.new (T.packet_bytes tap.new) }
+    {
+        let mut sink = self.sink.lock(rt);
+        let stop = match way {
+            Way::Copied(buf) => gather(tap, &mut *sink, channels, buf.as_mut_slice(), handover),
+            Way::Direct => gather_held(tap, &mut *sink, channels, handover),
+        };
+        match sink.flush() {
+            Ok(()) => {
+                handover.pass();
+                stop
+            }
+            Err(_) => OutStop::WriteFailed,
+        }
+    }
+}

@@ -1,0 +1,3 @@
+pub mod Backlogs
+pub mod Rates
+pub mod Tallies

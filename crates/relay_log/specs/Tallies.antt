@@ -1,0 +1,17 @@
+-- What is logged at most once a minute. Moments are milliseconds.
+use Rattle.std.specs.Prelude.{ℕ, ◌+◌, ◌==◌, ◌≤◌, Option, None, Some, if◌then◌else◌, IsSomeAnd}
+use Rattle.relay_log.specs.declared.tally.Tally.{Tally}
+use Rattle.relay_accounts.specs.Capped.{capped}
+
+-- a minute after this moment, or at once
+abbrev pub a_minute_after : Option ℕ → ℕ
+a_minute_after None = 0
+a_minute_after (Some told) = capped (told + 60000)
+
+-- when a tally is due to be logged: a minute after the last time, or at once; never if nothing came
+abbrev pub due_at : Tally → Option ℕ
+due_at tally = if tally.count == 0 then None else Some (a_minute_after tally.told)
+
+-- it is due to be logged at this moment
+abbrev pub IsDue : Tally → (now : ℕ) → Type 0
+IsDue tally now = IsSomeAnd (due_at tally) (λ due. due ≤ now)

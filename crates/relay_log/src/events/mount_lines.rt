@@ -1,0 +1,141 @@
+//! Lines that report a mount as it is announced, recorded and ended.
+use crate::events::{Events, path_in};
+use crate::reports::ReportedMount;
+use crate::teller::Teller;
+use base_syntax::Bytes;
+use log::info;
+use relay_accounts::{Counts, Part};
+use relay_fanout::MountSignal;
+use rtsp_message::Request;
+use std::alloc::Global;
+use std::sync::{Arc, Wait};
+use std::time::{Clock, Instant};
+
+/// The source that lines are logged with.
+const TARGET: &str = "relay_server::events";
+
+/// A mount that a connection has announced.
+#[derive(Drop)]
+pub(super) struct Announced {
+    name: Bytes,
+    /// When it was first recorded. `None` if it wasn't, or the clock can't be read.
+    recorded: Option<Instant>,
+    /// The connection's counts when it was announced.
+    earlier: Counts,
+}
+
+impl<R: Wait + Clock> Events<R> {
+    /// An ANNOUNCE of the connection was accepted, when it had these counts.
+    pub fn announced(&mut self, rt: &R, alloc: Global, request: &Request, counts: &Counts) {
+        let Some(teller) = &self.teller else {
+            return;
+        };
+        let Some(name) = path_in(alloc, request) else {
+            teller.lines.miss();
+            return;
+        };
+        let peer = teller.peer;
+        teller.published.add(rt, teller.conn, name.as_slice(), peer);
+        if !teller.is_verbose {
+            return;
+        }
+        let tracks = tracks_in(request);
+        let plural = if tracks == 1 { "" } else { "s" };
+        info!(teller.lines; target: TARGET, "{peer}: mount {} is announced, {tracks} track{plural}", name.as_slice().escape_ascii());
+        self.mount = Some(Announced {
+            name,
+            recorded: None,
+            earlier: *counts,
+        });
+    }
+
+    /// Its mount of this number, in which it has this part, is recorded for the first time.
+    pub fn recorded(
+        &mut self,
+        rt: &R,
+        alloc: Global,
+        mount: u64,
+        part: &Option<Part>,
+        signal: &Arc<MountSignal, Global>,
+    ) {
+        let Some(teller) = &self.teller else {
+            return;
+        };
+        teller.report_mount(rt, alloc, mount, part, signal);
+        let Some(announced) = &mut self.mount else {
+            return;
+        };
+        let peer = teller.peer;
+        info!(teller.lines; target: TARGET, "{peer}: mount {} is recorded", announced.name.as_slice().escape_ascii());
+        announced.recorded = Instant::now(rt).ok();
+    }
+
+    /// Its mount has ended, and it has these counts. Logs those since the ANNOUNCE, and the whole seconds since the first
+    /// RECORD.
+    pub fn ended(&mut self, rt: &R, counts: &Counts) {
+        let Some(teller) = &self.teller else {
+            return;
+        };
+        teller.published.remove(rt, teller.conn);
+        if let Some(reports) = &teller.reports {
+            reports.mount_ends(rt, teller.conn);
+        }
+        let Some(mount) = self.mount.take() else {
+            return;
+        };
+        let peer = teller.peer;
+        let counts = counts.since(&mount.earlier);
+        match mount.seconds(rt) {
+            Some(seconds) => {
+                info!(teller.lines; target: TARGET, "{peer}: mount {} has ended after {seconds} s: {counts}", mount.name.as_slice().escape_ascii())
+            }
+            None => {
+                info!(teller.lines; target: TARGET, "{peer}: mount {} has ended: {counts}", mount.name.as_slice().escape_ascii())
+            }
+        }
+    }
+}
+
+impl<R: Wait> Teller<R> {
+    /// Reports have the mount from now on.
+    fn report_mount(
+        &self,
+        rt: &R,
+        alloc: Global,
+        mount: u64,
+        part: &Option<Part>,
+        signal: &Arc<MountSignal, Global>,
+    ) {
+        let Some(reports) = &self.reports else {
+            return;
+        };
+        let is_reported = part.as_ref().is_some_and(|part| {
+            let mount = ReportedMount {
+                number: mount,
+                name: part.name.as_slice(),
+                publisher: self.peer,
+                signal,
+            };
+            reports.mount_begins(rt, alloc, self.conn, mount).is_ok()
+        });
+        if !is_reported {
+            self.lines.miss();
+        }
+    }
+}
+
+impl Announced {
+    /// How many whole seconds have passed since it was first recorded.
+    fn seconds<R: Clock>(&self, rt: &R) -> Option<u64> {
+        let passed = self.recorded?.elapsed(rt).ok()?;
+        Some(passed.as_secs())
+    }
+}
+
+/// How many tracks an accepted ANNOUNCE has: each is opened by a line `m=`, and none is the first line (RFC 4566, 5).
+fn tracks_in(request: &Request) -> usize {
+    let body = request.body.as_slice();
+    body.windows(3)
+        .filter(|three| *three == b"\nm=".as_slice())
+        .count()
+}

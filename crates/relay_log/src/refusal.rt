@@ -1,0 +1,63 @@
+//! Why a connection isn't served.
+ghost use Rattle.std.specs.Prelude.{◌<◌, IfSome};
+
+use std::alloc::AllocError;
+use std::fmt;
+
+/// Why a connection that came isn't served.
+#[derive(Clone, Copy, Debug, PartialEq, Eq, Drop)]
+pub enum Refusal {
+    /// As many connections are open as a book may have.
+    Full,
+    /// Its address has as many connections as it may have.
+    AddressFull,
+    OutOfMemory,
+    /// No thread could be started that reads it.
+    NoThread,
+    /// It couldn't be accepted, mostly because there was no descriptor.
+    NotAccepted,
+}
+
+impl Refusal {
+    /// How many reasons are counted by themselves.
+    pub(crate) const COUNT: usize = 4;
+
+    /// These reasons, each at its place.
+    pub(crate) const ALL: [Refusal; Refusal::COUNT] = [
+        Refusal::Full,
+        Refusal::OutOfMemory,
+        Refusal::NoThread,
+        Refusal::NotAccepted,
+    ];
+
+    /// Its place among them. `None` if it is counted with its peer's address.
+    pub(crate) fn place(self) -> Option<usize>
+        ensures { IfSome result (λ place. place < 4) }
+    {
+        match self {
+            Refusal::Full => Some(0),
+            Refusal::OutOfMemory => Some(1),
+            Refusal::NoThread => Some(2),
+            Refusal::NotAccepted => Some(3),
+            Refusal::AddressFull => None,
+        }
+    }
+}
+
+impl From<AllocError> for Refusal {
+    fn from(_refused: AllocError) -> Refusal {
+        Refusal::OutOfMemory
+    }
+}
+
+impl fmt::Display for Refusal {
+    fn fmt<W: fmt::Write>(&self, f: &mut fmt::Formatter<W>) -> fmt::Result {
+        match self {
+            Refusal::Full => write!(f, "refused: too many connections"),
+            Refusal::AddressFull => write!(f, "refused: too many connections of one address"),
+            Refusal::OutOfMemory => write!(f, "refused: out of memory"),
+            Refusal::NoThread => write!(f, "refused: no thread"),
+            Refusal::NotAccepted => write!(f, "not accepted: no descriptor or no memory"),
+        }
+    }
+}

@@ -1,0 +1,54 @@
+//! The line that reports requests that were refused.
+use crate::subject::Subject;
+use base_syntax::Bytes;
+use rtsp_message::Status;
+use std::alloc::{AllocError, Global};
+use std::fmt;
+use std::net::SocketAddr;
+
+/// A line that reports requests that were refused.
+#[derive(Drop)]
+pub struct RefusedLine {
+    pub(crate) count: u64,
+    pub(crate) kept: Kept,
+    pub(crate) status: Status,
+    pub(crate) last: SocketAddr,
+}
+
+impl fmt::Display for RefusedLine {
+    fn fmt<W: fmt::Write>(&self, f: &mut fmt::Formatter<W>) -> fmt::Result {
+        write!(f, "{} refused {} on ", self.count, self.status.code())?;
+        match &self.kept {
+            Kept::Mount(name) => write!(f, "{}", name.as_slice().escape_ascii())?,
+            Kept::Others => write!(f, "others")?,
+            Kept::NoMount => write!(f, "no mount")?,
+        }
+        write!(f, ", the last {}", self.last)
+    }
+}
+
+/// A subject that is kept.
+#[derive(Drop)]
+pub(crate) enum Kept {
+    Mount(Bytes),
+    Others,
+    NoMount,
+}
+
+impl Kept {
+    pub(crate) fn of(alloc: Global, subject: Subject) -> Result<Kept, AllocError> {
+        Ok(match subject {
+            Subject::Mount(name) => Kept::Mount(Bytes::from_slice(alloc, name)?),
+            Subject::Others => Kept::Others,
+            Subject::NoMount => Kept::NoMount,
+        })
+    }
+
+    pub(crate) fn subject(&self) -> Subject {
+        match self {
+            Kept::Mount(name) => Subject::Mount(name.as_slice()),
+            Kept::Others => Subject::Others,
+            Kept::NoMount => Subject::NoMount,
+        }
+    }
+}

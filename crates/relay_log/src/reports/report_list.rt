@@ -1,0 +1,176 @@
+//! What reports know of mounts and players, and the lines of a report.
+use crate::limits::REPORT_LINES;
+use crate::lines::Lines;
+use crate::reports::reported_mount::Mount;
+use crate::reports::reported_player::Player;
+use log::info;
+use status::{MountLine, PlayerLine, PlayerTold, Snapshot};
+use std::alloc::{AllocError, Global};
+use std::sync::Wait;
+use std::time::Clock;
+
+/// The source that lines are logged with.
+const TARGET: &str = "relay_server::reports";
+
+/// The mounts and the players that are to be reported.
+pub(super) struct List {
+    pub(super) mounts: Vec<Mount>,
+    pub(super) players: Vec<Player>,
+    pub(super) is_closed: bool,
+}
+
+impl Drop for List {
+    fn drop(self) {
+        let List {
+            mounts: _,
+            players: _,
+            is_closed: _,
+        } = self;
+    }
+}
+
+/// How many lines of a report were logged, and how many weren't.
+#[derive(Clone, Copy, Drop)]
+struct Told {
+    lines: usize,
+    more: u64,
+}
+
+impl Told {
+    /// Returns whether one more line may be logged. The line is counted either way.
+    fn has_room(&mut self) -> bool {
+        if self.lines < REPORT_LINES {
+            self.lines += 1;
+            return true;
+        }
+        self.more = self.more.saturating_add(1);
+        false
+    }
+}
+
+impl List {
+    pub(super) fn add_mount(&mut self, mount: Mount) -> Result<(), AllocError> {
+        self.mounts.push(mount)?;
+        Ok(())
+    }
+
+    pub(super) fn add_player(&mut self, player: Player) -> Result<(), AllocError> {
+        self.players.push(player)?;
+        Ok(())
+    }
+
+    /// Ends a mount. It stays in the list until it is reported, if packets came since its last report.
+    pub(super) fn end_mount(&mut self, rt: &impl Wait, conn: u64) {
+        let ended = self.mounts.iter().filter(|mount| mount.has_ended).count();
+        self.mounts.retain_mut(|mount| {
+            if mount.conn != conn || mount.has_ended {
+                return true;
+            }
+            mount.has_ended = true;
+            ended < REPORT_LINES && !mount.signal.tally(rt).since(&mount.told).is_nothing()
+        });
+    }
+
+    /// A player leaves. It stays in the list until it is reported, if it has lost packets since its last report.
+    pub(super) fn leave(&mut self, conn: u64, left: PlayerTold) {
+        let gone = self
+            .players
+            .iter()
+            .filter(|player| player.left.is_some())
+            .count();
+        self.players.retain_mut(|player| {
+            if player.conn != conn || player.left.is_some() {
+                return true;
+            }
+            player.left = Some(left);
+            gone < REPORT_LINES && left.lost > player.told.lost
+        });
+    }
+
+    /// Returns the figures of each mount and each player at this moment, in the order of the lists.
+    pub(super) fn snapshot(
+        &self,
+        rt: &impl Wait,
+        alloc: Global,
+        keep: u64,
+        now: u64,
+    ) -> Result<Snapshot, AllocError> {
+        let mut snapshot = Snapshot::new(alloc);
+        for mount in &self.mounts {
+            let players = self
+                .players
+                .iter()
+                .filter(|player| player.mount == mount.number && player.left.is_none())
+                .count();
+            snapshot
+                .mounts
+                .push(mount.status(rt, alloc, players, now)?)?;
+        }
+        for player in &self.players {
+            snapshot.players.push(player.status(rt, alloc, keep)?)?;
+        }
+        Ok(snapshot)
+    }
+
+    /// Reports each mount, and each player that lost packets since its last report.
+    pub(super) fn tell<R: Wait + Clock>(&mut self, lines: &Lines<R>, snapshot: &Snapshot) {
+        let mut told = Told { lines: 0, more: 0 };
+        self.tell_mounts(lines, snapshot, &mut told);
+        self.tell_players(lines, snapshot, &mut told);
+        if told.more > 0 {
+            let more = told.more;
+            info!(lines; target: TARGET, "{more} more");
+        }
+    }
+
+    /// Reports the mounts. One that has ended is removed after all that came to it is reported.
+    fn tell_mounts<R: Wait + Clock>(
+        &mut self,
+        lines: &Lines<R>,
+        snapshot: &Snapshot,
+        told: &mut Told,
+    ) {
+        for (mount, status) in self.mounts.iter_mut().zip(&snapshot.mounts) {
+            let since = status.tally.since(&mount.told);
+            let is_told = !mount.has_ended || !since.is_nothing();
+            if is_told && told.has_room() {
+                mount.told = status.tally;
+                let line = MountLine { status, since };
+                info!(lines; target: TARGET, "{line}");
+            }
+        }
+        let mut rest = snapshot.mounts.iter();
+        self.mounts.retain(|mount| match rest.next() {
+            Some(status) => !mount.has_ended || !status.tally.since(&mount.told).is_nothing(),
+            None => true,
+        });
+    }
+
+    /// Reports the players. Those that found no room come first the next time.
+    fn tell_players<R: Wait + Clock>(
+        &mut self,
+        lines: &Lines<R>,
+        snapshot: &Snapshot,
+        told: &mut Told,
+    ) {
+        let mut first = 0;
+        let pairs = self.players.iter_mut().zip(&snapshot.players);
+        for (place, (player, status)) in pairs.enumerate() {
+            let since = status.told().since(player.told);
+            if since.lost == 0 || !told.has_room() {
+                continue;
+            }
+            first = place;
+            player.told = status.told();
+            let line = PlayerLine { status, since };
+            info!(lines; target: TARGET, "{line}");
+        }
+        let first = first.min(self.players.len());
+        self.players.as_mut_slice().rotate_left(first);
+        self.players.retain(|player| {
+            !player
+                .left
+                .is_some_and(|left| left.lost <= player.told.lost)
+        });
+    }
+}

@@ -1,0 +1,80 @@
+//! The mounts of reports.
+use base_syntax::Bytes;
+use relay_accounts::MountTally;
+use relay_fanout::MountSignal;
+use status::MountStatus;
+use std::alloc::{AllocError, Global};
+use std::net::SocketAddr;
+use std::sync::{Arc, Wait};
+
+/// A mount that is to be reported.
+#[derive(Drop)]
+pub(crate) struct ReportedMount<'a> {
+    pub(crate) number: u64,
+    pub(crate) name: &'a [u8],
+    pub(crate) publisher: SocketAddr,
+    pub(crate) signal: &'a Arc<MountSignal, Global>,
+}
+
+/// A mount that is recorded, or has ended since its last report.
+pub(super) struct Mount {
+    pub(super) conn: u64,
+    pub(super) number: u64,
+    pub(super) name: Bytes,
+    pub(super) publisher: SocketAddr,
+    pub(super) signal: Arc<MountSignal, Global>,
+    pub(super) told: MountTally,
+    pub(super) has_ended: bool,
+}
+
+impl Drop for Mount {
+    fn drop(self) {
+        let Mount {
+            conn: _,
+            number: _,
+            name: _,
+            publisher: _,
+            signal: _,
+            told: _,
+            has_ended: _,
+        } = self;
+    }
+}
+
+impl Mount {
+    /// A connection's mount, of which nothing was reported.
+    pub(super) fn new(
+        alloc: Global,
+        conn: u64,
+        mount: ReportedMount<'_>,
+    ) -> Result<Mount, AllocError> {
+        let name = Bytes::from_slice(alloc, mount.name)?;
+        let signal = Arc::try_clone(mount.signal)?;
+        Ok(Mount {
+            conn,
+            number: mount.number,
+            name,
+            publisher: mount.publisher,
+            signal,
+            told: MountTally::new(),
+            has_ended: false,
+        })
+    }
+
+    /// Returns its figures at this moment, with `players` players.
+    pub(super) fn status(
+        &self,
+        rt: &impl Wait,
+        alloc: Global,
+        players: usize,
+        now: u64,
+    ) -> Result<MountStatus, AllocError> {
+        Ok(MountStatus {
+            name: Bytes::from_slice(alloc, self.name.as_slice())?,
+            publisher: self.publisher,
+            players,
+            tally: self.signal.tally(rt),
+            silence: now.saturating_sub(self.signal.last_packet(rt)),
+        })
+    }
+}

@@ -1,0 +1,80 @@
+//! How a connection ends: its last text, its hang-up in the book, and what ended it.
+use crate::connection::serving::Connection;
+use crate::limits::{AFTER_TEXT, LAST_READS};
+use crate::listen::gate::Gate;
+use interleaved::{Sink, Source};
+use relay_accounts::{ConnectionEnd, WireFailure, end_by, end_of};
+use relay_fanout::{HangUp, Maker, close_behind_text};
+use rtsp_message::Status;
+use session_state::{Act, Moments, Words};
+use std::sync::Wait;
+use std::thread::Threads;
+use std::time::{Clock, Duration};
+
+impl<R, M, V, G, W, H, N> Connection<R, M, V, G, W, H, N>
+where
+    R: Threads + Wait + Clock + Copy + Send + 'static,
+    M: Maker + Drop,
+    M::Out: 'static,
+    V: Words + Drop,
+    G: Gate + Drop,
+    W: Sink + Drop + Send + 'static,
+    H: HangUp + Drop + Send + Sync + 'static,
+    N: Moments + Drop,
+{
+    /// Writes the fixed text that is the last of the connection: no frame comes after it, and neither a peer that reads
+    /// nothing nor its frames are waited for longer than a moment each.
+    pub(super) fn write_last(&mut self, status: Status) {
+        self.stop_frames(Duration::from_millis(AFTER_TEXT));
+        let _ = self.detach();
+        self.player.shutdown.limit_waits(AFTER_TEXT);
+        let _ = self.write_plain(status, None);
+    }
+
+    /// Whether a thread of its own sends its frames.
+    fn has_frame_thread(&self) -> bool {
+        self.frames
+            .as_ref()
+            .is_some_and(|frames| frames.has_thread())
+    }
+
+    /// Hangs up in the book, and does what is left to do. Returns how the connection ended, which may be by its frames. After
+    /// a last text the peer is given a moment to read it.
+    pub(super) fn hang_up<S: Source>(
+        &mut self,
+        end: ConnectionEnd,
+        source: &mut S,
+    ) -> ConnectionEnd {
+        let act = self.shared.book.lock(&self.rt).hangup(self.conn);
+        self.rights.leave_mount(&self.rt);
+        let has_last_text = self.is_stranded && end == ConnectionEnd::Expired
+            || matches!(
+                end,
+                ConnectionEnd::StreamFault(_) | ConnectionEnd::OutOfMemory
+            );
+        let was_sent_frames = self.frames.is_some();
+        self.player.phase.stop(&self.rt);
+        // A frame thread may wait for a peer that stops reading; a writer waits for none, and mustn't find it disconnected.
+        if !has_last_text && self.has_frame_thread() {
+            self.player.shutdown.hang_up();
+        }
+        let sent = self.detach();
+        self.settle_seat();
+        if !has_last_text {
+            self.player.shutdown.hang_up();
+        }
+        // It may have ended with its session before.
+        if act == Act::End || end == ConnectionEnd::Expired {
+            self.end_mount();
+        }
+        if has_last_text {
+            self.clock.watch().close();
+            close_behind_text(&self.player.shutdown, source, LAST_READS, AFTER_TEXT);
+        }
+        let failure = match self.player.shutdown.failure() {
+            Some(WireFailure::Reset) if !was_sent_frames => None,
+            failure => failure,
+        };
+        end_by(end_of(end, sent, self.is_over), failure)
+    }
+}

@@ -1,0 +1,42 @@
+//! The limits of connections that a peer or an operator can meet. What happens at each, and what changes it, is in
+//! `docs/LIMITS.md`.
+
+/// How long the server waits after it couldn't accept, in milliseconds, so that a lack of descriptors doesn't keep it
+/// busy.
+pub(crate) const AFTER_NO_ACCEPT: u64 = 100;
+
+/// How many connections may have a thread: a little more than a book's, since those that are closed after a last text have left
+/// it.
+pub(crate) const MOST_LIVE: u64 = 1_088;
+
+/// How many refused peers are given time to read why. One more takes the place of the first.
+pub(crate) const REFUSED_PEERS: usize = 64;
+
+/// For how many milliseconds a refused peer's connection stays, so that it reads why.
+pub(crate) const REFUSED_STAYS: u64 = 100;
+
+/// How often a refused peer is read before it is closed: what it has sent and is never read would reset the connection.
+pub(crate) const REFUSED_READS: u32 = 4;
+
+/// How many entries of its history a server keeps before they are cut off: under 24 MB of the largest requests that are taken,
+/// which come to some 500 KB each with all of their fields and the reply.
+pub(crate) const KEPT_ENTRIES: usize = 40;
+
+/// For how many milliseconds a connection may keep a mount of which it sets up no track.
+pub(crate) const SETUP_WAIT: u64 = 60_000;
+
+/// How long the frames of a player that pauses or leaves may take to end, in milliseconds. After that the player has stopped
+/// reading, and is disconnected, so that its seat is free.
+pub(crate) const STALLED: u64 = 2_000;
+
+/// How long a connection's end waits after its last text: for the frames, and for each read. In milliseconds.
+pub(crate) const AFTER_TEXT: u64 = 200;
+
+/// How many reads may follow the last text.
+pub(crate) const LAST_READS: u32 = 16;
+
+/// For how many milliseconds a server that stops waits for its connections' ends, and a thread that logs for room.
+pub(crate) const STOPS: u64 = 2_000;
+
+/// How long the end of a server waits for its last lines to be written, in milliseconds.
+pub(crate) const LAST_LINES: u64 = 1_000;

@@ -1,0 +1,54 @@
+//! What is done when a connection has ended.
+use crate::listen::live_sockets::LiveSockets;
+use crate::listen::peers::Peers;
+use crate::listen::stopping::Stopping;
+use relay_accounts::{ConnectionEnd, Outcome};
+use relay_log::{Lines, Refusing, tell_end, tell_last_account};
+use std::alloc::Global;
+use std::net::SocketAddr;
+use std::sync::{Arc, Wait};
+use std::time::Clock;
+
+/// What is done when a connection has ended.
+pub(super) struct Ending<R> {
+    pub(super) lines: Arc<Lines<R>, Global>,
+    pub(super) refusing: Arc<Refusing, Global>,
+    pub(super) live: Arc<LiveSockets, Global>,
+    pub(super) peers: Arc<Peers, Global>,
+    pub(super) stopping: Arc<Stopping, Global>,
+    pub(super) conn: u64,
+    pub(super) peer: SocketAddr,
+    pub(super) is_verbose: bool,
+}
+
+impl<R: Drop> Drop for Ending<R> {
+    fn drop(self) {
+        let Ending {
+            lines: _,
+            refusing: _,
+            live: _,
+            peers: _,
+            stopping: _,
+            conn: _,
+            peer: _,
+            is_verbose: _,
+        } = self;
+    }
+}
+
+impl<R: Wait + Clock + Drop> Ending<R> {
+    /// Logs how the connection ended and what its packets came to. A server that stops has ended it itself.
+    pub(super) fn end(self, rt: &R, outcome: Outcome) {
+        let mut outcome = outcome;
+        if self.stopping.is_stopped() {
+            outcome.end = ConnectionEnd::Done;
+        }
+        if self.refusing.may_report_end(rt, self.peer, outcome.end) {
+            tell_end(&*self.lines, self.peer, self.conn, &outcome);
+        }
+        tell_last_account(&*self.lines, self.peer, &outcome, self.is_verbose);
+        self.live.remove(rt, self.conn);
+        self.peers.remove(rt, self.conn);
+        self.stopping.leave();
+    }
+}

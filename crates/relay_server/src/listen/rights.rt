@@ -1,0 +1,100 @@
+//! What a connection may do by the address of its peer.
+ghost use Rattle.std.specs.Prelude.{◌≡◌};
+ghost use Rattle.relay_server.specs.Barred.{barred as barred_by};
+
+use crate::listen::peers::Peers;
+use rtsp_message::Status;
+use session_state::Method;
+use std::alloc::Global;
+use std::sync::{Arc, Wait};
+
+/// What a connection may do by its peer's address.
+pub struct Rights {
+    pub(super) may_publish: bool,
+    pub(super) may_play: bool,
+    /// The mount that counts for its address, if those are limited.
+    pub(super) place: Option<MountPlace>,
+}
+
+impl Drop for Rights {
+    fn drop(self) {
+        let Rights {
+            may_publish: _,
+            may_play: _,
+            place: _,
+        } = self;
+    }
+}
+
+/// The mount of a connection, which counts for its address.
+#[derive(Drop)]
+pub(super) struct MountPlace {
+    pub(super) peers: Arc<Peers, Global>,
+    pub(super) conn: u64,
+    /// How many mounts the address may have.
+    pub(super) most: usize,
+    /// Whether the connection has a mount, or is about to have one.
+    pub(super) is_taken: bool,
+}
+
+impl Rights {
+    /// Everything.
+    pub fn all() -> Rights {
+        Rights::new(true, true)
+    }
+
+    /// To publish, to play, or not, any number of mounts.
+    pub fn new(may_publish: bool, may_play: bool) -> Rights {
+        Rights {
+            may_publish,
+            may_play,
+            place: None,
+        }
+    }
+
+    /// Whether no request is refused by them.
+    pub(crate) fn are_all(&self) -> bool {
+        self.may_publish && self.may_play && self.place.is_none()
+    }
+
+    /// How a request of this method is refused, if it is. An ANNOUNCE that isn't counts as a mount of its address from now on.
+    pub(crate) fn refuses(
+        &mut self,
+        rt: &impl Wait,
+        method: Method,
+        has_mount: bool,
+    ) -> Option<Status> {
+        if let Some(status) = barred(self.may_publish, self.may_play, method, has_mount) {
+            return Some(status);
+        }
+        match &mut self.place {
+            Some(place) if method == Method::Announce => {
+                place.is_taken = place.peers.take_mount(rt, place.conn, place.most);
+                (!place.is_taken).then_some(Status::ServiceUnavailable)
+            }
+            _ => None,
+        }
+    }
+
+    /// The connection has no mount, or none any more.
+    pub(crate) fn leave_mount(&mut self, rt: &impl Wait) {
+        if let Some(place) = &mut self.place {
+            if place.is_taken {
+                place.is_taken = false;
+                place.peers.leave_mount(rt, place.conn);
+            }
+        }
+    }
+}
+
+/// How a request of this method is refused on a connection that may publish, may play, and has a mount that lives, or not.
+fn barred(may_publish: bool, may_play: bool, method: Method, has_mount: bool) -> Option<Status>
+    ensures { result ≡ barred_by may_publish may_play method has_mount }
+{
+    match method {
+        Method::Announce if !may_publish => Some(Status::Forbidden),
+        Method::Describe if !may_play => Some(Status::Forbidden),
+        Method::Setup if !may_play && !has_mount => Some(Status::Forbidden),
+        _ => None,
+    }
+}

@@ -1,0 +1,8 @@
+//! What the crates of tests share: a runtime whose standard error is kept, and the parts of devices in memory.
+#![tactic(auto)]
+
+mod devices;
+mod kept;
+
+pub use devices::{Bytes, Count, FRAME, Open, PACKET, count, has_come, wait_for};
+pub use kept::Kept;
