@@ -1,1 +1,10 @@
+pub mod Fewest
+pub mod FrameEnds
+pub mod Marks
+pub mod Offers
+pub mod PlayerLists
+pub mod RingLooks
+pub mod SeatHolds
+pub mod Stretches
+pub mod Sweepings
 pub mod Ways

@@ -36,5 +36,6 @@ pub use sending::waits::Waits;
 pub use sending::writers::{NoWriter, Writers};
 pub use sending::writing_side::WritingSide;
 pub use steady_clock::SteadyClock;
-pub use wake::wake_signal::{WakeSignal, wake_players};
-pub use wake::writers_word::low_half;
+pub use wake::wake_signal::WakeSignal;
+pub use wake::wake_word::low_half;
+pub use wake::waking_thread::wake_players;

@@ -5,6 +5,7 @@
 //! `RecordingMounts`' for a walk over the mounts, `Offers`' while an offer changes hands; no other lock is taken meanwhile.
 pub(crate) mod leave;
 pub(crate) mod maker;
+pub(crate) mod marks;
 pub(crate) mod mount_feed;
 pub(crate) mod mount_signal;
 pub(crate) mod offer;
@@ -13,4 +14,5 @@ pub(crate) mod player_figures;
 pub(crate) mod recording_mounts;
 pub(crate) mod ring_maker;
 pub(crate) mod seat;
+pub(crate) mod stretches;
 pub(crate) mod tallies;

@@ -3,4 +3,6 @@
 //! The waking thread runs here, and takes only the lock of the recording mounts. Publishers, and threads that give a send side
 //! back, raise the word without a lock.
 pub(crate) mod wake_signal;
+pub(crate) mod wake_word;
+pub(crate) mod waking_thread;
 pub(crate) mod writers_word;

@@ -1,3 +1,14 @@
+pub mod Accounts
+pub mod Addresses
 pub mod Backlogs
+pub mod Kept
+pub mod Moments
+pub mod Names
+pub mod News
+pub mod Orders
+pub mod Places
 pub mod Rates
+pub mod Refusals
+pub mod Requests
 pub mod Tallies
+pub mod Tracks

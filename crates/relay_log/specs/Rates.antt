@@ -1,5 +1,5 @@
 -- How many lines of one address may be logged in a second. Moments are milliseconds.
-use Rattle.std.specs.Prelude.{◌≡◌, ◌≢◌, ℕ, ◌+◌, ◌/◌, ◌==◌, ◌<◌, ◌⊎◌, if◌then◌else◌}
+use Rattle.std.specs.Prelude.{◌≢◌, ℕ, ◌+◌, ◌/◌, ◌==◌, ◌<◌, ◌⊎◌, if◌then◌else◌}
 use Rattle.relay_log.specs.declared.line_rate.LineRate.{LineRate}
 
 -- a line may be logged: none was logged in this second yet, or fewer than ten were

@@ -3,6 +3,10 @@ mod account_lines;
 mod mount_lines;
 mod request_lines;
 mod seat_lines;
+mod tracks;
+
+ghost use Rattle.std.specs.Prelude.{None, Some, IfSome};
+ghost use Rattle.relay_log.specs.News.{IsNew, IsPathOf};
 
 use crate::line_rate::LineRate;
 use crate::lines::Lines;
@@ -45,7 +49,9 @@ impl<R: Drop> Drop for Events<R> {
 
 impl<R> Events<R> {
     /// Nothing is reported.
-    pub fn none() -> Events<R> {
+    pub fn none() -> Events<R>
+        ensures { IsNew result None }
+    {
         Events {
             teller: None,
             mount: None,
@@ -55,7 +61,9 @@ impl<R> Events<R> {
     }
 
     /// What a connection reports.
-    pub fn new(teller: Teller<R>) -> Events<R> {
+    pub fn new(teller: Teller<R>) -> Events<R>
+        ensures { IsNew result (Some teller) }
+    {
         Events {
             teller: Some(teller),
             mount: None,
@@ -87,9 +95,11 @@ impl<R> Events<R> {
     }
 }
 
-/// The path of a request's URI: of an accepted ANNOUNCE the name of the mount that it makes. `None` where there is none, or no
-/// memory for it.
-fn path_in(alloc: Global, request: &Request) -> Option<Bytes> {
+/// Returns the path of a request's URI, which for an accepted ANNOUNCE is the name of the mount that it makes. `None` if it has none,
+/// or if there is no memory for it.
+fn path_in(alloc: Global, request: &Request) -> Option<Bytes>
+    ensures { IfSome result (IsPathOf request.now.uri) }
+{
     match read_uri(alloc, request.uri.as_slice()) {
         Ok(Uri::At(target)) => Some(target.path),
         _ => None,

@@ -3,6 +3,7 @@
 #![tactic(auto)]
 
 mod backlog;
+mod counted;
 mod due;
 mod end_kinds;
 mod ends;
@@ -18,7 +19,10 @@ mod refused_line;
 mod refused_requests;
 mod refusing;
 mod reports;
+mod sooner;
+mod starting;
 mod subject;
+mod tallies;
 mod tally;
 mod teller;
 
@@ -33,9 +37,9 @@ pub use published::PublishedMounts;
 pub use refusal::Refusal;
 pub use refusal_row::RefusalRow;
 pub use refused_line::RefusedLine;
-pub use refused_requests::RefusedRequests;
 pub use refusing::Refusing;
 pub use reports::Reports;
+pub use starting::tell_not_started;
 pub use subject::Subject;
 pub use tally::Tally;
 pub use teller::Teller;

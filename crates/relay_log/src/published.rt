@@ -1,4 +1,7 @@
 //! The mounts that exist, for log lines.
+ghost use Rattle.std.specs.Prelude.{◌≡◌, ◌↔◌, IsTrue, IfOk};
+ghost use Rattle.relay_log.specs.Names.{IsNamedBy};
+
 use base_syntax::Bytes;
 use mounts::MAX_MOUNTS;
 use std::alloc::{AllocError, Global};
@@ -14,7 +17,10 @@ pub(crate) struct PublishedMount {
 }
 
 impl PublishedMount {
-    fn copy(&self, alloc: Global) -> Result<PublishedMount, AllocError> {
+    /// Returns a copy. The only error is out of memory.
+    fn copy(&self, alloc: Global) -> Result<PublishedMount, AllocError>
+        ensures { IfOk result (λ copied. copied ≡ self.now) }
+    {
         Ok(PublishedMount {
             conn: self.conn,
             name: Bytes::from_slice(alloc, self.name.as_slice())?,
@@ -23,7 +29,9 @@ impl PublishedMount {
     }
 
     /// Returns whether a path is the mount's name, or begins with it and a slash.
-    fn is_named_by(&self, path: &[u8]) -> bool {
+    fn is_named_by(&self, path: &[u8]) -> bool
+        ensures { IsTrue result ↔ IsNamedBy self.now.name path.now }
+    {
         let name = self.name.as_slice();
         match path.strip_prefix(name) {
             Some(rest) => rest.is_empty() || rest.first() == Some(&b'/'),

@@ -1,5 +1,6 @@
 //! Why a connection isn't served.
-ghost use Rattle.std.specs.Prelude.{◌<◌, IfSome};
+ghost use Rattle.std.specs.Prelude.{◌≡◌, Option};
+ghost use Rattle.relay_log.specs.Places.{place_of_refusal};
 
 use std::alloc::AllocError;
 use std::fmt;
@@ -7,10 +8,11 @@ use std::fmt;
 /// Why a connection that came isn't served.
 #[derive(Clone, Copy, Debug, PartialEq, Eq, Drop)]
 pub enum Refusal {
-    /// As many connections are open as a book may have.
+    /// The server has as many open connections as it may have.
     Full,
     /// Its address has as many connections as it may have.
     AddressFull,
+    /// There was no memory for it.
     OutOfMemory,
     /// No thread could be started that reads it.
     NoThread,
@@ -32,7 +34,7 @@ impl Refusal {
 
     /// Its place among them. `None` if it is counted with its peer's address.
     pub(crate) fn place(self) -> Option<usize>
-        ensures { IfSome result (λ place. place < 4) }
+        ensures { result ≡ place_of_refusal self }
     {
         match self {
             Refusal::Full => Some(0),
@@ -45,6 +47,11 @@ impl Refusal {
 }
 
 impl From<AllocError> for Refusal {
+    ghost use Rattle.std.specs.Prelude.{◌≡◌};
+    ghost use Rattle.relay_log.specs.declared.refusal.Refusal.TheVariants.{OutOfMemory};
+
+    ghost from_gives = { λ _ why. why ≡ OutOfMemory };
+
     fn from(_refused: AllocError) -> Refusal {
         Refusal::OutOfMemory
     }

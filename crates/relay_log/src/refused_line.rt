@@ -1,4 +1,7 @@
 //! The line that reports requests that were refused.
+ghost use Rattle.std.specs.Prelude.{◌↔◌, IsTrue, IfOk};
+ghost use Rattle.relay_log.specs.Kept.{IsAbout};
+
 use crate::subject::Subject;
 use base_syntax::Bytes;
 use rtsp_message::Status;
@@ -36,7 +39,10 @@ pub(crate) enum Kept {
 }
 
 impl Kept {
-    pub(crate) fn of(alloc: Global, subject: Subject) -> Result<Kept, AllocError> {
+    /// Returns a copy of the subject. The only error is out of memory.
+    pub(crate) fn of(alloc: Global, subject: Subject) -> Result<Kept, AllocError>
+        ensures { IfOk result (λ kept. IsAbout kept subject.entry) }
+    {
         Ok(match subject {
             Subject::Mount(name) => Kept::Mount(Bytes::from_slice(alloc, name)?),
             Subject::Others => Kept::Others,
@@ -44,7 +50,21 @@ impl Kept {
         })
     }
 
-    pub(crate) fn subject(&self) -> Subject {
+    /// Returns whether it is this subject.
+    pub(crate) fn is_about(&self, subject: Subject) -> bool
+        ensures { IsTrue result ↔ IsAbout self.now subject.entry }
+    {
+        match (self, subject) {
+            (Kept::Mount(name), Subject::Mount(text)) => name.as_slice() == text,
+            (Kept::Others, Subject::Others) | (Kept::NoMount, Subject::NoMount) => true,
+            _ => false,
+        }
+    }
+
+    /// Returns the subject that is kept.
+    pub(crate) fn subject(&self) -> Subject
+        ensures { IsAbout self.now result }
+    {
         match self {
             Kept::Mount(name) => Subject::Mount(name.as_slice()),
             Kept::Others => Subject::Others,

@@ -1,7 +1,12 @@
 //! Requests that were refused, by what they were about and status.
+ghost use Rattle.std.specs.Prelude.{◌≡◌, ◌↔◌, ◌<◌, [], ◌++◌, length, map, slice_get, All, IsTrue, IfOk, IfSome, IfNone, IsSomeAnd};
+ghost use Rattle.relay_log.specs.Refusals.{BeginsCount, CountsOne, IsCountOf, due_of, most_counts};
+ghost use Rattle.relay_log.specs.Tallies.{earliest};
+
 use crate::limits::{REFUSED_COUNTS, REFUSED_KEPT};
 use crate::refused_line::{Kept, RefusedLine};
-use crate::subject::{Subject, is_same};
+use crate::sooner::sooner;
+use crate::subject::Subject;
 use crate::tally::Tally;
 use rtsp_message::Status;
 use std::alloc::{AllocError, Global};
@@ -9,16 +14,25 @@ use std::net::SocketAddr;
 
 /// Requests about one subject that were refused with one status.
 #[derive(Drop)]
-struct Entry {
+pub(crate) struct Entry {
     kept: Kept,
     status: Status,
     last: SocketAddr,
     tally: Tally,
 }
 
+impl Entry {
+    /// Returns whether it counts requests about this subject that were refused with this status.
+    fn is_of(&self, subject: Subject, status: Status) -> bool
+        ensures { IsTrue result ↔ IsCountOf subject.entry status self.now }
+    {
+        self.status == status && self.kept.is_about(subject)
+    }
+}
+
 /// Requests that were refused, counted by subject and status, each of which is reported once a minute at most. There are at most 128
 /// such counts, whatever names peers ask for: names that no mount has are one, and so are those for which there is no place.
-pub struct RefusedRequests {
+pub(crate) struct RefusedRequests {
     alloc: Global,
     entries: Vec<Entry>,
 }
@@ -34,7 +48,9 @@ impl Drop for RefusedRequests {
 
 impl RefusedRequests {
     /// None was refused.
-    pub fn new(alloc: Global) -> Result<RefusedRequests, AllocError> {
+    pub(crate) fn new(alloc: Global) -> Result<RefusedRequests, AllocError>
+        ensures { IfOk result (λ requests. requests.entries.items ≡ []) }
+    {
         Ok(RefusedRequests {
             alloc,
             entries: Vec::with_capacity(alloc, REFUSED_COUNTS)?,
@@ -42,7 +58,7 @@ impl RefusedRequests {
     }
 
     /// A request about this subject, of this peer, was refused with this status.
-    pub fn add(&mut self, subject: Subject, status: Status, peer: SocketAddr) {
+    pub(crate) fn add(&mut self, subject: Subject, status: Status, peer: SocketAddr) {
         if self.count(subject, status, peer) || self.begin(subject, status, peer) {
             return;
         }
@@ -50,20 +66,28 @@ impl RefusedRequests {
             || self.begin(Subject::Others, status, peer);
     }
 
-    /// Counts it, if there is such a count.
-    fn count(&mut self, subject: Subject, status: Status, peer: SocketAddr) -> bool {
-        for entry in &mut self.entries {
-            if entry.status == status && is_same(entry.kept.subject(), subject) {
-                entry.tally.add();
-                entry.last = peer;
-                return true;
-            }
-        }
-        false
+    /// Counts the request, if there is a count of its subject and status. Returns whether there is.
+    fn count(&mut self, subject: Subject, status: Status, peer: SocketAddr) -> bool
+        ensures counted { IsTrue result → CountsOne self.old.entries.items self.new.entries.items subject.entry status peer }
+        ensures none { (IsTrue result → ⊥) → All (λ entry. IsCountOf subject.entry status entry → ⊥) self.old.entries.items }
+        ensures same { (IsTrue result → ⊥) → self.new.entries.items ≡ self.old.entries.items }
+    {
+        let Some(place) = place_of(self.entries.as_slice(), subject, status) else {
+            return false;
+        };
+        let entry = &mut self.entries[place];
+        entry.tally.add();
+        entry.last = peer;
+        true
     }
 
-    /// Begins such a count, if there is a place. The last places are for what is about no mount.
-    fn begin(&mut self, subject: Subject, status: Status, peer: SocketAddr) -> bool {
+    /// Begins a count of this subject and status, if there is a place and memory for it. Returns whether it did. The last places are
+    /// for what is about no mount.
+    fn begin(&mut self, subject: Subject, status: Status, peer: SocketAddr) -> bool
+        ensures room { IsTrue result → length self.old.entries.items < most_counts subject.entry }
+        ensures begun { IsTrue result → BeginsCount self.old.entries.items self.new.entries.items subject.entry status peer }
+        ensures same { (IsTrue result → ⊥) → self.new.entries.items ≡ self.old.entries.items }
+    {
         let most = match subject {
             Subject::Mount(_) => REFUSED_COUNTS - OTHERS,
             Subject::Others | Subject::NoMount => REFUSED_COUNTS,
@@ -86,19 +110,14 @@ impl RefusedRequests {
     }
 
     /// When the next line is due. `None` if nothing was refused since the last one.
-    pub fn due(&self) -> Option<u64> {
-        let mut due: Option<u64> = None;
-        for entry in &self.entries {
-            due = match (due, entry.tally.due()) {
-                (Some(one), Some(other)) => Some(one.min(other)),
-                (one, other) => one.or(other),
-            };
-        }
-        due
+    pub(crate) fn due(&self) -> Option<u64>
+        ensures { result ≡ earliest (map due_of self.now.entries.items) }
+    {
+        first_due_of(self.entries.as_slice())
     }
 
     /// The next line that is due at this moment, in milliseconds; then it counts as written.
-    pub fn tell(&mut self, now: u64) -> Option<RefusedLine> {
+    pub(crate) fn tell(&mut self, now: u64) -> Option<RefusedLine> {
         self.forget(now);
         for entry in &mut self.entries {
             if let Some(count) = entry.tally.tell(now) {
@@ -125,6 +144,30 @@ impl RefusedRequests {
                     .is_some_and(|told| now.saturating_sub(told) < REFUSED_KEPT)
         });
     }
+}
+
+/// Returns when the first of these counts is due to be logged.
+fn first_due_of(entries: &[Entry]) -> Option<u64>
+    ensures { result ≡ earliest (map due_of entries.now) }
+{
+    let mut due = None;
+    for entry in entries {
+        due = sooner(due, entry.tally.due());
+    }
+    due
+}
+
+/// Returns the place of the count of this subject and status. `None` if there is none.
+fn place_of(entries: &[Entry], subject: Subject, status: Status) -> Option<usize>
+    ensures found { IfSome result (λ place. IsSomeAnd (slice_get entries.now place) (IsCountOf subject.entry status)) }
+    ensures none { IfNone result (All (λ entry. IsCountOf subject.entry status entry → ⊥) entries.now) }
+{
+    for (place, entry) in entries.iter().enumerate() {
+        if entry.is_of(subject, status) {
+            return Some(place);
+        }
+    }
+    None
 }
 
 /// How many places are for what is about no mount: one for each status that is counted, and one for connections.

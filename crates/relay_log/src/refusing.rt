@@ -1,4 +1,5 @@
 //! How often peers and requests were refused and lines left out, and when that is reported.
+use crate::counted::counted;
 use crate::due::Due;
 use crate::end_kinds::{ENDS, place_of};
 use crate::line_rate::LineRate;
@@ -6,14 +7,15 @@ use crate::line_rates::LineRates;
 use crate::refusal::Refusal;
 use crate::refusal_row::RefusalRow;
 use crate::refused_requests::RefusedRequests;
+use crate::sooner::sooner;
 use crate::subject::Subject;
+use crate::tallies::{first_due, tell_first};
 use crate::tally::Tally;
-use networks::Address;
 use relay_accounts::ConnectionEnd;
 use relay_fanout::SteadyClock;
 use rtsp_message::Status;
 use std::alloc::{AllocError, Global};
-use std::net::{IpAddr, Ipv4Addr, Ipv6Addr, SocketAddr};
+use std::net::SocketAddr;
 use std::sync::{Condvar, CondvarTimeouts, Mutex, Wait};
 use std::time::{Clock, Duration};
 
@@ -227,18 +229,14 @@ impl List {
 
     /// The next row that is due at this moment.
     fn row(&mut self, now: u64) -> Option<RefusalRow> {
-        for (place, why) in Refusal::ALL.iter().enumerate() {
-            if let Some(count) = self.tallies[place].tell(now) {
-                return Some(RefusalRow::Peers(*why, count));
-            }
+        if let Some((place, count)) = tell_first(self.tallies.as_mut_slice(), now) {
+            return Some(RefusalRow::Peers(Refusal::ALL[place], count));
         }
         if let Some(line) = self.requests.tell(now) {
             return Some(RefusalRow::Requests(line));
         }
-        for (place, kind) in ENDS.iter().enumerate() {
-            if let Some(count) = self.unlogged[place].tell(now) {
-                return Some(RefusalRow::Ends(*kind, count));
-            }
+        if let Some((place, count)) = tell_first(self.unlogged.as_mut_slice(), now) {
+            return Some(RefusalRow::Ends(ENDS[place], count));
         }
         let count = self.unlogged_accounts.tell(now)?;
         Some(RefusalRow::Accounts(count))
@@ -246,29 +244,11 @@ impl List {
 
     /// When something is due next.
     fn due(&self) -> Option<u64> {
-        let mut due = sooner(self.moment, self.requests.due());
-        for tally in &self.tallies {
-            due = sooner(due, tally.due());
-        }
-        for tally in &self.unlogged {
-            due = sooner(due, tally.due());
-        }
-        sooner(due, self.unlogged_accounts.due())
-    }
-}
-
-/// The address by which lines are counted: one host may have all addresses of an IPv6 subnet.
-fn counted(ip: IpAddr) -> IpAddr {
-    match Address::of(ip).group() {
-        Address::V4(bits) => IpAddr::V4(Ipv4Addr::from_bits(bits)),
-        Address::V6(bits) => IpAddr::V6(Ipv6Addr::from_bits(bits)),
-    }
-}
-
-/// The sooner of two moments.
-fn sooner(one: Option<u64>, other: Option<u64>) -> Option<u64> {
-    match (one, other) {
-        (Some(one), Some(other)) => Some(one.min(other)),
-        (one, other) => one.or(other),
+        let counted = sooner(self.requests.due(), first_due(self.tallies.as_slice()));
+        let unlogged = sooner(
+            first_due(self.unlogged.as_slice()),
+            self.unlogged_accounts.due(),
+        );
+        sooner(self.moment, sooner(counted, unlogged))
     }
 }

@@ -2,6 +2,7 @@
 mod report_list;
 mod reported_mount;
 mod reported_player;
+mod told;
 
 use crate::lines::Lines;
 use report_list::List;

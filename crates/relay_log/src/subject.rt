@@ -10,12 +10,3 @@ pub enum Subject<'a> {
     /// A connection, before its first request.
     NoMount,
 }
-
-/// Whether two subjects are the same.
-pub(crate) fn is_same(one: Subject, other: Subject) -> bool {
-    match (one, other) {
-        (Subject::Mount(one), Subject::Mount(other)) => one == other,
-        (Subject::Others, Subject::Others) | (Subject::NoMount, Subject::NoMount) => true,
-        _ => false,
-    }
-}

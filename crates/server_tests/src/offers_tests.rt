@@ -5,7 +5,7 @@ use crate::moments::Still;
 use crate::rings::Rings;
 use crate::serving::{book_of, shared_over, told_by};
 use crate::words::OneWord;
-use relay_fanout::{Offers, RingMaker};
+use relay_fanout::{Offer, Offers, RingMaker, WakeSignal};
 use std::alloc::Global;
 use std::sync::Arc;
 use std::thread;
@@ -79,6 +79,30 @@ fn a_fifth_offer_may_be_made_once_one_of_four_is_left(rt: HostRuntime) {
     let fifth = thread::spawn(&rt, move || matches!(theirs.take(&rt), Ok(None)));
     thread::sleep(&rt, Duration::from_millis(100));
     offers.leave(&rt);
+    assert!(rt; fifth.expect(&rt, "a thread").join(&rt));
+    let passed = Instant::now(&rt)
+        .expect(&rt, "a clock")
+        .duration_since(began);
+    assert!(rt; passed < Duration::from_millis(1_900));
+}
+
+/// It is given the one that opened no mount, and waits no longer than for that.
+#[test]
+fn a_fifth_is_given_the_offer_that_comes_back(rt: HostRuntime) {
+    let alloc = rt.alloc();
+    let offers: Arc<Offers<RingMaker>, Global> = Arc::new(alloc, Offers::new()).expect(
+        &rt, "memory",
+    );
+    for _ in 0..MOST {
+        assert!(rt; matches!(offers.take(&rt), Ok(None)));
+    }
+    let wake_signal = Arc::new(alloc, WakeSignal::new()).expect(&rt, "memory");
+    let unused = Offer::make(alloc, &RingMaker::new(8, 1, 16), &wake_signal).expect(&rt, "memory");
+    let theirs = Arc::try_clone(&offers).expect(&rt, "a count of its users");
+    let began = Instant::now(&rt).expect(&rt, "a clock");
+    let fifth = thread::spawn(&rt, move || matches!(theirs.take(&rt), Ok(Some(_))));
+    thread::sleep(&rt, Duration::from_millis(100));
+    offers.put(&rt, unused);
     assert!(rt; fifth.expect(&rt, "a thread").join(&rt));
     let passed = Instant::now(&rt)
         .expect(&rt, "a clock")

@@ -7,6 +7,8 @@ use crate::rings::Rings;
 use crate::serving::{SharedRings, Watch, book_of, shared_over};
 use crate::words::CountedWords;
 use interleaved::Writing;
+use packet_ring::Subscriber;
+use relay_fanout::{SendSide, WakeSignal};
 use relay_server::{ConnectionEnd, WritingSide};
 use std::alloc::Global;
 use std::process::Abort;
@@ -15,7 +17,7 @@ use std::sync::atomic::Ordering;
 use std::sync::{Arc, Wait};
 use std::thread;
 use std::time::Duration;
-use test_kit::{count, has_come, wait_for};
+use test_kit::{Open, count, has_come, wait_for};
 
 /// Lengths of replies: the shortest, lengths about that of the gathering buffer, and longer ones.
 const LENGTHS: [usize; 6] = [28, 32_767, 32_768, 32_769, 65_536, 100_000];
@@ -35,11 +37,14 @@ fn a_reply_of_any_length_is_written_out_at_once(rt: HostRuntime) {
     let bytes = Arc::try_clone(&watch.written).expect(&rt, "a count of its users");
     let sink = Written { rt, bytes, manner };
     let line = WritingSide::new(alloc, Writing::new(sink), 0);
+    let player: SendSide<Subscriber, _, _> = SendSide::new(line, Open);
+    let wake_signal = WakeSignal::new();
     let mut all = 0usize;
     for len in LENGTHS {
         let text = Vec::from_elem(alloc, b'a', len).expect(&rt, "memory");
         all = all.saturating_add(len);
-        assert!(rt; line.write(&rt, text.as_slice()).is_ok(), "{len} bytes");
+        let written = player.write(&rt, &wake_signal, text.as_slice());
+        assert!(rt; written.is_ok(), "{len} bytes");
         assert!(rt; watch.written.lock(&rt).len() == all, "{len} bytes");
         let most = (len / 32_768).saturating_add(1) as u64;
         assert!(rt; writes.swap(0, Ordering::SeqCst) <= most, "{len} bytes");

@@ -1,5 +1,5 @@
 //! The figures of a player.
-ghost use Rattle.std.specs.Prelude.{◌≡◌, ◌-◌};
+ghost use Rattle.std.specs.Prelude.{◌≡◌, ◌-◌, ◌<◌, ◌↔◌, IsTrue};
 
 use base_syntax::Bytes;
 use std::fmt;
@@ -18,6 +18,8 @@ pub struct PlayerStatus {
     pub lost: u64,
     /// How many were published and aren't taken for it yet.
     pub behind: u64,
+    /// What it was sent and lost since the last line that reported it.
+    pub since: PlayerTold,
 }
 
 /// What was reported of a player, in packets.
@@ -27,11 +29,10 @@ pub struct PlayerTold {
     pub lost: u64,
 }
 
-/// The line that reports what a player was sent and lost since its last report.
+/// The line that reports what a player was sent and lost since its last line.
 #[derive(Drop)]
 pub struct PlayerLine<'a> {
     pub status: &'a PlayerStatus,
-    pub since: PlayerTold,
 }
 
 impl PlayerTold {
@@ -63,6 +64,13 @@ impl PlayerStatus {
             lost: self.lost,
         }
     }
+
+    /// Returns whether it has lost packets since the last line that reported it.
+    pub fn has_lost(&self) -> bool
+        ensures { IsTrue result ↔ (0 < self.now.since.lost) }
+    {
+        self.since.lost > 0
+    }
 }
 
 impl fmt::Display for PlayerLine<'_> {
@@ -73,8 +81,8 @@ impl fmt::Display for PlayerLine<'_> {
             self.status.peer,
             self.status.seat,
             self.status.mount.as_slice().escape_ascii(),
-            self.since.sent,
-            self.since.lost,
+            self.status.since.sent,
+            self.status.since.lost,
             self.status.lost,
             self.status.behind
         )

@@ -1,10 +1,12 @@
 //! The mounts and players of a server at one moment.
+ghost use Rattle.std.specs.Prelude.{◌≡◌, []};
+
 use crate::mount_status::MountStatus;
 use crate::player_status::PlayerStatus;
 use std::alloc::Global;
 
-/// The mounts that are recorded, and the players that have a seat, each with its figures, in the order in which they
-/// came. Those that have ended since the last snapshot are among them.
+/// The mounts that are recorded, in the order in which they came, and the players that have a seat, in the order in which the
+/// next report tells of them, each with its figures. Those that have ended since the last snapshot are among them.
 pub struct Snapshot {
     pub mounts: Vec<MountStatus>,
     pub players: Vec<PlayerStatus>,
@@ -21,7 +23,10 @@ impl Drop for Snapshot {
 
 impl Snapshot {
     /// The snapshot of a server to which nothing came.
-    pub fn new(alloc: Global) -> Snapshot {
+    pub fn new(alloc: Global) -> Snapshot
+        ensures mounts { result.mounts.items ≡ [] }
+        ensures players { result.players.items ≡ [] }
+    {
         Snapshot {
             mounts: Vec::new(alloc),
             players: Vec::new(alloc),

@@ -1,8 +1,8 @@
 -- What a step changes of one player's view, and that it keeps what each step keeps.
-use Rattle.std.proofs.Common.{◌≡◌, ◌≢◌, ℕ, ◌<◌, ◌⊎◌, true, false, arith}
-use Rattle.waking.specs.Machine.{LookStep, MayLook, MayMount, MayPlayer, Mount, MountStep, Place, Player, PlayerStep, SweepStep, Words, Writer, mount_after, player_after, player_after_look, raised_once, words_after_mount, words_after_player, woken, writer_after_look, writer_after_player, logs, marks, wakes_itself, hurries, finds_notified, notifies, tells, raises, finds_no_marks, takes_marks, counts, wants_line, gives_back, finds_mark, finds_no_mark, joins, leaves, raises_for_it, passes_over, reads_wakes, finds_nothing, finds_no_time, gets_line, fails, marks_line, gets_line_late, skips, takes_all, uses_up, keeps_rest, keeps_last_rest, finishes, awake, between, looking, ends, asleep}
+use Rattle.std.proofs.Common.{◌≢◌, ℕ, arith}
+use Rattle.waking.specs.Machine.{LookStep, MayLook, MayMount, MayPlayer, MountStep, Player, PlayerStep, mount_after, player_after, player_after_look, raised_once, words_after_mount, words_after_player, writer_after_look, writer_after_player, logs, marks, wakes_itself, hurries, finds_notified, notifies, tells, raises, finds_no_marks, takes_marks, counts, wants_line, gives_back, finds_mark, finds_no_mark, joins, leaves, raises_for_it, passes_over, reads_wakes, finds_nothing, finds_no_time, gets_line, fails, marks_line, gets_line_late, skips, takes_all, uses_up, keeps_rest, keeps_last_rest, finishes}
 use Rattle.waking.specs.Laws.{View}
-use Rattle.waking.proofs.Invariant.{Sound, is_over}
+use Rattle.waking.proofs.Invariant.{Sound}
 
 -- the word is raised by another one
 pub raise_keeps : (v : View) → Sound v → Sound (record v { words = raised_once v.words })

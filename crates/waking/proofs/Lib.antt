@@ -1,3 +1,4 @@
+mod AfterLooks
 mod Invariant
 mod Keeping
 mod Players

@@ -1,8 +1,8 @@
 -- A writer's sweep, and what the waking thread and who raised the word do for all at once.
-use Rattle.std.proofs.Common.{◌≡◌, ℕ, ◌<◌, ◌⊎◌, ◌-◌, true, false, refl, arith}
-use Rattle.waking.specs.Machine.{Place, Words, awake, between, looking, ends, asleep, begins, sweeps_again, ends_sweep, sleeps, returns, player_after_sweep, raised_once, woken, writer_after_sweep}
+use Rattle.std.proofs.Common.{◌≡◌, ◌<◌, ◌⊎◌, ◌-◌, true, false, refl, arith}
+use Rattle.waking.specs.Machine.{Place, awake, between, looking, ends, asleep, begins, sweeps_again, ends_sweep, sleeps, returns, player_after_sweep, raised_once, woken, writer_after_sweep}
 use Rattle.waking.specs.Laws.{View}
-use Rattle.waking.proofs.Invariant.{Sound, is_over}
+use Rattle.waking.proofs.Invariant.{Sound}
 
 pub begin_keeps : (v : View) → Sound v → v.writer.place ≡ awake
     → Sound (record v { player = player_after_sweep begins v.player; writer = writer_after_sweep begins v.words v.writer })

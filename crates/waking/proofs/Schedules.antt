@@ -1,5 +1,5 @@
 -- Each step of the machine keeps the invariant for each player, and so does each schedule.
-use Rattle.std.proofs.Common.{◌≡◌, ◌≢◌, ℕ, ◌<◌, ◌⊎◌, Bool, true, false, List, [], ◌∷◌, refl, ap, sym, subst, ◌∙◌, inl, inr, arith, if◌then◌else◌, ◌==◌}
+use Rattle.std.proofs.Common.{◌≡◌, ◌≢◌, ℕ, ◌⊎◌, List, [], ◌∷◌, ap, sym, subst, ◌∙◌, inl, inr, arith}
 use Rattle.std.proofs.lemmas.Bool.Decides.{eqb_tells}
 use Rattle.waking.specs.Machine.{Act, LookStep, May, MaySweep, Mount, MountStep, Player, PlayerStep, Ran, SweepStep, State, Words, Writer, after, asleep, at_mount, at_player, begins, calls, clears, ends, ends_sweep, sweeps_again, in_sweep, looks_at, mount_after, player_after, player_after_look, player_after_sweep, put, raises_once, returns, sleeps, start, words_after_mount, words_after_player, writer_after_look, writer_after_player, writer_after_sweep}
 use Rattle.waking.specs.Laws.{IsRemembered, View, view_of}

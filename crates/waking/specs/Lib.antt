@@ -1,5 +1,10 @@
 pub mod Attentions
+pub mod Endings
 pub mod Laws
+pub mod Looks
 pub mod Machine
+pub mod Phases
+pub mod PlayerStates
+pub mod Steps
 pub mod Sweeps
 pub mod Words

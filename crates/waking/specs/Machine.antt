@@ -264,9 +264,9 @@ pub data LookStep : Type 0 where
   takes_all : LookStep
   -- its takes are used up, and the socket has taken all
   uses_up : LookStep
-  -- bytes are left
+  -- bytes are left, or the connection is to be hung up
   keeps_rest : (time : ℕ) → LookStep
-  -- it finds the ring empty, and bytes are left, or the connection is to be hung up
+  -- it finds the ring empty, and bytes are left
   keeps_last_rest : (time : ℕ) → LookStep
   -- the player has nothing more to send, and is taken out of the list
   finishes : LookStep

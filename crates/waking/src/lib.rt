@@ -3,11 +3,20 @@
 #![tactic(auto)]
 
 mod attention;
+mod ending;
 mod laws;
+mod look;
+mod looking;
+mod phase;
+mod player_state;
 mod sweep;
 mod word;
 
 pub use attention::Attention;
+pub use ending::{Answer, Ending, Failure};
 pub use laws::no_player_is_forgotten;
+pub use look::{After, Course, Flushed, Found};
+pub use phase::Phase;
+pub use player_state::PlayerState;
 pub use sweep::{Next, Sweep};
 pub use word::{NO_MARKS, are_marks, next_word};

@@ -1,13 +1,11 @@
 //! How a publisher is slowed to the pace of the players that keep up.
-use crate::steady_clock::SteadyClock;
+ghost use Rattle.std.specs.Prelude.{◌≡◌, ◌≢◌, ◌↔◌, IsSome, IsTrue, None, Some};
+
 use pacing::Round;
 use std::alloc::{AllocError, Global};
 use std::sync::atomic::{AtomicU64, Ordering};
 use std::sync::{Condvar, CondvarTimeouts, Mutex, Wait};
 use std::time::{Clock, Duration};
-
-/// When the players that are still awaited are counted, in sixteenths of the time that the wait may take.
-const LOOKS: [u64; 4] = [8, 10, 12, 14];
 
 /// The players of a mount as their publisher sees them, and what it waits on.
 ///
@@ -42,17 +40,37 @@ impl Drop for Pace {
 
 /// What a player's thread knows of its own standing: the number of changes at which it was level, if it was.
 #[derive(Clone, Copy, Drop)]
-pub(crate) struct KnownLevel(Option<u64>);
+pub(crate) struct KnownLevel {
+    pub(crate) at: Option<u64>,
+}
 
 impl KnownLevel {
-    /// Whether it was level since it came, or came back: a publisher may wait for it.
-    pub(crate) fn was_level(self) -> bool {
-        self.0.is_some()
+    /// The state of a new player, which isn't known to keep up.
+    pub(crate) fn new() -> KnownLevel
+        ensures { result ≡ record { at = None } }
+    {
+        KnownLevel { at: None }
     }
 
-    /// The state of a new player, which isn't known to keep up.
-    pub(crate) fn new() -> KnownLevel {
-        KnownLevel(None)
+    /// Returns whether it was level since it came, or came back: a publisher may wait for it.
+    pub(crate) fn was_level(self) -> bool
+        ensures { IsTrue result ↔ IsSome self.at }
+    {
+        self.at.is_some()
+    }
+
+    /// Returns whether it is level, and no round was opened and no player given up since.
+    fn is_level(self, changes: u64) -> bool
+        ensures { IsTrue result ↔ (self.at ≡ Some changes) }
+    {
+        self.at == Some(changes)
+    }
+
+    /// Returns whether it was level, and a round was opened or players were given up since: a publisher may wait for it.
+    fn may_be_awaited(self, changes: u64) -> bool
+        ensures { IsTrue result ↔ (IsSome self.at × (self.at ≢ Some changes)) }
+    {
+        self.at.is_some() && self.at != Some(changes)
     }
 }
 
@@ -102,14 +120,14 @@ impl Pace {
     /// A player had nothing more to take at this cursor.
     pub(crate) fn level(&self, rt: &impl Wait, seat: usize, cursor: u64, known: &mut KnownLevel) {
         let changes = self.follow_me(seat, cursor);
-        if known.0 == Some(changes) {
+        if known.is_level(changes) {
             return;
         }
         let mut round = self.round.lock(rt);
         let was_last = round.level(seat, cursor);
         // A player that is still awaited goes on reporting its cursor.
         if round.is_level(seat) {
-            known.0 = Some(changes);
+            known.at = Some(changes);
         }
         drop(round);
         self.tell(was_last);
@@ -118,15 +136,12 @@ impl Pace {
     /// A player has come to this cursor, and may have more to take. One that isn't known to keep up has to take all first.
     pub(crate) fn reach(&self, rt: &impl Wait, seat: usize, cursor: u64, known: &mut KnownLevel) {
         let changes = self.follow_me(seat, cursor);
-        if known.0.is_none()
-            || known.0 == Some(changes)
-            || cursor < self.target.load(Ordering::SeqCst)
-        {
+        if !known.may_be_awaited(changes) || cursor < self.target.load(Ordering::SeqCst) {
             return;
         }
         let mut round = self.round.lock(rt);
         let was_last = round.reach(seat, cursor);
-        known.0 = round.is_level(seat).then_some(changes);
+        known.at = round.is_level(seat).then_some(changes);
         drop(round);
         self.tell(was_last);
     }
@@ -145,7 +160,7 @@ impl Pace {
     }
 
     /// Opens a round in which `target` packets are to be taken. Returns how many players are awaited.
-    pub(crate) fn open(&self, rt: &impl Wait, target: u64) -> usize {
+    pub(super) fn open(&self, rt: &impl Wait, target: u64) -> usize {
         let mut round = self.round.lock(rt);
         self.follow(&mut round);
         let awaited = round.open(target);
@@ -155,7 +170,7 @@ impl Pace {
     }
 
     /// Sleeps until no player is awaited, for at most `most`. Returns how many players are still awaited.
-    pub(crate) fn wait<R: Wait + Clock>(&self, rt: &R, most: Duration) -> usize {
+    pub(super) fn wait<R: Wait + Clock>(&self, rt: &R, most: Duration) -> usize {
         let (round, _) = self
             .over
             .wait_timeout_while(rt, self.round.lock(rt), most, |round| {
@@ -164,31 +179,8 @@ impl Pace {
         round.awaited()
     }
 
-    /// Waits for players, `awaited` of them when the wait began, until none is awaited, or none got there between two looks.
-    /// Players that are still awaited are given up.
-    pub(crate) fn wait_while_some_come<R: Wait + Clock>(
-        &self,
-        rt: &R,
-        clock: &mut SteadyClock,
-        awaited: usize,
-        began: u64,
-        most: u64,
-    ) {
-        let mut awaited = awaited;
-        for sixteenths in LOOKS {
-            let look = began.saturating_add(most / 16 * sixteenths);
-            let rest = clock.read(rt).until(look);
-            let left = self.wait(rt, Duration::from_micros(rest));
-            if left == 0 || left == awaited {
-                break;
-            }
-            awaited = left;
-        }
-        self.give_up(rt);
-    }
-
     /// Gives up the players that are still awaited.
-    pub(crate) fn give_up(&self, rt: &impl Wait) {
+    pub(super) fn give_up(&self, rt: &impl Wait) {
         if self.round.lock(rt).give_up() > 0 {
             self.changes.fetch_add(1, Ordering::SeqCst);
         }

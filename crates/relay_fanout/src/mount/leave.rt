@@ -1,4 +1,6 @@
 //! Taps that can be left permanently.
+ghost use Rattle.std.specs.Prelude.{◌≡◌};
+
 use cursor::Left;
 use packet_ring::Subscriber;
 
@@ -9,7 +11,9 @@ pub trait Leave {
 }
 
 impl Leave for Subscriber {
-    fn leave_for_good(self) -> Left {
+    fn leave_for_good(self) -> Left
+        ensures { (result.taken ≡ self.account.taken) × (result.lost ≡ self.account.lost) }
+    {
         let (_pass, left) = self.detach();
         left
     }

@@ -2,9 +2,11 @@
 ghost use Rattle.std.specs.Prelude.{◌≡◌, false};
 ghost use Rattle.pacing.specs.Retrying.{PublishesAtLast};
 
+use crate::flow::opened_round::OpenedRound;
 use crate::flow::pauses::Pauses;
-use crate::limits::{LEAST_WAIT, TAKES};
+use crate::mount::marks::{close_log, publish_into};
 use crate::mount::mount_signal::MountSignal;
+use crate::mount::stretches::{ForPlayers, Stretches, is_worth_a_wait};
 use crate::reading::Reading;
 use crate::steady_clock::SteadyClock;
 use crate::wake::wake_signal::WakeSignal;
@@ -28,13 +30,7 @@ pub struct MountFeed<R, F> {
     wake_signal: Arc<WakeSignal, Global>,
     /// Whether the waking thread knows of the mount; else its players are woken at each packet.
     registered: bool,
-    /// After how many packets the players' positions are read.
-    stretch: u64,
-    /// How many packets behind the slowest player that keeps up may be before it is waited for. The wait ends when it is half
-    /// that many behind.
-    most: u64,
-    /// How many packets were published when the positions were last read.
-    looked: u64,
+    stretches: Stretches,
     allowance: Allowance,
     /// For how many microseconds it has waited in total.
     waited: u64,
@@ -66,9 +62,7 @@ impl<R: Clock + Copy + Drop, F: Drop> MountFeed<R, F> {
             signal,
             wake_signal,
             registered: false,
-            stretch: (keep / 4).max(TAKES),
-            most: keep.saturating_sub((keep / 4).max(TAKES)).max(TAKES),
-            looked: 0,
+            stretches: Stretches::new(keep),
             allowance: Allowance::new(),
             waited: 0,
             clock: SteadyClock::new(&rt),
@@ -86,9 +80,7 @@ impl<R: Clock + Drop, F: Feed> MountFeed<R, F> {
             signal,
             ..
         } = self;
-        // The end goes into the ring before it is signalled: a player that is woken by it finds it there.
-        feed.close();
-        signal.end();
+        signal.end(close_log(feed));
         waited
     }
 
@@ -97,7 +89,7 @@ impl<R: Clock + Drop, F: Feed> MountFeed<R, F> {
         &self.signal
     }
 
-    /// Whether the waking thread knows of the mount; else its players are woken at each packet.
+    /// Returns whether the waking thread knows of the mount; else its players are woken at each packet.
     pub fn is_registered(&self) -> bool {
         self.registered
     }
@@ -118,17 +110,18 @@ impl<R: Wait + Clock + Drop, F> MountFeed<R, F> {
     fn keep_pace(&mut self, published: u64)
         ensures { self.new ≡ self.old }
     {
-        if published.saturating_sub(self.looked) < self.stretch {
+        if !self.stretches.is_due(published) {
             return;
         }
-        self.looked = published;
         let slowest = self.signal.pace.slowest(&self.rt, published);
-        let behind = published.saturating_sub(slowest);
-        if behind < self.stretch {
-            return;
-        }
-        if behind < self.most || !self.give_way(published.saturating_sub(self.most / 2)) {
-            self.signal.wake();
+        match self.stretches.next(published, slowest) {
+            ForPlayers::Nothing => {}
+            ForPlayers::Wake => self.signal.wake(),
+            ForPlayers::GiveWay { target } => {
+                if !self.give_way(target) {
+                    self.signal.wake();
+                }
+            }
         }
     }
 
@@ -146,17 +139,16 @@ impl<R: Wait + Clock + Drop, F> MountFeed<R, F> {
             return false;
         };
         let most = self.allowance.left(now);
-        if most / 2 < LEAST_WAIT {
+        if !is_worth_a_wait(most) {
             return false;
         }
-        let awaited = self.signal.pace.open(&self.rt, target);
-        if awaited == 0 {
+        let signal: &MountSignal = &self.signal;
+        let Some(opened) = OpenedRound::open(&self.rt, signal, target) else {
             return false;
-        }
-        // After the opening, so that a player that looked before it doesn't sleep. The time of waking counts as waited, too.
-        self.signal.wake();
-        let pace = &self.signal.pace;
-        pace.wait_while_some_come(&self.rt, &mut self.clock, awaited, now, most);
+        };
+        // The time of waking counts as waited, too.
+        let awaited = opened.wake();
+        awaited.wait_while_some_come(&self.rt, &mut self.clock, now, most);
         let then = match self.clock.read(&self.rt) {
             Reading {
                 moment,
@@ -181,18 +173,14 @@ impl<R: Wait + Clock + Drop, F: Feed> Feed for MountFeed<R, F> {
     ghost publish_gives = { PublishesAtLast F.publish_gives };
 
     fn publish(&mut self, tag: u8, bytes: &[u8]) -> Result<u64, Refused> {
-        let number = self.feed.publish(tag, bytes)?;
+        let (number, logged) = publish_into(&mut self.feed, tag, bytes)?;
         if let Some((track, point)) = point_to_post(tag, bytes) {
-            self.signal.post(&self.rt, track, point);
+            self.signal.post(&self.rt, &logged, track, point);
         }
         if self.registered {
-            if self.signal.mark() {
-                self.wake_signal.hurry();
-            } else {
-                self.wake_signal.notify();
-            }
+            self.signal.mark(logged).notify(&self.wake_signal);
         } else {
-            self.signal.wake();
+            self.signal.wake_for(logged);
         }
         self.keep_pace(number.saturating_add(1));
         Ok(number)
@@ -203,6 +191,6 @@ impl<R: Wait + Clock + Drop, F: Feed> Feed for MountFeed<R, F> {
     }
 
     fn close(self) {
-        self.feed.close();
+        self.end();
     }
 }

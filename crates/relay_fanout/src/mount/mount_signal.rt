@@ -1,19 +1,19 @@
 //! The signal that wakes the players of a mount when there are packets.
 use crate::flow::pace::{KnownLevel, Pace};
 use crate::limits::TAKES;
+use crate::mount::marks::{Counted, Emptied, Logged, Marked, Marks};
 use crate::mount::player_figures::PlayerFigures;
 use crate::mount::tallies::Tallies;
+use crate::sending::ring_look::{LevelTold, WakeupsRead};
 use crate::wake::wake_signal::WakeSignal;
-use crate::wake::writers_word::low_half;
 use base_syntax::Items;
 use pacing::Start;
 use publisher::Fate;
 use relay_accounts::{MountTally, lost_so_far};
 use std::alloc::{AllocError, Global};
-use std::sync::atomic::{AtomicBool, AtomicU64, Ordering};
+use std::sync::atomic::{AtomicBool, Ordering};
 use std::sync::{Arc, Mutex, Wait};
 use transport_header::{MOST_TRACKS, Point};
-use waking::{NO_MARKS, are_marks, next_word};
 
 /// A player's position: how many packets it was sent, how many were reported lost to it, and the number of the next one.
 #[derive(Clone, Copy, Drop)]
@@ -29,10 +29,7 @@ pub(crate) struct Stand {
 /// Any thread of the server may use it. The points' lock is held for a copy of them or a change of one.
 pub struct MountSignal {
     points: Mutex<[Option<Point>; MOST_TRACKS]>,
-    /// How many packets came since the players were last woken.
-    marks: AtomicU64,
-    /// How often the players were woken.
-    player_wakeups: AtomicU64,
+    marks: Marks,
     /// Whether no packet comes any more.
     ended: AtomicBool,
     /// Which players keep up with the publisher.
@@ -46,7 +43,6 @@ impl Drop for MountSignal {
         let MountSignal {
             points: _,
             marks: _,
-            player_wakeups: _,
             ended: _,
             pace: _,
             tallies: _,
@@ -64,8 +60,7 @@ impl MountSignal {
     ) -> Result<MountSignal, AllocError> {
         Ok(MountSignal {
             points: Mutex::new([None; MOST_TRACKS]),
-            marks: AtomicU64::new(NO_MARKS),
-            player_wakeups: AtomicU64::new(0),
+            marks: Marks::new(),
             ended: AtomicBool::new(false),
             pace: Pace::new(alloc, seats)?,
             tallies: Tallies::new(alloc, seats)?,
@@ -73,8 +68,8 @@ impl MountSignal {
         })
     }
 
-    /// Sets the point of a track to that of its last packet.
-    pub(crate) fn post(&self, rt: &impl Wait, track: usize, point: Point) {
+    /// Sets the point of a track to that of its last packet, which is in the ring.
+    pub(crate) fn post(&self, rt: &impl Wait, _logged: &Logged, track: usize, point: Point) {
         let mut points = self.points.lock(rt);
         if let Some(place) = points.get_mut(track) {
             *place = Some(point);
@@ -91,25 +86,18 @@ impl MountSignal {
         Ok(Items::new(Vec::from_slice(alloc, points.as_slice())?))
     }
 
-    /// Notes that a packet came. Doesn't wake the players. Returns true when a full batch (16 packets) is waiting.
-    ///
-    /// Called once the packet can be taken, and before the waking thread is notified.
-    pub(crate) fn mark(&self) -> bool {
-        let before = self
-            .marks
-            .fetch_update(Ordering::SeqCst, Ordering::SeqCst, |marks| {
-                Some(next_word(marks))
-            });
-        before == Ok(TAKES - 1)
+    /// Marks that a packet came. Doesn't wake the players.
+    pub(crate) fn mark(&self, logged: Logged) -> Marked {
+        self.marks.mark(logged)
     }
 
-    /// Wakes the players if packets came since they were last woken, except those that a writer has. Returns whether any came.
-    pub(crate) fn wake_if_marked(&self) -> bool {
-        let is_marked = are_marks(self.marks.swap(NO_MARKS, Ordering::SeqCst));
-        if is_marked {
-            self.wake_threads();
+    /// Wakes the players if packets came since they were last woken, except those that a writer has: for them the writers' word
+    /// is to be raised.
+    pub(crate) fn wake_if_marked(&self) -> Option<Counted> {
+        match self.marks.take_marks() {
+            Some(emptied) => Some(self.marks.count(emptied)),
+            None => None,
         }
-        is_marked
     }
 
     /// A player is attached to its seat, at this cursor. The player before it has left.
@@ -166,7 +154,8 @@ impl MountSignal {
     /// lost, and of the packets after its cursor those that aren't kept any more. Its next sixteen takes may have been made and
     /// not reported yet.
     pub fn player(&self, rt: &impl Wait, seat: usize, keep: u64) -> PlayerFigures {
-        // In this order, each before what is written first: none counts as lost twice.
+        // The sender writes its cursor before its losses. In the reverse order here a packet that is lost meanwhile may be left
+        // out, but none counts as lost twice.
         let published = self.tally(rt).packets;
         let lost = self.tallies.lost(seat);
         let cursor = self.pace.cursor(seat);
@@ -178,9 +167,9 @@ impl MountSignal {
     }
 
     /// No packet comes any more.
-    pub(crate) fn end(&self) {
+    pub(crate) fn end(&self, logged: Logged) {
         self.ended.store(true, Ordering::SeqCst);
-        self.wake();
+        self.wake_for(logged);
     }
 
     pub(crate) fn has_ended(&self) -> bool {
@@ -189,30 +178,26 @@ impl MountSignal {
 
     /// Wakes the players of the mount, whatever came.
     pub fn wake(&self) {
-        // The marks first: for a mark that is made after this, the thread that makes it notifies.
-        self.marks.store(NO_MARKS, Ordering::SeqCst);
-        self.wake_threads();
-        // After the wake-up is counted: a writer that reads the word from here on sees it.
-        self.wake_signal.writers.raise();
+        self.wake_all(self.marks.empty());
     }
 
-    /// Wakes the players that have a thread of their own.
-    fn wake_threads(&self) {
-        let _ = self
-            .player_wakeups
-            .fetch_update(Ordering::SeqCst, Ordering::SeqCst, |word| {
-                Some(next_word(word))
-            });
-        self.player_wakeups.wake_all();
+    /// Wakes the players of the mount for what is in the ring.
+    pub(crate) fn wake_for(&self, logged: Logged) {
+        self.wake_all(self.marks.empty_for(logged));
     }
 
-    /// Returns how often the players were woken. If it is read before a look at the ring, no wake-up is missed.
-    pub(crate) fn player_wakeups(&self) -> u64 {
-        self.player_wakeups.load(Ordering::SeqCst)
+    /// Wakes the players that have a thread of their own, and the writers.
+    fn wake_all(&self, emptied: Emptied) {
+        self.marks.count(emptied).raise(&self.wake_signal.writers);
     }
 
-    /// Sleeps until the players are woken once more than `player_wakeups` times. It may also return for no reason.
-    pub(crate) fn sleep(&self, rt: &impl Wait, player_wakeups: u64) {
-        self.player_wakeups.park(rt, low_half(player_wakeups));
+    /// Returns how often the players were woken, for a look at the ring.
+    pub(crate) fn player_wakeups(&self) -> WakeupsRead {
+        self.marks.player_wakeups()
+    }
+
+    /// Sleeps until the players are woken again, after a look that found all taken. It may also return for no reason.
+    pub(crate) fn sleep(&self, rt: &impl Wait, told: LevelTold) {
+        self.marks.sleep(rt, told);
     }
 }

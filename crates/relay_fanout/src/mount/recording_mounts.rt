@@ -1,5 +1,6 @@
 //! The mounts that are being recorded, by number.
 use crate::mount::mount_signal::MountSignal;
+use crate::wake::wake_signal::{Asked, Cleared};
 use base_syntax::Items;
 use std::alloc::{AllocError, Global};
 use std::sync::{Arc, Mutex, Wait};
@@ -7,9 +8,9 @@ use transport_header::Point;
 
 /// A mount that is being recorded.
 #[derive(Drop)]
-struct RecordingMount {
+pub(crate) struct RecordingMount {
     mount: u64,
-    signal: Arc<MountSignal, Global>,
+    pub(crate) signal: Arc<MountSignal, Global>,
 }
 
 /// The mounts that are being recorded, each with the signal of its packets.
@@ -87,13 +88,10 @@ impl RecordingMounts {
         Ok(None)
     }
 
-    /// Wakes the players of each mount that packets came to, except those that a writer has. Returns whether there was one.
-    pub(crate) fn wake_marked(&self, rt: &impl Wait) -> bool {
+    /// Asks each mount for its marks after the wake signal was cleared, and wakes the players of those that packets came to, except
+    /// those that a writer has.
+    pub(crate) fn ask(&self, rt: &impl Wait, cleared: Cleared) -> Asked {
         let mounts = self.mounts.lock(rt);
-        let mut is_any = false;
-        for registered in mounts.iter() {
-            is_any |= registered.signal.wake_if_marked();
-        }
-        is_any
+        cleared.ask(mounts.as_slice())
     }
 }

@@ -1,4 +1,6 @@
 //! A seat of a mount.
+ghost use Rattle.std.specs.Prelude.{◌≡◌, IfOk, map};
+
 use crate::mount::mount_signal::MountSignal;
 use std::alloc::{AllocError, Global};
 use std::sync::Arc;
@@ -16,7 +18,9 @@ impl<P: Drop> Seat<P> {
         alloc: Global,
         passes: Vec<P>,
         signal: &Arc<MountSignal, Global>,
-    ) -> Result<Vec<Seat<P>>, AllocError> {
+    ) -> Result<Vec<Seat<P>>, AllocError>
+        ensures passes { IfOk result (λ seats. map (λ seat. seat.pass) seats.items ≡ passes.items) }
+    {
         let mut seats = Vec::with_capacity(alloc, passes.len())?;
         for pass in passes {
             seats.push(Seat {

@@ -1,4 +1,6 @@
 //! A socket that threads share.
+ghost use Rattle.std.specs.Prelude.{◌≡◌, ◌↔◌, ◌⊎◌, IsTrue};
+
 use relay_accounts::WireFailure;
 use std::io;
 use std::io::ErrorKind;
@@ -34,10 +36,10 @@ impl SharedSocket {
     }
 
     pub(super) fn note_error(&self, error: &io::Error) {
-        if is_reset(error) {
+        if is_reset(error.kind()) {
             self.was_reset.store(true, Ordering::SeqCst);
         }
-        if is_unanswered(error) {
+        if is_unanswered(error.kind()) {
             self.note_stall();
         }
     }
@@ -64,19 +66,21 @@ impl SharedSocket {
     }
 }
 
-/// Whether a read or a write failed because the peer has reset the connection, or has closed it and reads no more.
-fn is_reset(error: &io::Error) -> bool {
-    matches!(
-        error.kind(),
-        ErrorKind::ConnectionReset | ErrorKind::BrokenPipe
-    )
+/// Returns whether a read or a write that failed so did because the peer has reset the connection, or has closed it and reads no
+/// more.
+fn is_reset(kind: ErrorKind) -> bool
+    ensures { IsTrue result ↔ ((kind ≡ ErrorKind.ConnectionReset) ⊎ (kind ≡ ErrorKind.BrokenPipe)) }
+{
+    matches!(kind, ErrorKind::ConnectionReset | ErrorKind::BrokenPipe)
 }
 
-/// Whether a read or a write failed because the system has given the peer up, which acknowledges nothing. If its link is cut, the
-/// system may say that it can't be reached in place of how long it has waited.
-fn is_unanswered(error: &io::Error) -> bool {
+/// Returns whether a read or a write that failed so did because the system has given the peer up, which acknowledges nothing. If
+/// its link is cut, the system may say that it can't be reached in place of how long it has waited.
+fn is_unanswered(kind: ErrorKind) -> bool
+    ensures { IsTrue result ↔ ((kind ≡ ErrorKind.TimedOut) ⊎ (kind ≡ ErrorKind.HostUnreachable) ⊎ (kind ≡ ErrorKind.NetworkUnreachable)) }
+{
     matches!(
-        error.kind(),
+        kind,
         ErrorKind::TimedOut | ErrorKind::HostUnreachable | ErrorKind::NetworkUnreachable
     )
 }

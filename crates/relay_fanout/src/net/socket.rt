@@ -1,4 +1,6 @@
 //! The owners of a socket.
+ghost use Rattle.std.specs.Prelude.{IsOk};
+
 use crate::limits::MOST_TRIES;
 use crate::net::hang_up::HangUp;
 use crate::net::shared_socket::SharedSocket;
@@ -61,7 +63,9 @@ impl Write for Socket {
         written
     }
 
-    fn flush(&mut self) -> io::Result<()> {
+    fn flush(&mut self) -> io::Result<()>
+        ensures { IsOk result }
+    {
         Ok(())
     }
 }

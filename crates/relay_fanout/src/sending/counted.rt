@@ -12,14 +12,18 @@ pub struct Counted<W: Sink> {
 
 impl<W: Sink + Drop> Counted<W> {
     /// Nothing was written to it yet.
-    pub(crate) fn new(inner: W) -> Counted<W> {
+    pub(crate) fn new(inner: W) -> Counted<W>
+        ensures { result ≡ record { inner = inner; taken = 0 } }
+    {
         Counted { inner, taken: 0 }
     }
 }
 
 impl<W: Sink> Counted<W> {
     /// Returns how many bytes it has taken.
-    pub(crate) fn taken(&self) -> u64 {
+    pub(crate) fn taken(&self) -> u64
+        ensures { result ≡ self.now.taken }
+    {
         self.taken
     }
 }

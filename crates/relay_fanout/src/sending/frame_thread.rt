@@ -61,8 +61,7 @@ impl<T: Lend + Leave + Drop, W: Sink + Drop, H: HangUp + Drop> SendSide<T, W, H>
         } else {
             FrameEnd::Stopped
         };
-        self.phase.end(rt);
-        SentFrames { end, handover }
+        SentFrames::of_thread(end, handover, self.phase.end(rt))
     }
 
     /// Disconnects the player if the frames ended by themselves, so that the thread that reads sees it. At the end of the mount
@@ -109,10 +108,9 @@ impl<T: Lend + Leave + Drop, W: Sink + Drop, H: HangUp + Drop> SendSide<T, W, H>
         let seat = sending.seat;
         let mut known = KnownLevel::new();
         for _ in rt.forever() {
-            // Read before the look at the tap, so that no wake-up is missed.
-            let player_wakeups = signal.player_wakeups();
+            let wakeups = signal.player_wakeups();
             if !self.phase.is_running(rt) {
-                return FrameEnd::Stopped;
+                return wakeups.end(FrameEnd::Stopped);
             }
             let stop = self
                 .writing
@@ -124,17 +122,19 @@ impl<T: Lend + Leave + Drop, W: Sink + Drop, H: HangUp + Drop> SendSide<T, W, H>
                 lost: tap.account().lost,
             };
             match stop {
-                OutStop::Done => signal.reach(rt, seat, stand, &mut known),
+                OutStop::Done => {
+                    wakeups.go_on();
+                    signal.reach(rt, seat, stand, &mut known);
+                }
                 OutStop::Empty => {
-                    // Before it sleeps: the publisher opens a round before it wakes.
-                    signal.level(rt, seat, stand, &mut known);
-                    signal.sleep(rt, player_wakeups);
+                    let told = wakeups.tell_level(rt, signal, seat, stand, &mut known);
+                    signal.sleep(rt, told);
                 }
                 OutStop::Ended => {
                     signal.stand(seat, stand);
-                    return FrameEnd::Ended;
+                    return wakeups.end(FrameEnd::Ended);
                 }
-                OutStop::WriteFailed => return FrameEnd::WriteFailed,
+                OutStop::WriteFailed => return wakeups.end(FrameEnd::WriteFailed),
             }
         }
         unreachable!()

@@ -1,5 +1,6 @@
 //! A batch of packets from a player's seat into its connection's buffer.
-ghost use Rattle.std.specs.Prelude.{◌≡◌, ◌≤◌, length};
+ghost use Rattle.std.specs.Prelude.{◌≡◌, ◌≤◌, ◌+◌, length};
+ghost use Rattle.relay_accounts.specs.Capped.{capped};
 
 use crate::limits::{GATHERED, TAKES};
 use crate::sending::counted::Counted;
@@ -13,7 +14,9 @@ use transport_header::TrackChannels;
 pub(crate) type Line<W> = Gathering<Counted<W>>;
 
 /// Returns the place in the connection's bytes after what was written to it so far.
-fn place_of<W: Sink + Drop>(line: &Line<W>) -> u64 {
+fn place_of<W: Sink + Drop>(line: &Line<W>) -> u64
+    ensures { result ≡ capped (line.now.inner.taken + length line.now.kept) }
+{
     line.inner().taken().saturating_add(line.len() as u64)
 }
 

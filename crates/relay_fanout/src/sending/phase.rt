@@ -1,15 +1,7 @@
 //! The phase of the thread that sends a connection's frames.
 use std::sync::{Condvar, CondvarTimeouts, Mutex, Wait};
 use std::time::{Clock, Duration};
-
-/// The phase of a frame thread.
-#[derive(Clone, Copy, Debug, PartialEq, Eq, Drop)]
-enum Phase {
-    Running,
-    /// A stop was requested, and it hasn't ended yet.
-    Stopping,
-    Ended,
-}
+use waking::Phase;
 
 /// How the thread that reads a connection and the thread that sends its frames signal each other.
 ///
@@ -20,38 +12,39 @@ pub struct FramePhase {
     changed: Condvar,
 }
 
+/// The end of a frame thread was told to the thread that reads. It has no `Drop`, so that it ends in `SentFrames::of_thread`.
+pub(super) struct EndTold(());
+
 impl FramePhase {
+    /// No frame thread is told to stop.
     pub(crate) fn new() -> FramePhase {
         FramePhase {
-            phase: Mutex::new(Phase::Running),
+            phase: Mutex::new(Phase::new()),
             changed: Condvar::new(),
         }
     }
 
     /// A frame thread is about to be started.
     pub(crate) fn begin(&self, rt: &impl Wait) {
-        *self.phase.lock(rt) = Phase::Running;
+        *self.phase.lock(rt) = Phase::new();
     }
 
     /// Requests the frame thread to stop. It has no effect on one that has ended.
     pub fn stop(&self, rt: &impl Wait) {
-        let mut phase = self.phase.lock(rt);
-        if *phase == Phase::Running {
-            *phase = Phase::Stopping;
-        }
-        drop(phase);
+        self.phase.lock(rt).stop();
         self.changed.notify_all();
     }
 
     /// The frame thread has nothing more to do.
-    pub(crate) fn end(&self, rt: &impl Wait) {
-        *self.phase.lock(rt) = Phase::Ended;
+    pub(super) fn end(&self, rt: &impl Wait) -> EndTold {
+        self.phase.lock(rt).end();
         self.changed.notify_all();
+        EndTold(())
     }
 
     /// Returns whether the frame thread may go on.
     pub(crate) fn is_running(&self, rt: &impl Wait) -> bool {
-        *self.phase.lock(rt) == Phase::Running
+        self.phase.lock(rt).is_running()
     }
 
     /// Sleeps until the frame thread is requested to stop, for at most `most`. Returns whether it was.
@@ -59,9 +52,9 @@ impl FramePhase {
         let (phase, _) = self
             .changed
             .wait_timeout_while(rt, self.phase.lock(rt), most, |phase| {
-                *phase == Phase::Running
+                phase.is_running()
             });
-        *phase != Phase::Running
+        !phase.is_running()
     }
 
     /// Sleeps until the frame thread has ended, for at most `most`. Returns whether it has.
@@ -69,8 +62,15 @@ impl FramePhase {
         let (phase, _) = self
             .changed
             .wait_timeout_while(rt, self.phase.lock(rt), most, |phase| {
-                *phase != Phase::Ended
+                !phase.has_ended()
             });
-        *phase == Phase::Ended
+        phase.has_ended()
+    }
+}
+
+impl EndTold {
+    /// It is known.
+    pub(super) fn spend(self) {
+        let EndTold(()) = self;
     }
 }

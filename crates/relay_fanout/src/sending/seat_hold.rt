@@ -1,11 +1,15 @@
 //! A seat that a connection is attached to.
+ghost use Rattle.std.specs.Prelude.{◌≡◌, ◌↔◌, IsTrue};
+ghost use Rattle.relay_fanout.specs.SeatHolds.{HasThread};
+
 use crate::mount::leave::Leave;
 use crate::mount::mount_signal::MountSignal;
 use crate::net::hang_up::HangUp;
+use crate::sending::coming::Place;
 use crate::sending::frame_thread::Sending;
 use crate::sending::send_side::SendSide;
 use crate::sending::sent_frames::SentFrames;
-use crate::sending::writers::{NoWriter, Place, Writers};
+use crate::sending::writers::{NoWriter, Writers};
 use cursor::Lend;
 use interleaved::Sink;
 use std::alloc::{AllocError, Global};
@@ -27,8 +31,9 @@ enum Sender {
 
 /// A seat that a connection is attached to, and what sends the packets that it takes.
 pub struct SeatHold {
-    mount: u64,
-    seat: usize,
+    /// The mount's number.
+    pub mount: u64,
+    pub seat: usize,
     pub signal: Arc<MountSignal, Global>,
     sender: Sender,
 }
@@ -46,7 +51,10 @@ impl Drop for SeatHold {
 
 impl SeatHold {
     /// Nothing is sent yet.
-    pub fn new(mount: u64, seat: usize, signal: Arc<MountSignal, Global>) -> SeatHold {
+    pub fn new(mount: u64, seat: usize, signal: Arc<MountSignal, Global>) -> SeatHold
+        ensures seat { (result.mount ≡ mount) × (result.seat ≡ seat) × (result.signal ≡ signal) }
+        ensures nobody { ¬ (HasThread result) }
+    {
         SeatHold {
             mount,
             seat,
@@ -99,25 +107,32 @@ impl SeatHold {
         W: Sink + Drop,
         H: HangUp + Drop,
     {
-        let signal = Arc::try_clone(&self.signal)?;
-        // The player is put in before its place in the list: a writer that finds the place finds the player.
-        let number = player.play(rt, signal, self.seat, channels, after_end);
-        self.sender = Sender::Writer(writers.add(rt, player, number)?);
+        let Ok(signal) = Arc::try_clone(&self.signal) else {
+            return Err(NoWriter);
+        };
+        let put_in = player.play(rt, signal, self.seat, channels, after_end);
+        self.sender = Sender::Writer(writers.add(rt, player, put_in)?);
         Ok(())
     }
 
     /// Returns whether a thread was started that isn't joined.
-    pub fn has_thread(&self) -> bool {
+    pub fn has_thread(&self) -> bool
+        ensures { IsTrue result ↔ HasThread self.now }
+    {
         matches!(self.sender, Sender::Thread(_))
     }
 
     /// Returns which seat it is.
-    pub fn seat(&self) -> usize {
+    pub fn seat(&self) -> usize
+        ensures { result ≡ self.now.seat }
+    {
         self.seat
     }
 
     /// Returns the number of the mount, the seat and the signal of its packets.
-    pub fn into_seat(self) -> (u64, usize, Arc<MountSignal, Global>) {
+    pub fn into_seat(self) -> (u64, usize, Arc<MountSignal, Global>)
+        ensures { (result.0 ≡ self.mount) × (result.1 ≡ self.seat) × (result.2 ≡ self.signal) }
+    {
         let SeatHold {
             mount,
             seat,

@@ -2,6 +2,8 @@
 use crate::mount::leave::Leave;
 use crate::mount::mount_signal::MountSignal;
 use crate::net::hang_up::HangUp;
+use crate::sending::coming::PutIn;
+use crate::sending::given_back::GivenBack;
 use crate::sending::phase::FramePhase;
 use crate::sending::sent_frames::SentFrames;
 use crate::sending::tap_place::TapPlace;
@@ -64,10 +66,9 @@ impl<T, W: Sink + Drop, H> SendSide<T, W, H> {
         wake_signal: &WakeSignal,
         text: &[u8],
     ) -> Result<(), Failed> {
-        let written = self.writing.write(rt, text);
-        // After the writing side was given back: a writer that marks it later than this gets it at its last try.
-        if self.writing.was_skipped() {
-            wake_signal.writers.raise();
+        let (written, given_back) = GivenBack::after_write(rt, &self.writing, text);
+        if let Some(mark) = given_back.take_mark() {
+            mark.raise(&wake_signal.writers);
         }
         written
     }
@@ -101,7 +102,7 @@ impl<T: Lend + Leave + Drop, W: Sink + Drop, H: HangUp + Drop> SendSide<T, W, H>
         }
     }
 
-    /// Puts in the player that a writer will look at. It takes from the tap that was put in before. Returns its number.
+    /// Puts in the player that a writer will look at. It takes from the tap that was put in before.
     pub(crate) fn play(
         &self,
         rt: &impl Wait,
@@ -109,16 +110,16 @@ impl<T: Lend + Leave + Drop, W: Sink + Drop, H: HangUp + Drop> SendSide<T, W, H>
         seat: usize,
         channels: TrackChannels,
         after_end: Option<Duration>,
-    ) -> u64 {
+    ) -> PutIn {
         let number = self.plays.fetch_add(1, Ordering::SeqCst);
         let after_end = after_end.map(|time| u64::try_from(time.as_millis()).unwrap_or(u64::MAX));
         let is_attached = matches!(self.seat.lock(rt).tap, TapPlace::Attached(_));
+        let mut player = None;
         if is_attached {
             signal.pace.join(rt, seat);
-            let player = WriterPlayer::new(number, signal, seat, channels, after_end);
-            self.seat.lock(rt).player = Some(player);
+            player = Some(WriterPlayer::new(number, signal, seat, channels, after_end));
         }
-        number
+        PutIn::new(rt, &self.seat, number, player)
     }
 
     /// Takes the player out again, after at most one look of its writer, and returns how its frames ended. Its tap stays.

@@ -1,20 +1,23 @@
 //! A writer's look at one of its players.
+ghost use Rattle.std.specs.Prelude.{◌≡◌, ◌<◌, OnOk, OnErr};
+ghost use Rattle.waking.specs.declared.look.Flushed.TheVariants as flushed;
+
 use crate::mount::leave::Leave;
 use crate::mount::mount_signal::Stand;
 use crate::net::hang_up::HangUp;
 use crate::reading::Reading;
 use crate::sending::gather::{Line, gather};
+use crate::sending::ring_look::{LineHeld, Looked};
 use crate::sending::send_side::{SeatTap, SendSide};
 use crate::sending::tap_place::TapPlace;
 use crate::sending::waits::Waits;
 use crate::sending::writer_player::WriterPlayer;
 use crate::sending::writing_side::WritingSide;
 use cursor::Tap;
-use interleaved::TrySink;
+use interleaved::{Failed, TrySink};
 use player::OutStop;
-use relay_accounts::FrameEnd;
 use std::sync::Wait;
-use waking::Next;
+use waking::{Answer, Course, Failure, Flushed, Next};
 
 impl<T: Tap + Leave + Drop, W: TrySink + Drop, H: HangUp + Drop> SendSide<T, W, H> {
     /// Makes a writer's look at the player of this number, and does nothing if a later player is in its place. While the thread that reads
@@ -57,57 +60,50 @@ impl WriterPlayer {
         now: Reading,
         waits: Waits,
     ) -> Next {
-        // Read before the tap is looked at, so that a wake-up for what comes after the look isn't taken for seen.
-        let player_wakeups = self.signal.player_wakeups();
-        if let Some(next) = self.has_time(player_wakeups, now) {
-            return next;
-        }
-        let now = now.milliseconds();
-        let Some(mut sink) = writing.try_hold() else {
-            // The thread that has the writing side raises the writers' word after it has given it back.
-            self.attention.look_again();
-            return Next::Sleep;
+        let wakeups = match self.signal.player_wakeups().unless_quiet(&self.state, now) {
+            Ok(wakeups) => wakeups,
+            Err(next) => return next,
         };
-        self.attention.hold();
-        let flushed = sink.try_flush();
-        let moved = flushed.unwrap_or(0) > 0;
-        let end = match (flushed, self.end) {
-            (Err(_), _) => Some(FrameEnd::WriteFailed),
-            (Ok(_), None) if sink.len() == 0 => {
+        let (mut sink, held) = match wakeups.try_line(writing) {
+            Ok(held) => held,
+            Err(skipped) => return skipped.next(&mut self.state),
+        };
+        let (flushed, moved) = try_rest(&mut sink);
+        let moment = now.milliseconds();
+        let has_ended = self.signal.has_ended();
+        let looked = match self.state.flushed(flushed, has_ended, moment, waits.end) {
+            Course::Take => self.take(rt, tap, &mut sink, buf, held),
+            Course::ComeBack => {
                 self.come_back(rt);
-                self.take(rt, tap, &mut sink, buf, player_wakeups)
+                self.take(rt, tap, &mut sink, buf, held)
             }
-            // Its packets aren't kept longer for a player that takes them so slowly.
-            (Ok(_), None) if self.is_late(now, waits.end) => Some(FrameEnd::Ended),
-            (Ok(_), end) => end,
+            Course::Pass(answer) => held.answered(answer),
         };
-        let left = sink.len();
-        if left == 0 && end == Some(FrameEnd::Ended) {
-            self.tell_end(shutdown, now);
+        let found = looked.found(sink.len() > 0, moved, self.known.was_level());
+        let after = self.state.looked(found, moment, now.is_read, waits.stall);
+        if after.closes_writes {
+            shutdown.close_writes();
         }
         drop(sink);
-        self.finish(rt, tap, end);
-        if self.wait_for_peer(rt, left, moved, now, waits.stall) {
-            shutdown.note_stall();
-        }
-        self.next(shutdown, now)
+        self.carry_out(rt, tap, shutdown, after);
+        after.next
     }
 
     /// Gathers the frames of up to sixteen takes, as many as leave in one write, and writes what the socket takes at once. Returns
-    /// how the frames ended, or `None` if they go on.
+    /// what the ring answered.
     fn take<T: Tap + Leave + Drop, W: TrySink + Drop>(
         &mut self,
         rt: &impl Wait,
         tap: &mut TapPlace<T>,
         sink: &mut Line<W>,
         buf: &mut Vec<u8>,
-        player_wakeups: u64,
-    ) -> Option<FrameEnd> {
+        held: LineHeld,
+    ) -> Looked {
         let TapPlace::Attached(tap) = tap else {
-            return Some(FrameEnd::Stopped);
+            return held.answered(Answer::Failed(Failure::NoTap));
         };
         if buf.len() < tap.packet_bytes() && buf.resize(tap.packet_bytes(), 0).is_err() {
-            return Some(FrameEnd::OutOfMemory);
+            return held.answered(Answer::Failed(Failure::OutOfMemory));
         }
         let stop = gather(
             tap,
@@ -118,44 +114,40 @@ impl WriterPlayer {
         );
         let (cursor, lost) = (tap.cursor(), tap.account().lost);
         if sink.try_flush().is_err() {
-            return Some(FrameEnd::WriteFailed);
+            return held.answered(Answer::Failed(Failure::WriteFailed));
         }
         let sent = self.handover.handed(sink.inner().taken()).sent;
         let stand = Stand { cursor, sent, lost };
         match stop {
             OutStop::Done => {
                 self.signal.reach(rt, self.seat, stand, &mut self.known);
-                self.attention.look_again();
+                held.answered(Answer::More)
             }
-            OutStop::Empty => {
-                // Before the writer sleeps: the publisher opens a round before it wakes.
-                self.signal.level(rt, self.seat, stand, &mut self.known);
-                self.attention.found_empty(player_wakeups);
-            }
+            OutStop::Empty => held.tell_level(rt, &self.signal, self.seat, stand, &mut self.known),
             OutStop::Ended => {
                 self.signal.stand(self.seat, stand);
-                return Some(FrameEnd::Ended);
+                held.answered(Answer::Ended)
             }
-            OutStop::WriteFailed => return Some(FrameEnd::WriteFailed),
+            OutStop::WriteFailed => held.answered(Answer::Failed(Failure::WriteFailed)),
         }
-        None
     }
+}
 
-    /// If its frames have ended, no publisher waits for it, and at its mount's end its tap is left, so that the mount's packets
-    /// are dropped. What is written last may fail after that.
-    fn finish<T: Leave + Drop>(
-        &mut self,
-        rt: &impl Wait,
-        tap: &mut TapPlace<T>,
-        end: Option<FrameEnd>,
-    ) {
-        if end.is_none() {
-            return;
-        }
-        self.leave_pace(rt);
-        self.end = end;
-        if end == Some(FrameEnd::Ended) {
-            tap.leave();
-        }
+/// Writes what the socket takes at once of the bytes that wait. Returns what became of them, and whether some moved.
+fn try_rest<W: TrySink + Drop>(sink: &mut Line<W>) -> (Flushed, bool) {
+    let tried = sink.try_flush();
+    (flushed_of(tried, sink.len()), tried.unwrap_or(0) > 0)
+}
+
+/// What became of the bytes that waited, of which so many are left after this try.
+fn flushed_of(tried: Result<usize, Failed>, left: usize) -> Flushed
+    ensures failed { OnErr tried (result ≡ flushed.Failed) }
+    ensures all { OnOk tried (left ≡ 0 → result ≡ flushed.All) }
+    ensures rest { OnOk tried (0 < left → result ≡ flushed.Rest) }
+{
+    match tried {
+        Err(_) => Flushed::Failed,
+        Ok(_) if left == 0 => Flushed::All,
+        Ok(_) => Flushed::Rest,
     }
 }

@@ -6,14 +6,14 @@ use crate::limits::GATHERED;
 use crate::net::hang_up::HangUp;
 use crate::sending::counted::Counted;
 use crate::sending::gather::{Line, gather, gather_held};
+use crate::sending::marked_line::{LineSkipped, MarkedLine};
 use crate::sending::way::Way;
 use cursor::Lend;
 use interleaved::{FRAME_HEAD, Failed, Gathering, Sink, write_all};
 use player::OutStop;
 use relay_accounts::Handover;
 use std::alloc::Global;
-use std::sync::atomic::{AtomicBool, Ordering};
-use std::sync::{Mutex, MutexGuard, Wait};
+use std::sync::{MutexGuard, Wait};
 use transport_header::TrackChannels;
 
 /// The sink of a connection. A reply, or the frames of up to sixteen takes, are written while its lock is held, so that
@@ -24,9 +24,9 @@ use transport_header::TrackChannels;
 /// back checks the mark afterwards.
 #[derive(Drop)]
 pub struct WritingSide<W: Sink> {
-    sink: Mutex<Line<W>>,
-    gathers: bool,
-    skipped: AtomicBool,
+    line: MarkedLine<W>,
+    /// Whether there is a buffer, without which no writer sends frames.
+    pub gathers: bool,
 }
 
 impl<W: Sink + Drop> WritingSide<W> {
@@ -39,37 +39,28 @@ impl<W: Sink + Drop> WritingSide<W> {
             Err(_) => (Vec::new(alloc), false),
         };
         WritingSide {
-            sink: Mutex::new(Gathering::new(Counted::new(sink), buffer)),
+            line: MarkedLine::new(Gathering::new(Counted::new(sink), buffer)),
             gathers,
-            skipped: AtomicBool::new(false),
         }
     }
 
-    /// Returns whether there is a buffer, without which no writer sends frames.
-    pub fn gathers(&self) -> bool {
-        self.gathers
-    }
-
-    /// Returns the sink, if no thread has it. Else marks it and returns `None`: the thread that has the sink wakes the writers
-    /// after it gives it back.
-    pub(crate) fn try_hold(&self) -> Option<MutexGuard<'_, Line<W>>> {
-        if let Some(sink) = self.sink.try_lock() {
-            return Some(sink);
+    /// Returns the sink, if no thread has it. Else marks it: the thread that has the sink wakes the writers after it gives it back.
+    pub(super) fn try_hold(&self) -> Result<MutexGuard<'_, Line<W>>, LineSkipped> {
+        match self.line.try_first() {
+            Ok(sink) => Ok(sink),
+            Err(taken) => self.line.try_again(self.line.mark(taken)),
         }
-        self.skipped.store(true, Ordering::SeqCst);
-        // Once more after the mark: a thread that gave the sink back before the mark wakes no writer.
-        self.sink.try_lock()
     }
 
     /// Returns whether a writer has skipped it since the last call. Called after the sink was given back; the swap isn't
     /// reordered before that.
-    pub(crate) fn was_skipped(&self) -> bool {
-        self.skipped.swap(false, Ordering::SeqCst)
+    pub(super) fn was_skipped(&self) -> bool {
+        self.line.take_mark()
     }
 
     /// Writes a reply.
-    pub fn write(&self, rt: &impl Wait, text: &[u8]) -> Result<(), Failed> {
-        let mut sink = self.sink.lock(rt);
+    pub(super) fn write(&self, rt: &impl Wait, text: &[u8]) -> Result<(), Failed> {
+        let mut sink = self.line.lock(rt);
         if let Err(_) = write_all(&mut *sink, text) {
             return Err(Failed);
         }
@@ -78,12 +69,12 @@ impl<W: Sink + Drop> WritingSide<W> {
 
     /// Returns how many bytes the socket has taken.
     pub fn taken(&self, rt: &impl Wait) -> u64 {
-        self.sink.lock(rt).inner().taken()
+        self.line.lock(rt).inner().taken()
     }
 
     /// Sends the peer the end of its stream, after what is being written.
     pub(crate) fn close_writes(&self, rt: &impl Wait, shutdown: &impl HangUp) {
-        let _sink = self.sink.lock(rt);
+        let _sink = self.line.lock(rt);
         shutdown.close_writes();
     }
 
@@ -100,7 +91,7 @@ impl<W: Sink + Drop> WritingSide<W> {
         ensures same { T.packet_bytes tap.new ≡ T.packet_bytes tap.old }
         ensures room { HasRoom way.new (T.packet_bytes tap.new) }
     {
-        let mut sink = self.sink.lock(rt);
+        let mut sink = self.line.lock(rt);
         let stop = match way {
             Way::Copied(buf) => gather(tap, &mut *sink, channels, buf.as_mut_slice(), handover),
             Way::Direct => gather_held(tap, &mut *sink, channels, handover),

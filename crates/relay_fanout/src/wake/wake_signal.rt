@@ -1,6 +1,7 @@
-//! The one thread that wakes players.
+//! What the waking thread sleeps on, and what it does in each of its rounds.
 use crate::limits::BURST;
-use crate::mount::recording_mounts::RecordingMounts;
+use crate::mount::marks::Counted;
+use crate::mount::recording_mounts::RecordingMount;
 use crate::wake::writers_word::WritersWord;
 use std::sync::Wait;
 use std::sync::atomic::{AtomicBool, AtomicU64, Ordering};
@@ -25,6 +26,20 @@ pub struct WakeSignal {
     /// What writers sleep on.
     pub(crate) writers: WritersWord,
 }
+
+/// The signal was cleared, and no mount was asked for its marks since: the step `clears` of the machine of `waking`. It has no
+/// `Drop`, so that it ends in `ask`.
+pub(crate) struct Cleared(());
+
+/// Each mount was asked for its marks, and the writers' word wasn't raised since for those that had some (`owed`). It has no
+/// `Drop`, so that it ends in `raise`.
+pub(crate) struct Asked {
+    counted: Option<Counted>,
+}
+
+/// A round of the waking thread is over, but for the look whether it is stopped. It has no `Drop`, so that it ends in
+/// `is_stopped`.
+pub(crate) struct Raised(());
 
 impl WakeSignal {
     /// It isn't notified yet.
@@ -62,7 +77,7 @@ impl WakeSignal {
     }
 
     /// Sleeps until it is notified.
-    fn wait(&self, rt: &impl Wait) {
+    pub(super) fn wait(&self, rt: &impl Wait) {
         for _ in rt.forever() {
             if self.state.load(Ordering::SeqCst) != QUIET {
                 return;
@@ -72,7 +87,7 @@ impl WakeSignal {
     }
 
     /// Lets packets gather for `time`, or until a mount has a full batch and the rest of its burst has come.
-    fn gather<R: Wait + Clock>(&self, rt: &R, time: Duration) {
+    pub(super) fn gather<R: Wait + Clock>(&self, rt: &R, time: Duration) {
         if time.is_zero() {
             return;
         }
@@ -83,31 +98,41 @@ impl WakeSignal {
             thread::sleep(rt, time.min(Duration::from_millis(BURST)));
         }
     }
+
+    /// Clears the signal, before the mounts are asked for marks: what is published from here on notifies again, and what was
+    /// published before is marked already.
+    pub(super) fn clear(&self) -> Cleared {
+        self.state.store(QUIET, Ordering::SeqCst);
+        Cleared(())
+    }
+
+    /// Returns whether the waking thread is to end. A stop before the signal was cleared is seen here, and one after it notifies.
+    pub(super) fn is_stopped(&self, raised: Raised) -> bool {
+        let Raised(()) = raised;
+        self.stopped.load(Ordering::SeqCst)
+    }
 }
 
-/// Wakes the players of mounts that packets came to, until it is stopped. Packets gather before that, so that a burst
-/// is one wake-up and few writes for each player. If a full batch has gathered, they gather no longer than the rest of
-/// their burst takes.
-///
-/// Runs on a thread of its own, and takes only the lock of the recording mounts.
-pub fn wake_players<R: Wait + Clock>(
-    rt: &R,
-    wake_signal: &WakeSignal,
-    recording: &RecordingMounts,
-    gather: Duration,
-) {
-    for _ in rt.forever() {
-        wake_signal.wait(rt);
-        wake_signal.gather(rt, gather);
-        // What is published from here on notifies again; what was published before is marked already.
-        wake_signal.state.store(QUIET, Ordering::SeqCst);
-        if recording.wake_marked(rt) {
-            // After the wake-ups are counted, once for all mounts.
-            wake_signal.writers.raise();
+impl Cleared {
+    /// Asks each mount for its marks, and counts a wake-up for each that had some: the steps `finds_no_marks`, or `takes_marks`
+    /// and `counts`.
+    pub(crate) fn ask(self, mounts: &[RecordingMount]) -> Asked {
+        let Cleared(()) = self;
+        let mut counted = None;
+        for registered in mounts.iter() {
+            counted = Counted::of_both(counted, registered.signal.wake_if_marked());
         }
-        // Read after the state is cleared: a stop before that is seen here, and one after it notifies.
-        if wake_signal.stopped.load(Ordering::SeqCst) {
-            return;
+        Asked { counted }
+    }
+}
+
+impl Asked {
+    /// Raises the writers' word once for all mounts that had marks: the step `raises_once`.
+    pub(super) fn raise(self, wake_signal: &WakeSignal) -> Raised {
+        let Asked { counted } = self;
+        if let Some(counted) = counted {
+            counted.raise(&wake_signal.writers);
         }
+        Raised(())
     }
 }

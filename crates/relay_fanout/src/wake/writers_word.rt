@@ -1,60 +1,62 @@
 //! What the writers of a server sleep on.
-ghost use Rattle.std.specs.Prelude.{◌≡◌, ◌%◌, ◌^◌};
-
+use crate::wake::wake_word::WakeWord;
 use std::sync::Wait;
-use std::sync::atomic::{AtomicU64, Ordering};
-use std::time::Duration;
-use waking::next_word;
 
-/// A word that writers sleep on, and how often it was raised.
+/// The word that writers sleep on.
 #[derive(Drop)]
 pub(crate) struct WritersWord {
-    writer_wakeups: AtomicU64,
+    word: WakeWord,
+}
+
+/// The word as a writer read it at the beginning of a sweep: `read` of a writer in the machine of `waking`. It has no `Drop`, so
+/// that it ends in `sleep` or `put_down`, and a sleep is on the word that was read before the players were looked at.
+pub(crate) struct WordRead {
+    raised: u64,
+}
+
+/// Why a writer doesn't sleep on the word that it read.
+#[derive(Clone, Copy, Debug, PartialEq, Eq, Drop)]
+pub(crate) enum Awake {
+    /// The writers were stopped.
+    Stopped,
+    /// A player is to be looked at again at once, or the list has changed.
+    SweepsAgain,
 }
 
 impl WritersWord {
     /// It wasn't raised.
     pub(crate) fn new() -> WritersWord {
         WritersWord {
-            writer_wakeups: AtomicU64::new(0),
+            word: WakeWord::new(),
         }
     }
 
     /// Wakes all writers, so that each looks at its players.
     ///
-    /// Called after the change that a look is to see: a wake-up was counted, a player came, or a marked writing side was given
-    /// back.
+    /// Called after the change that a look is to see: a wake-up was counted, a player came, a marked writing side was given
+    /// back, or the writers were stopped.
     pub(crate) fn raise(&self) {
-        let _ = self
-            .writer_wakeups
-            .fetch_update(Ordering::SeqCst, Ordering::SeqCst, |word| {
-                Some(next_word(word))
-            });
-        // After the change, so that a writer that is about to sleep doesn't, and one that sleeps is woken.
-        self.writer_wakeups.wake_all();
+        self.word.raise();
     }
 
-    /// Returns how often it was raised. If it is read before a look, no wake-up is missed.
-    pub(crate) fn writer_wakeups(&self) -> u64 {
-        self.writer_wakeups.load(Ordering::SeqCst)
-    }
-
-    /// Sleeps until it is raised once more than `writer_wakeups` times, or for `most` milliseconds. It may also return for no reason.
-    pub(crate) fn sleep(&self, rt: &impl Wait, writer_wakeups: u64, most: Option<u64>) {
-        match most {
-            None => self.writer_wakeups.park(rt, low_half(writer_wakeups)),
-            Some(most) => {
-                let most = Duration::from_millis(most);
-                self.writer_wakeups
-                    .park_timeout(rt, low_half(writer_wakeups), most);
-            }
+    /// Reads the word, before the players are looked at: the step `begins`.
+    pub(crate) fn read(&self) -> WordRead {
+        WordRead {
+            raised: self.word.load(),
         }
+    }
+
+    /// Sleeps while the word is the one that was read, for at most `most` milliseconds: the steps `sleeps` and `returns`. It may
+    /// also return for no reason.
+    pub(crate) fn sleep(&self, rt: &impl Wait, read: WordRead, most: Option<u64>) {
+        let WordRead { raised } = read;
+        self.word.sleep(rt, raised, most);
     }
 }
 
-/// The half of a word that a sleeper looks at.
-pub fn low_half(word: u64) -> u32
-    ensures { result ≡ word % 2 ^ 32 }
-{
-    (word % (1 << 32)) as u32
+impl WordRead {
+    /// The writer doesn't sleep, for this reason, and reads the word anew if it goes on.
+    pub(crate) fn put_down(self, _why: Awake) {
+        let WordRead { raised: _ } = self;
+    }
 }

@@ -1,4 +1,7 @@
 //! Lines that report what a connection's packets came to.
+ghost use Rattle.std.specs.Prelude.{◌↔◌, IsTrue};
+ghost use Rattle.relay_log.specs.Accounts.{HasToBeLogged};
+
 use crate::events::Events;
 use log::{Log, info};
 use relay_accounts::{Counts, Part};
@@ -26,8 +29,10 @@ impl<R: Wait + Clock> Events<R> {
     }
 }
 
-/// Whether an account is logged without `--verbose`: packets were lost or refused, or waited for players.
-pub(crate) fn has_to_be_logged(counts: &Counts) -> bool {
+/// Returns whether an account is logged without `--verbose`: packets were lost or refused, or waited for players.
+pub(crate) fn has_to_be_logged(counts: &Counts) -> bool
+    ensures { IsTrue result ↔ HasToBeLogged counts.now }
+{
     counts.has_losses() || counts.slowed > 0
 }
 

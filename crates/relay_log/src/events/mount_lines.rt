@@ -1,4 +1,8 @@
 //! Lines that report a mount as it is announced, recorded and ended.
+ghost use Rattle.std.specs.Prelude.{◌≡◌};
+ghost use Rattle.relay_log.specs.Tracks.{media_lines};
+
+use crate::events::tracks::count_media;
 use crate::events::{Events, path_in};
 use crate::reports::ReportedMount;
 use crate::teller::Teller;
@@ -132,10 +136,9 @@ impl Announced {
     }
 }
 
-/// How many tracks an accepted ANNOUNCE has: each is opened by a line `m=`, and none is the first line (RFC 4566, 5).
-fn tracks_in(request: &Request) -> usize {
-    let body = request.body.as_slice();
-    body.windows(3)
-        .filter(|three| *three == b"\nm=".as_slice())
-        .count()
+/// Returns how many tracks an accepted ANNOUNCE has: each is opened by a line `m=`, and none is the first line (RFC 4566, 5).
+fn tracks_in(request: &Request) -> usize
+    ensures { result ≡ media_lines request.now.body }
+{
+    count_media(request.body.as_slice())
 }

@@ -1,4 +1,7 @@
 //! Lines that report a request as it is refused.
+ghost use Rattle.std.specs.Prelude.{◌≡◌};
+ghost use Rattle.relay_log.specs.Requests.{is_counted as counts_by_mount, shortened_text};
+
 use crate::events::{Events, path_in};
 use log::info;
 use mounts::MAX_NAME;
@@ -46,15 +49,24 @@ impl<R: Wait + Clock> Events<R> {
     }
 }
 
-/// What is logged of a text that a peer chose: as many bytes of it as a mount's name may have.
-fn shortened(text: &[u8]) -> &[u8] {
-    let length = text.len().min(MAX_NAME);
-    if length == 0 { b"-" } else { &text[..length] }
+/// Returns what is logged of a text that a peer chose: as many bytes of it as a mount's name may have, or a dash if it has none.
+fn shortened(text: &[u8]) -> &[u8]
+    ensures { result.now ≡ shortened_text text.now }
+{
+    if text.is_empty() {
+        b"-"
+    } else if text.len() <= MAX_NAME {
+        text
+    } else {
+        &text[..MAX_NAME]
+    }
 }
 
-/// Whether requests that are refused so are counted by mount, and reported without `--verbose`: a name that another has or a network
-/// that isn't allowed, no seat, no place for a mount, a name that no mount has, and a transport that isn't interleaved.
-fn is_counted(status: Status) -> bool {
+/// Returns whether requests that are refused so are counted by mount, and reported without `--verbose`: a name that another has or a
+/// network that isn't allowed, no seat, no place for a mount, a name that no mount has, and a transport that isn't interleaved.
+fn is_counted(status: Status) -> bool
+    ensures { result ≡ counts_by_mount status }
+{
     matches!(
         status,
         Status::Forbidden

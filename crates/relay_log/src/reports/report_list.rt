@@ -1,8 +1,11 @@
 //! What reports know of mounts and players, and the lines of a report.
+ghost use Rattle.std.specs.Prelude.{◌≡◌, ◌∷◌, [], ◌++◌, OnOk, OnErr};
+
 use crate::limits::REPORT_LINES;
 use crate::lines::Lines;
 use crate::reports::reported_mount::Mount;
 use crate::reports::reported_player::Player;
+use crate::reports::told::{Told, turn};
 use log::info;
 use status::{MountLine, PlayerLine, PlayerTold, Snapshot};
 use std::alloc::{AllocError, Global};
@@ -29,32 +32,25 @@ impl Drop for List {
     }
 }
 
-/// How many lines of a report were logged, and how many weren't.
-#[derive(Clone, Copy, Drop)]
-struct Told {
-    lines: usize,
-    more: u64,
-}
-
-impl Told {
-    /// Returns whether one more line may be logged. The line is counted either way.
-    fn has_room(&mut self) -> bool {
-        if self.lines < REPORT_LINES {
-            self.lines += 1;
-            return true;
-        }
-        self.more = self.more.saturating_add(1);
-        false
-    }
-}
-
 impl List {
-    pub(super) fn add_mount(&mut self, mount: Mount) -> Result<(), AllocError> {
+    /// Adds a mount at the end. The only error is out of memory.
+    pub(super) fn add_mount(&mut self, mount: Mount) -> Result<(), AllocError>
+        ensures added { OnOk result (self.new.mounts.items ≡ self.old.mounts.items ++ mount ∷ []) }
+        ensures err { OnErr result (self.new.mounts.items ≡ self.old.mounts.items) }
+        ensures players { self.new.players ≡ self.old.players }
+        ensures is_closed { self.new.is_closed ≡ self.old.is_closed }
+    {
         self.mounts.push(mount)?;
         Ok(())
     }
 
-    pub(super) fn add_player(&mut self, player: Player) -> Result<(), AllocError> {
+    /// Adds a player at the end. The only error is out of memory.
+    pub(super) fn add_player(&mut self, player: Player) -> Result<(), AllocError>
+        ensures added { OnOk result (self.new.players.items ≡ self.old.players.items ++ player ∷ []) }
+        ensures err { OnErr result (self.new.players.items ≡ self.old.players.items) }
+        ensures mounts { self.new.mounts ≡ self.old.mounts }
+        ensures is_closed { self.new.is_closed ≡ self.old.is_closed }
+    {
         self.players.push(player)?;
         Ok(())
     }
@@ -114,7 +110,7 @@ impl List {
 
     /// Reports each mount, and each player that lost packets since its last report.
     pub(super) fn tell<R: Wait + Clock>(&mut self, lines: &Lines<R>, snapshot: &Snapshot) {
-        let mut told = Told { lines: 0, more: 0 };
+        let mut told = Told::new();
         self.tell_mounts(lines, snapshot, &mut told);
         self.tell_players(lines, snapshot, &mut told);
         if told.more > 0 {
@@ -146,27 +142,23 @@ impl List {
         });
     }
 
-    /// Reports the players. Those that found no room come first the next time.
+    /// Reports the players that find room. The list begins with the first that finds none the next time.
     fn tell_players<R: Wait + Clock>(
         &mut self,
         lines: &Lines<R>,
         snapshot: &Snapshot,
         told: &mut Told,
     ) {
-        let mut first = 0;
-        let pairs = self.players.iter_mut().zip(&snapshot.players);
-        for (place, (player, status)) in pairs.enumerate() {
-            let since = status.told().since(player.told);
-            if since.lost == 0 || !told.has_room() {
-                continue;
+        let end = told.count_players(snapshot.players.as_slice());
+        let told_of = &snapshot.players[..end];
+        for (player, status) in self.players.iter_mut().zip(told_of) {
+            if status.has_lost() {
+                player.told = status.told();
+                let line = PlayerLine { status };
+                info!(lines; target: TARGET, "{line}");
             }
-            first = place;
-            player.told = status.told();
-            let line = PlayerLine { status, since };
-            info!(lines; target: TARGET, "{line}");
         }
-        let first = first.min(self.players.len());
-        self.players.as_mut_slice().rotate_left(first);
+        turn(self.players.as_mut_slice(), end);
         self.players.retain(|player| {
             !player
                 .left

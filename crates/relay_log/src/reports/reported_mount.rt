@@ -1,4 +1,7 @@
 //! The mounts of reports.
+ghost use Rattle.std.specs.Prelude.{◌≡◌, false, IfOk};
+ghost use Rattle.relay_accounts.specs.Reporting.{nothing_published};
+
 use base_syntax::Bytes;
 use relay_accounts::MountTally;
 use relay_fanout::MountSignal;
@@ -47,7 +50,14 @@ impl Mount {
         alloc: Global,
         conn: u64,
         mount: ReportedMount<'_>,
-    ) -> Result<Mount, AllocError> {
+    ) -> Result<Mount, AllocError>
+        ensures conn { IfOk result (λ made. made.conn ≡ conn) }
+        ensures number { IfOk result (λ made. made.number ≡ mount.entry.number) }
+        ensures name { IfOk result (λ made. made.name ≡ mount.entry.name.now) }
+        ensures publisher { IfOk result (λ made. made.publisher ≡ mount.entry.publisher) }
+        ensures nothing_told { IfOk result (λ made. made.told ≡ nothing_published) }
+        ensures goes_on { IfOk result (λ made. made.has_ended ≡ false) }
+    {
         let name = Bytes::from_slice(alloc, mount.name)?;
         let signal = Arc::try_clone(mount.signal)?;
         Ok(Mount {

@@ -1,4 +1,6 @@
 //! The players of reports.
+ghost use Rattle.std.specs.Prelude.{◌≡◌, None, IfOk};
+
 use base_syntax::Bytes;
 use relay_fanout::{MountSignal, PlayerFigures};
 use status::{PlayerStatus, PlayerTold};
@@ -50,7 +52,14 @@ impl Player {
         alloc: Global,
         conn: u64,
         seat: ReportedSeat<'_>,
-    ) -> Result<Player, AllocError> {
+    ) -> Result<Player, AllocError>
+        ensures conn { IfOk result (λ player. player.conn ≡ conn) }
+        ensures peer { IfOk result (λ player. player.peer ≡ seat.entry.peer) }
+        ensures place { IfOk result (λ player. (player.mount ≡ seat.entry.mount) × (player.seat ≡ seat.entry.seat)) }
+        ensures name { IfOk result (λ player. player.name ≡ seat.entry.name.now) }
+        ensures nothing_told { IfOk result (λ player. player.told ≡ record { sent = 0; lost = 0 }) }
+        ensures seated { IfOk result (λ player. player.left ≡ None) }
+    {
         let name = Bytes::from_slice(alloc, seat.name)?;
         let signal = Arc::try_clone(seat.signal)?;
         Ok(Player {
@@ -80,14 +89,17 @@ impl Player {
             },
             None => self.signal.player(rt, self.seat, keep),
         };
+        // The numbers that they are computed from are read one by one, so they may be less than was reported.
+        let sent = sent.max(self.told.sent);
+        let lost = lost.max(self.told.lost);
         Ok(PlayerStatus {
             peer: self.peer,
             mount: Bytes::from_slice(alloc, self.name.as_slice())?,
             seat: self.seat,
-            // The numbers that it is computed from are read one by one, so it may be less than was reported.
-            sent: sent.max(self.told.sent),
-            lost: lost.max(self.told.lost),
+            sent,
+            lost,
             behind,
+            since: PlayerTold { sent, lost }.since(self.told),
         })
     }
 }

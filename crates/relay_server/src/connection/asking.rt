@@ -1,4 +1,6 @@
 //! How a connection's requests are decided.
+ghost use Rattle.std.specs.Prelude.{◌≡◌, IfSome};
+
 use crate::connection::frame_notes::{FrameNotes, Publishing};
 use crate::connection::serving::Connection;
 use crate::connection::session_snapshot::SessionSnapshot;
@@ -18,7 +20,9 @@ use std::time::Clock;
 use transport_header::Point;
 
 /// The part that a session has in its mount.
-fn part_of(alloc: Global, session: &Session) -> Option<Part> {
+fn part_of(alloc: Global, session: &Session) -> Option<Part>
+    ensures { IfSome result (λ part. (part.name ≡ session.now.name) × (part.publishes ≡ session.now.recording)) }
+{
     let name = Bytes::from_slice(alloc, session.name.as_slice()).ok()?;
     Some(Part {
         name,
@@ -31,12 +35,16 @@ fn part_of(alloc: Global, session: &Session) -> Option<Part> {
 pub(super) struct NoAnswer;
 
 impl From<AllocError> for NoAnswer {
+    ghost from_gives = { λ _ answer. answer ≡ record {} };
+
     fn from(_refused: AllocError) -> NoAnswer {
         NoAnswer
     }
 }
 
 impl From<Busy> for NoAnswer {
+    ghost from_gives = { λ _ answer. answer ≡ record {} };
+
     fn from(_busy: Busy) -> NoAnswer {
         NoAnswer
     }
@@ -72,7 +80,7 @@ where
         match read_method(request.method.as_slice()) {
             Some(Method::Announce) => self.ask_to_publish(request, &given),
             Some(Method::Play) => {
-                if self.writers.is_some() && !self.player.writing.gathers() {
+                if self.writers.is_some() && !self.player.writing.gathers {
                     return Err(NoAnswer);
                 }
                 given.points = self.points()?;

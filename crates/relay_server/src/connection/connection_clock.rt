@@ -1,4 +1,7 @@
 //! The clock of a connection, and when it was last heard.
+ghost use Rattle.std.specs.Prelude.{◌≡◌, IfOk};
+ghost use Rattle.std.specs.Arc.{arc_value};
+
 use relay_accounts::{ConnectionEnd, LastActivity};
 use session_state::Moments;
 use std::alloc::{AllocError, Global};
@@ -99,14 +102,19 @@ impl<N: Moments + Drop> ConnectionClock<N> {
 }
 
 impl<N> ConnectionClock<N> {
-    pub(crate) fn watch(&self) -> &Arc<Watch, Global> {
+    pub(crate) fn watch(&self) -> &Arc<Watch, Global>
+        ensures { result.now ≡ self.now.watch }
+    {
         &self.watch
     }
 }
 
 impl<N: Copy> ConnectionClock<N> {
     /// The same for one more owner.
-    pub(crate) fn share(&self) -> Result<ConnectionClock<N>, AllocError> {
+    pub(crate) fn share(&self) -> Result<ConnectionClock<N>, AllocError>
+        ensures moments { IfOk result (λ clock. clock.moments ≡ self.now.moments) }
+        ensures watch { IfOk result (λ clock. arc_value clock.watch ≡ arc_value self.now.watch) }
+    {
         Ok(ConnectionClock {
             moments: self.moments,
             watch: Arc::try_clone(&self.watch)?,

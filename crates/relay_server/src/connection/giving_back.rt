@@ -55,7 +55,7 @@ where
             self.player.phase.stop(&self.rt);
             frames.signal.wake();
         }
-        let SentFrames { end, handover } = frames.join(
+        let SentFrames { end, handover, .. } = frames.join(
             &self.rt,
             &self.player,
             self.writers.as_deref(),

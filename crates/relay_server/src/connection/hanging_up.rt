@@ -1,4 +1,7 @@
 //! How a connection ends: its last text, its hang-up in the book, and what ended it.
+ghost use Rattle.std.specs.Prelude.{◌↔◌, IsSomeAnd, IsTrue};
+ghost use Rattle.relay_fanout.specs.SeatHolds.{HasThread};
+
 use crate::connection::serving::Connection;
 use crate::limits::{AFTER_TEXT, LAST_READS};
 use crate::listen::gate::Gate;
@@ -32,10 +35,13 @@ where
     }
 
     /// Whether a thread of its own sends its frames.
-    fn has_frame_thread(&self) -> bool {
-        self.frames
-            .as_ref()
-            .is_some_and(|frames| frames.has_thread())
+    fn has_frame_thread(&self) -> bool
+        ensures { IsTrue result ↔ IsSomeAnd self.now.frames HasThread }
+    {
+        match &self.frames {
+            Some(frames) => frames.has_thread(),
+            None => false,
+        }
     }
 
     /// Hangs up in the book, and does what is left to do. Returns how the connection ended, which may be by its frames. After

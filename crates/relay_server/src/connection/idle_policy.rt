@@ -1,4 +1,9 @@
 //! For how long a peer may be silent.
+ghost use Rattle.std.specs.Prelude.{◌≡◌, ◌↔◌, None, Some, IsTrue};
+ghost use Rattle.relay_accounts.specs.declared.ending.ConnectionEnd.TheVariants.{Idle, NotSetUp, Silent};
+ghost use Rattle.relay_server.specs.Silences.{IsIdle, IsNotSetUp, IsOver, IsTooSilent};
+
+use relay_accounts::ConnectionEnd;
 
 /// For how long a peer may be silent.
 #[derive(Clone, Copy, Debug, Drop)]
@@ -9,4 +14,46 @@ pub struct IdlePolicy {
     pub idle: Option<u64>,
     /// While it records it is disconnected after this many milliseconds. `None` leaves it to the expiry of its session.
     pub silent: Option<u64>,
+}
+
+/// A connection whose session hasn't expired, at a check.
+#[derive(Clone, Copy, Debug, Drop)]
+pub(super) struct Silence {
+    /// For how many milliseconds no whole message or frame of it came.
+    pub(super) time: u64,
+    /// Whether it announced a mount and has set up no track of it for as long as it may.
+    pub(super) is_unset: bool,
+    /// Whether its session records.
+    pub(super) is_recording: bool,
+    pub(super) has_session: bool,
+}
+
+impl IdlePolicy {
+    /// Returns how its silence ends a connection, if it does.
+    pub(super) fn end_of(&self, silence: Silence) -> Option<ConnectionEnd>
+        ensures not_set_up { IsNotSetUp silence → result ≡ Some NotSetUp }
+        ensures silent { IsTooSilent self.now silence → result ≡ Some Silent }
+        ensures idle { IsIdle self.now silence → result ≡ Some Idle }
+        ensures stays { (IsNotSetUp silence → ⊥) → (IsTooSilent self.now silence → ⊥) → (IsIdle self.now silence → ⊥) → result ≡ None }
+    {
+        if silence.is_unset {
+            Some(ConnectionEnd::NotSetUp)
+        } else if silence.is_recording && is_over(self.silent, silence.time) {
+            Some(ConnectionEnd::Silent)
+        } else if !silence.has_session && is_over(self.idle, silence.time) {
+            Some(ConnectionEnd::Idle)
+        } else {
+            None
+        }
+    }
+}
+
+/// Whether a silence has lasted for as long as it may. `None` is for ever.
+fn is_over(most: Option<u64>, time: u64) -> bool
+    ensures { IsTrue result ↔ IsOver most time }
+{
+    match most {
+        Some(most) => time >= most,
+        None => false,
+    }
 }

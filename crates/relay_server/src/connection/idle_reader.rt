@@ -1,6 +1,10 @@
 //! Reads from a peer that may be silent, or send more than it should.
+ghost use Rattle.std.specs.Prelude.{◌≡◌, ◌↔◌, IsTrue};
+ghost use Rattle.std.specs.IoError.{error_kind};
+ghost use Rattle.std.specs.declared.io.ErrorKind.TheVariants.{WouldBlock};
+
 use crate::connection::connection_clock::ConnectionClock;
-use crate::connection::idle_policy::IdlePolicy;
+use crate::connection::idle_policy::{IdlePolicy, Silence};
 use crate::connection::server_book::SharedBook;
 use crate::limits::SETUP_WAIT;
 use pacing::ReadRate;
@@ -99,19 +103,18 @@ impl<R: Wait, P: Drop, N: Moments + Drop, S> IdleReader<R, P, N, S> {
     fn end_at(&self, now: u64) -> Option<ConnectionEnd> {
         let watch = self.clock.watch();
         let last = watch.heard.last();
-        let silent = now.saturating_sub(last);
         let mut book = self.book.lock(&self.rt);
         if let Some(Act::Stop { .. } | Act::End) = book.expire(self.conn, last, now) {
             return Some(ConnectionEnd::Expired);
         }
-        if watch.is_unset(now, SETUP_WAIT) {
-            return Some(ConnectionEnd::NotSetUp);
-        }
-        if watch.is_recording() && self.idle_policy.silent.is_some_and(|most| silent >= most) {
-            return Some(ConnectionEnd::Silent);
-        }
-        let is_idle = self.idle_policy.idle.is_some_and(|most| silent >= most);
-        (is_idle && book.session_of(self.conn).is_none()).then_some(ConnectionEnd::Idle)
+        let has_session = book.session_of(self.conn).is_some();
+        drop(book);
+        self.idle_policy.end_of(Silence {
+            time: now.saturating_sub(last),
+            is_unset: watch.is_unset(now, SETUP_WAIT),
+            is_recording: watch.is_recording(),
+            has_session,
+        })
     }
 }
 
@@ -166,6 +169,8 @@ impl<R: Wait + Clock + Copy, P: Drop, N: Moments + Drop, S: Read> Read for IdleR
 
 /// Whether a read failed because nothing came for as long as it may wait. `TimedOut` is no such failure: it means that
 /// the system has disconnected the peer.
-fn is_late(error: &io::Error) -> bool {
+fn is_late(error: &io::Error) -> bool
+    ensures { IsTrue result ↔ error_kind error.now ≡ WouldBlock }
+{
     error.kind() == ErrorKind::WouldBlock
 }

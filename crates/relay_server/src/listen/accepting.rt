@@ -1,4 +1,9 @@
 //! Accepts connections: each is entered in the book and its thread is started, or it is refused.
+ghost use Rattle.std.specs.Prelude.{◌≡◌, IfOk};
+ghost use Rattle.std.specs.Arc.{arc_value};
+ghost use Rattle.std.specs.Option.{option_map};
+ghost use Rattle.relay_server.specs.Refusals.{refusal_for};
+
 use crate::connection::connection_clock::ConnectionClock;
 use crate::connection::idle_reader::IdleReader;
 use crate::connection::outgoing::Outgoing;
@@ -144,7 +149,9 @@ where
 }
 
 /// Returns the refusal of a connection that the book has no place for.
-fn refusal_of(fault: ConnectFault) -> Refusal {
+fn refusal_of(fault: ConnectFault) -> Refusal
+    ensures { result ≡ refusal_for fault }
+{
     match fault {
         ConnectFault::Full => Refusal::Full,
         ConnectFault::OutOfMemory => Refusal::OutOfMemory,
@@ -208,7 +215,14 @@ where
 
 impl<R: Drop, V: Drop, G: Drop, N> Server<R, V, G, N> {
     /// What a connection reports of what comes and leaves.
-    fn teller(&self, conn: u64, peer: SocketAddr) -> Result<Teller<R>, AllocError> {
+    fn teller(&self, conn: u64, peer: SocketAddr) -> Result<Teller<R>, AllocError>
+        ensures peer { IfOk result (λ teller. (teller.conn ≡ conn) × (teller.peer ≡ peer)) }
+        ensures verbose { IfOk result (λ teller. teller.is_verbose ≡ self.now.is_verbose) }
+        ensures lines { IfOk result (λ teller. arc_value teller.lines ≡ arc_value self.now.lines) }
+        ensures reports { IfOk result (λ teller. option_map arc_value teller.reports ≡ option_map arc_value self.now.reports) }
+        ensures published { IfOk result (λ teller. arc_value teller.published ≡ arc_value self.now.published) }
+        ensures refusing { IfOk result (λ teller. arc_value teller.refusing ≡ arc_value self.now.refusing) }
+    {
         Ok(Teller {
             lines: Arc::try_clone(&self.lines)?,
             peer,
@@ -221,7 +235,15 @@ impl<R: Drop, V: Drop, G: Drop, N> Server<R, V, G, N> {
     }
 
     /// What is done when a connection has ended.
-    fn ending(&self, conn: u64, peer: SocketAddr) -> Result<Ending<R>, AllocError> {
+    fn ending(&self, conn: u64, peer: SocketAddr) -> Result<Ending<R>, AllocError>
+        ensures peer { IfOk result (λ ending. (ending.conn ≡ conn) × (ending.peer ≡ peer)) }
+        ensures verbose { IfOk result (λ ending. ending.is_verbose ≡ self.now.is_verbose) }
+        ensures lines { IfOk result (λ ending. arc_value ending.lines ≡ arc_value self.now.lines) }
+        ensures refusing { IfOk result (λ ending. arc_value ending.refusing ≡ arc_value self.now.refusing) }
+        ensures live { IfOk result (λ ending. arc_value ending.live ≡ arc_value self.now.live) }
+        ensures peers { IfOk result (λ ending. arc_value ending.peers ≡ arc_value self.now.peers) }
+        ensures stopping { IfOk result (λ ending. arc_value ending.stopping ≡ arc_value self.now.stopping) }
+    {
         Ok(Ending {
             lines: Arc::try_clone(&self.lines)?,
             refusing: Arc::try_clone(&self.refusing)?,
@@ -262,7 +284,9 @@ impl<R: Wait, V, G, N> Server<R, V, G, N> {
 }
 
 /// One more owner of what may be there.
-fn share<T>(shared: &Option<Arc<T, Global>>) -> Result<Option<Arc<T, Global>>, AllocError> {
+fn share<T>(shared: &Option<Arc<T, Global>>) -> Result<Option<Arc<T, Global>>, AllocError>
+    ensures { IfOk result (λ other. option_map arc_value other ≡ option_map arc_value shared.now) }
+{
     match shared {
         Some(shared) => Ok(Some(Arc::try_clone(shared)?)),
         None => Ok(None),

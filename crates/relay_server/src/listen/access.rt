@@ -1,4 +1,7 @@
 //! What peers may do by their addresses.
+ghost use Rattle.std.specs.Prelude.{◌≡◌, ◌↔◌, None, IfOk, IsTrue};
+ghost use Rattle.relay_server.specs.Access.{IsIn, IsExempt, IsLimitOf};
+
 use crate::listen::peers::Peers;
 use crate::listen::rights::{MountPlace, Rights};
 use networks::{Address, Networks};
@@ -23,7 +26,9 @@ pub struct Access {
 
 impl Access {
     /// Everything may be done from everywhere.
-    pub fn unlimited() -> Access {
+    pub fn unlimited() -> Access
+        ensures { result ≡ record { publish_from = None; play_from = None; connections = None; mounts = None; exempt = None } }
+    {
         Access {
             publish_from: None,
             play_from: None,
@@ -33,21 +38,21 @@ impl Access {
         }
     }
 
-    /// Whether the two limits apply to an address.
-    fn is_limited(&self, address: Address) -> bool {
-        match &self.exempt {
-            Some(networks) => !networks.contains(address),
-            None => true,
+    /// Whether one more connection of an address is too many.
+    pub(crate) fn is_full(&self, rt: &impl Wait, peers: &Peers, address: Address) -> bool {
+        match self.limit_of(self.connections, address) {
+            Some(most) => peers.connections(rt, address.group()) >= most,
+            None => false,
         }
     }
 
-    /// Whether one more connection of an address is too many.
-    pub(crate) fn is_full(&self, rt: &impl Wait, peers: &Peers, address: Address) -> bool {
-        match self.connections {
-            Some(most) if self.is_limited(address) => {
-                peers.connections(rt, address.group()) >= most
-            }
-            _ => false,
+    /// One of the two limits, as it applies to an address.
+    fn limit_of(&self, most: Option<usize>, address: Address) -> Option<usize>
+        ensures { IsLimitOf self.now.exempt most address result }
+    {
+        match &self.exempt {
+            Some(networks) if networks.contains(address) => None,
+            _ => most,
         }
     }
 
@@ -57,15 +62,19 @@ impl Access {
         peers: &Arc<Peers, Global>,
         conn: u64,
         address: Address,
-    ) -> Result<Rights, AllocError> {
-        let place = match self.mounts {
-            Some(most) if self.is_limited(address) => Some(MountPlace {
+    ) -> Result<Rights, AllocError>
+        ensures publish { IfOk result (λ rights. IsTrue rights.may_publish ↔ IsIn self.now.publish_from address) }
+        ensures play { IfOk result (λ rights. IsTrue rights.may_play ↔ IsIn self.now.play_from address) }
+        ensures mounts { IfOk result (λ rights. IsLimitOf self.now.exempt self.now.mounts address rights.most_mounts) }
+    {
+        let place = match self.limit_of(self.mounts, address) {
+            Some(most) => Some(MountPlace {
                 peers: Arc::try_clone(peers)?,
                 conn,
                 most,
                 is_taken: false,
             }),
-            _ => None,
+            None => None,
         };
         Ok(Rights {
             may_publish: is_in(&self.publish_from, address),
@@ -76,7 +85,9 @@ impl Access {
 }
 
 /// Whether an address is in these networks, of which `None` is everywhere.
-fn is_in(networks: &Option<Networks>, address: Address) -> bool {
+fn is_in(networks: &Option<Networks>, address: Address) -> bool
+    ensures { IsTrue result ↔ IsIn networks.now address }
+{
     match networks {
         Some(networks) => networks.contains(address),
         None => true,

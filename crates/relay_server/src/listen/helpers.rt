@@ -3,8 +3,8 @@ use crate::limits::LAST_LINES;
 use crate::listen::gate::Gate;
 use crate::listen::options::Options;
 use crate::listen::server::Server;
-use log::{Log, warn};
-use relay_log::{Lines, Reports};
+use log::Log;
+use relay_log::{Lines, Reports, tell_not_started};
 use session_state::{Moments, Words};
 use std::alloc::{AllocError, Global};
 use std::io::Eprint;
@@ -12,9 +12,6 @@ use std::sync::{Arc, Wait};
 use std::thread;
 use std::thread::{JoinHandle, Threads};
 use std::time::{Clock, Duration};
-
-/// The source that lines are logged with.
-const TARGET: &str = "relay_server::helpers";
 
 /// The threads that all connections of a server share. One wakes players, one closes the connections of refused peers, and one
 /// reports mounts and players if that is set. Writers send frames. One writes lines; it isn't joined, because standard error
@@ -50,7 +47,7 @@ impl Helpers {
         match helpers.start_all(rt, alloc, server, options) {
             Ok(()) => Ok(helpers),
             Err(refused) => {
-                warn!(rt; target: TARGET, "no thread or no memory for what all connections share");
+                tell_not_started(&rt);
                 helpers.end(&rt, server);
                 Err(refused)
             }

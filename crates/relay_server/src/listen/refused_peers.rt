@@ -1,12 +1,14 @@
 //! Peers that were refused and stay a moment, and the thread that closes them.
-use crate::limits::{REFUSED_PEERS, REFUSED_READS, REFUSED_STAYS};
+mod state;
+
+use crate::limits::{REFUSED_READS, REFUSED_STAYS};
 use interleaved::{Reading, Source, Writing, write_all};
 use log::Log;
 use relay_fanout::{HangUp, Socket};
 use relay_log::{Due, Refusal, Refusing};
 use rtsp_message::{Status, put_plain};
+use state::State;
 use std::alloc::{AllocError, Global};
-use std::collections::VecDeque;
 use std::net::{SocketAddr, TcpStream};
 use std::sync::{Arc, Mutex, Wait};
 use std::time::Clock;
@@ -17,8 +19,7 @@ use std::time::Clock;
 /// change of the list alone, and no other is taken meanwhile.
 pub(super) struct RefusedPeers {
     refusing: Arc<Refusing, Global>,
-    /// Each with the moment at which it is closed.
-    leaving: Mutex<VecDeque<(Socket, u64)>>,
+    leaving: Mutex<State<Socket>>,
 }
 
 impl Drop for RefusedPeers {
@@ -36,7 +37,7 @@ impl RefusedPeers {
         alloc: Global,
         refusing: Arc<Refusing, Global>,
     ) -> Result<RefusedPeers, AllocError> {
-        let leaving = VecDeque::with_capacity(alloc, REFUSED_PEERS)?;
+        let leaving = State::new(alloc)?;
         Ok(RefusedPeers {
             refusing,
             leaving: Mutex::new(leaving),
@@ -53,21 +54,12 @@ impl RefusedPeers {
     ) {
         write_unavailable(socket.stream());
         let due = self.refusing.now(rt).saturating_add(REFUSED_STAYS);
-        let mut leaving = self.leaving.lock(rt);
-        let first = if leaving.len() >= REFUSED_PEERS {
-            leaving.pop_front()
-        } else {
-            None
-        };
-        let refused = leaving.push_back((socket, due));
-        drop(leaving);
+        let first = self.leaving.lock(rt).put(socket, due);
         // After it is there: the thread that closes it looks for it at the moment that is set here.
         self.refusing.count_peer(rt, why, peer, due);
-        if let Some((socket, _)) = first {
-            close(socket);
+        if let Some(first) = first {
+            close(first.peer);
         }
-        // Without a place it is closed at once.
-        drop(refused);
     }
 
     /// Closes each refused peer in its time, and reports once a minute how many were refused. Returns once no peer is refused any
@@ -86,14 +78,14 @@ impl RefusedPeers {
     fn close_first<R: Wait + Clock>(&self, rt: &R) {
         let now = self.refusing.now(rt);
         let mut leaving = self.leaving.lock(rt);
-        let first = leaving.pop_front_if(|first| first.1 <= now);
-        let next = leaving.front().map(|first| first.1);
+        let first = leaving.take_due(now);
+        let next = leaving.next();
         drop(leaving);
         if let Some(next) = next {
             self.refusing.wake_at(rt, next);
         }
-        if let Some((socket, _)) = first {
-            close(socket);
+        if let Some(first) = first {
+            close(first.peer);
         }
     }
 }

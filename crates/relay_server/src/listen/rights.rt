@@ -1,11 +1,13 @@
 //! What a connection may do by the address of its peer.
-ghost use Rattle.std.specs.Prelude.{◌≡◌};
+ghost use Rattle.std.specs.Prelude.{◌≡◌, ◌↔◌, None, IsTrue};
+ghost use Rattle.relay_server.specs.Access.{everything};
 ghost use Rattle.relay_server.specs.Barred.{barred as barred_by};
 
 use crate::listen::peers::Peers;
 use rtsp_message::Status;
 use session_state::Method;
 use std::alloc::Global;
+use std::marker::Model;
 use std::sync::{Arc, Wait};
 
 /// What a connection may do by its peer's address.
@@ -26,6 +28,15 @@ impl Drop for Rights {
     }
 }
 
+impl Model for Rights {
+    ghost use Rattle.std.specs.Option.{option_map};
+    ghost use Rattle.relay_server.specs.Access.{Granted};
+
+    ghost Value = { Granted };
+
+    ghost view = { λ r. record { may_publish = r.may_publish; may_play = r.may_play; most_mounts = option_map (λ place. place.most) r.place } };
+}
+
 /// The mount of a connection, which counts for its address.
 #[derive(Drop)]
 pub(super) struct MountPlace {
@@ -39,12 +50,16 @@ pub(super) struct MountPlace {
 
 impl Rights {
     /// Everything.
-    pub fn all() -> Rights {
+    pub fn all() -> Rights
+        ensures { result ≡ everything }
+    {
         Rights::new(true, true)
     }
 
     /// To publish, to play, or not, any number of mounts.
-    pub fn new(may_publish: bool, may_play: bool) -> Rights {
+    pub fn new(may_publish: bool, may_play: bool) -> Rights
+        ensures { result ≡ record { may_publish = may_publish; may_play = may_play; most_mounts = None } }
+    {
         Rights {
             may_publish,
             may_play,
@@ -53,7 +68,9 @@ impl Rights {
     }
 
     /// Whether no request is refused by them.
-    pub(crate) fn are_all(&self) -> bool {
+    pub(crate) fn are_all(&self) -> bool
+        ensures { IsTrue result ↔ self.now ≡ everything }
+    {
         self.may_publish && self.may_play && self.place.is_none()
     }
 

@@ -1,4 +1,6 @@
 //! A server: what its connections share, and how long it serves.
+ghost use Rattle.std.specs.Prelude.{◌≡◌, ◌↔◌, ◌<◌, None, IfOk, IsSome};
+
 use crate::connection::idle_policy::IdlePolicy;
 use crate::connection::server_book::SharedBook;
 use crate::connection::shared::Shared;
@@ -169,7 +171,9 @@ fn writers_of<V, G>(
     alloc: Global,
     shared: &RingShared<V, G>,
     options: Options,
-) -> Result<Option<Arc<SocketWriters, Global>>, AllocError> {
+) -> Result<Option<Arc<SocketWriters, Global>>, AllocError>
+    ensures { IfOk result (λ writers. IsSome writers ↔ 0 < options.writers) }
+{
     if options.writers == 0 {
         return Ok(None);
     }
@@ -187,7 +191,9 @@ fn reports_of<V, G>(
     alloc: Global,
     shared: &RingShared<V, G>,
     options: Options,
-) -> Result<Option<Arc<Reports, Global>>, AllocError> {
+) -> Result<Option<Arc<Reports, Global>>, AllocError>
+    ensures { IfOk result (λ reports. IsSome reports ↔ IsSome options.report) }
+{
     if options.report.is_none() {
         return Ok(None);
     }

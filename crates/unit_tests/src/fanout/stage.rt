@@ -76,19 +76,28 @@ impl<R: Threads + Wait + Clock + Abort + Copy + Drop + Send + Sync + 'static> Mo
     }
 }
 
-/// Keeps what is written for the threads that share it, up to its room, each write after `wait` milliseconds. Counts the writes
-/// that took any byte.
+/// Keeps what is written for the threads that share it, up to its room, each write after `wait` milliseconds, and once as many may
+/// go on. Counts the writes that came, and those that took any byte.
 #[derive(Drop)]
 pub(crate) struct Valve<R> {
     rt: R,
     bytes: Bytes,
     room: Count,
+    came: Count,
+    may_go_on: Count,
     writes: Count,
     wait: u64,
 }
 
 impl<R: Wait + Clock> Write for Valve<R> {
     fn write(&mut self, buf: &[u8]) -> io::Result<usize> {
+        let before = self.came.fetch_add(1, Ordering::SeqCst);
+        for _ in self.rt.forever() {
+            if self.may_go_on.load(Ordering::SeqCst) > before {
+                break;
+            }
+            thread::sleep(&self.rt, Duration::from_millis(1));
+        }
         if self.wait > 0 {
             thread::sleep(&self.rt, Duration::from_millis(self.wait));
         }
@@ -119,6 +128,10 @@ pub(crate) struct Seated<R: Wait + Clock + Drop> {
     pub(crate) frames: SeatHold,
     pub(crate) bytes: Bytes,
     pub(crate) room: Count,
+    /// How many writes came.
+    pub(crate) came: Count,
+    /// How many of them may go on: all, unless it is set.
+    pub(crate) may_go_on: Count,
     pub(crate) writes: Count,
 }
 
@@ -147,11 +160,16 @@ impl<R: Wait + Clock + Abort + Copy + Drop> Seated<R> {
     ) -> Seated<R> {
         let bytes = Arc::new(alloc, Mutex::new(Vec::new(alloc))).expect(&rt, "memory");
         let room = count(alloc).expect(&rt, "memory");
+        let came = count(alloc).expect(&rt, "memory");
+        let may_go_on = count(alloc).expect(&rt, "memory");
+        may_go_on.store(u64::MAX, Ordering::SeqCst);
         let writes = count(alloc).expect(&rt, "memory");
         let socket = Valve {
             rt,
             bytes: Arc::try_clone(&bytes).expect(&rt, "a count of its users"),
             room: Arc::try_clone(&room).expect(&rt, "a count of its users"),
+            came: Arc::try_clone(&came).expect(&rt, "a count of its users"),
+            may_go_on: Arc::try_clone(&may_go_on).expect(&rt, "a count of its users"),
             writes: Arc::try_clone(&writes).expect(&rt, "a count of its users"),
             wait,
         };
@@ -165,6 +183,8 @@ impl<R: Wait + Clock + Abort + Copy + Drop> Seated<R> {
             frames: SeatHold::new(1, seat, signal),
             bytes,
             room,
+            came,
+            may_go_on,
             writes,
         }
     }

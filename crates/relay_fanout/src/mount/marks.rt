@@ -1,0 +1,168 @@
+//! The marks of a mount, and the word that its players sleep on.
+//!
+//! A publisher puts a packet, or the end, into the ring, marks the mount and notifies the waking thread. Or it empties the marks,
+//! counts a wake-up and raises the writers' word. The law of `waking` is about this order, so each call returns what the next one
+//! takes.
+ghost use Rattle.std.specs.Prelude.{◌≡◌, ◌+◌, ◌<◌, ◌↔◌, ◌⊎◌, IsSome, IsTrue, IfOk, IfErr, OnErr, IsErrOf, length};
+ghost use Rattle.cursor.specs.declared.refusals.Refused.{Refused};
+ghost use Rattle.cursor.specs.Feeds.{Appends};
+ghost use Rattle.cursor.specs.Log.{packet_of};
+ghost use Rattle.relay_fanout.specs.Marks.{answered};
+
+use crate::limits::TAKES;
+use crate::sending::ring_look::{LevelTold, WakeupsRead};
+use crate::wake::wake_signal::WakeSignal;
+use crate::wake::wake_word::WakeWord;
+use crate::wake::writers_word::WritersWord;
+use cursor::{Feed, Refused};
+use std::sync::Wait;
+use std::sync::atomic::{AtomicU64, Ordering};
+use waking::{NO_MARKS, are_marks, next_word};
+
+/// The marks of a mount, and the word that its players sleep on.
+#[derive(Drop)]
+pub(crate) struct Marks {
+    /// How many packets came since the players were last woken.
+    marked: AtomicU64,
+    player_wakeups: WakeWord,
+}
+
+/// A packet, or the end, is in the ring, and no thread was told of it: its publisher is `publishing` in the machine of `waking`. It
+/// has no `Drop`, so that it ends in `mark` or `empty_for`.
+pub(crate) struct Logged(());
+
+/// The mount is marked, and the waking thread wasn't notified of it (`notifying`). It has no `Drop`, so that it ends in `notify`.
+pub(crate) struct Marked {
+    is_batch: bool,
+}
+
+/// The marks are emptied, and no wake-up was counted since (`telling`; for the waking thread `took`). It has no `Drop`, so that it
+/// ends in `count`.
+pub(crate) struct Emptied(());
+
+/// A wake-up was counted, and the writers' word wasn't raised since (`raising`; for the waking thread `owed`). It has no `Drop`, so
+/// that it ends in `raise`.
+pub(crate) struct Counted(());
+
+/// Publishes a packet, before any thread is told of it: the step `logs`. A refusal has nothing to tell.
+pub(crate) fn publish_into<F: Feed>(
+    feed: &mut F,
+    tag: u8,
+    bytes: &[u8],
+) -> Result<(u64, Logged), Refused>
+    ensures gives { F.publish_gives feed.old (packet_of tag bytes.now) (answered result) feed.new }
+    ensures appended { IfOk (answered result) (λ n. Appends (F.told feed.old) (packet_of tag bytes.now) n (F.told feed.new)) }
+    ensures refused { OnErr (answered result) (F.told feed.new ≡ F.told feed.old) }
+    ensures too_long { IsErrOf (answered result) Refused.TooLong ↔ (F.packet_bytes feed.old < length bytes.now) }
+    ensures may { IfErr (answered result) F.may_refuse }
+    ensures same { F.packet_bytes feed.new ≡ F.packet_bytes feed.old }
+{
+    let number = feed.publish(tag, bytes)?;
+    Ok((number, Logged(())))
+}
+
+/// Ends the log, before any thread is told of it: the step `logs`.
+pub(crate) fn close_log<F: Feed>(feed: F) -> Logged {
+    feed.close();
+    Logged(())
+}
+
+impl Marks {
+    /// No packet came.
+    pub(crate) fn new() -> Marks {
+        Marks {
+            marked: AtomicU64::new(NO_MARKS),
+            player_wakeups: WakeWord::new(),
+        }
+    }
+
+    /// Marks that a packet came: the step `marks`.
+    pub(crate) fn mark(&self, logged: Logged) -> Marked {
+        let Logged(()) = logged;
+        let before = self
+            .marked
+            .fetch_update(Ordering::SeqCst, Ordering::SeqCst, |marks| {
+                Some(next_word(marks))
+            });
+        Marked {
+            is_batch: before.is_ok_and(is_last_of_batch),
+        }
+    }
+
+    /// Empties the marks for what is in the ring, to wake the players without the waking thread: the step `wakes_itself`.
+    pub(crate) fn empty_for(&self, logged: Logged) -> Emptied {
+        let Logged(()) = logged;
+        self.empty()
+    }
+
+    /// Empties the marks though nothing is new: the step `hurries`. A thread that makes a mark after this notifies.
+    pub(crate) fn empty(&self) -> Emptied {
+        self.marked.store(NO_MARKS, Ordering::SeqCst);
+        Emptied(())
+    }
+
+    /// Takes the marks, if there are any: the step `takes_marks`, or `finds_no_marks`.
+    pub(crate) fn take_marks(&self) -> Option<Emptied> {
+        if are_marks(self.marked.swap(NO_MARKS, Ordering::SeqCst)) {
+            Some(Emptied(()))
+        } else {
+            None
+        }
+    }
+
+    /// Counts a wake-up, which wakes the players that have a thread of their own: the step `tells`, or `counts`.
+    pub(crate) fn count(&self, emptied: Emptied) -> Counted {
+        let Emptied(()) = emptied;
+        self.player_wakeups.raise();
+        Counted(())
+    }
+
+    /// Returns how often the players were woken, for a look at the ring.
+    pub(crate) fn player_wakeups(&self) -> WakeupsRead {
+        WakeupsRead::read(&self.player_wakeups)
+    }
+
+    /// Sleeps until the players are woken again, after a look that found all taken. It may also return for no reason.
+    pub(crate) fn sleep(&self, rt: &impl Wait, told: LevelTold) {
+        told.sleep(rt, &self.player_wakeups);
+    }
+}
+
+impl Marked {
+    /// Notifies the waking thread: the step `notifies`, or `finds_notified`. If the mount has a full batch, it needn't gather
+    /// longer.
+    pub(crate) fn notify(self, wake_signal: &WakeSignal) {
+        let Marked { is_batch } = self;
+        if is_batch {
+            wake_signal.hurry();
+        } else {
+            wake_signal.notify();
+        }
+    }
+}
+
+impl Counted {
+    /// Raises the writers' word: the step `raises`, or `raises_once`.
+    pub(crate) fn raise(self, writers: &WritersWord) {
+        let Counted(()) = self;
+        writers.raise();
+    }
+
+    /// Returns what is to be raised for both, which one raise does.
+    pub(crate) fn of_both(one: Option<Counted>, other: Option<Counted>) -> Option<Counted>
+        ensures { IsSome result ↔ (IsSome one ⊎ IsSome other) }
+    {
+        match (one, other) {
+            (None, other) => other,
+            (one, None) => one,
+            (Some(one), Some(Counted(()))) => Some(one),
+        }
+    }
+}
+
+/// Returns whether the packet that is marked after so many others fills a batch (16 packets).
+fn is_last_of_batch(marks: u64) -> bool
+    ensures { IsTrue result ↔ (marks + 1 ≡ 16) }
+{
+    marks == TAKES - 1
+}

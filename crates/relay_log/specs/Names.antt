@@ -1,0 +1,11 @@
+-- Which mount a path names.
+use Rattle.std.specs.Prelude.{◌≡◌, ⊤, ℕ, List, [], ◌∷◌, length, take, drop}
+
+-- nothing, or what begins with a slash
+abbrev pub IsEmptyOrRooted : List ℕ → Type 0
+IsEmptyOrRooted [] = ⊤
+IsEmptyOrRooted (b ∷ rest) = b ≡ 47
+
+-- a path begins with a mount's name, and nothing or a slash follows
+abbrev pub IsNamedBy : (name path : List ℕ) → Type 0
+IsNamedBy name path = (take (length name) path ≡ name) × IsEmptyOrRooted (drop (length name) path)

@@ -1,0 +1,40 @@
+-- Counts of requests that were refused.
+use Rattle.std.specs.Prelude.{◌≡◌, ℕ, ◌+◌, List, [], ◌∷◌, ◌++◌, slice_get, slice_set, Option, None, Some}
+use Rattle.std.specs.declared.net.socket_addr.SocketAddr.{SocketAddr}
+use Rattle.rtsp_message.specs.declared.status.Status.{Status}
+use Rattle.relay_accounts.specs.Capped.{capped}
+use Rattle.relay_log.specs.declared.refused_requests.Entry.{Entry}
+use Rattle.relay_log.specs.declared.subject.Subject.{Subject}
+use Rattle.relay_log.specs.declared.subject.Subject.TheVariants as subjects
+use Rattle.relay_log.specs.Kept.{IsAbout}
+use Rattle.relay_log.specs.Tallies.{due_at}
+
+-- the count of requests about this subject that were refused with this status
+abbrev pub IsCountOf : Subject → Status → Entry → Type 0
+IsCountOf subject status entry = (entry.status ≡ status) × IsAbout entry.kept subject
+
+-- when a count is due to be logged
+abbrev pub due_of : Entry → Option ℕ
+due_of entry = due_at entry.tally
+
+-- how many counts there are at most when one of this subject begins: nine places are for what is about no mount
+abbrev pub most_counts : Subject → ℕ
+most_counts (subjects.Mount name) = 119
+most_counts subjects.Others = 128
+most_counts subjects.NoMount = 128
+
+-- A count of this subject and status counts one request more, the last one of this peer. The others stay as they were.
+pub record CountsOne (old new : List Entry) (subject : Subject) (status : Status) (peer : SocketAddr) : Type 0 where
+  pub place : ℕ
+  pub entry : Entry
+  pub is_there : slice_get old place ≡ Some entry
+  pub is_count : IsCountOf subject status entry
+  pub counted : new ≡ slice_set old place (record entry { last = peer; tally = record entry.tally { count = capped (entry.tally.count + 1) } })
+
+-- A count of this subject and status begins with one request of this peer.
+pub record BeginsCount (old new : List Entry) (subject : Subject) (status : Status) (peer : SocketAddr) : Type 0 where
+  pub entry : Entry
+  pub is_count : IsCountOf subject status entry
+  pub last : entry.last ≡ peer
+  pub tally : entry.tally ≡ record { count = 1; told = None }
+  pub added : new ≡ old ++ entry ∷ []
