@@ -199,6 +199,47 @@ def stalled_one_reads_again(program, *options):
         yield f"{PUBLISHED - len(numbers)} packets are missing, and the line tells of {lost}"
 
 
+# How many packets are a full batch, which gathers no longer, and after how many seconds the others follow the first one, so that this one
+# gathers. How many batches come, each after the one before was read, and in how many seconds. If each gathered for a tenth of a second,
+# they would take two.
+FULL, FOLLOW, BATCHES, AT_MOST = 16, 0.01, 20, 1
+
+
+def full_batches_gather_no_longer(program, *options):
+    """A batch comes as soon as it's full, though its first packet has begun to gather for longer: one time of four."""
+    with ending(program, 2, "--gather", "100", "--seats", "1", *options) as server, Camera(server) as camera, Player(server) as player:
+        took = []
+        for attempt in range(4):
+            begun = time.monotonic()
+            for place in range(BATCHES):
+                first = (attempt * BATCHES + place) * FULL
+                camera.publish([first])
+                time.sleep(FOLLOW)
+                camera.publish(range(first + 1, first + FULL))
+                if (came := player.numbers(FULL)) != list(range(first, first + FULL)):
+                    yield f"of the {FULL} packets from {first} on come {came}"
+            took.append(time.monotonic() - begun)
+            if took[-1] < AT_MOST:
+                return
+        yield f"{BATCHES} full batches take {took} seconds"
+
+
+# So many packets of each of two mounts come while both gather. The players of both are to be woken for each.
+TOGETHER = 5
+
+
+def mounts_that_gather_together_come_together(program, *options):
+    """Of two mounts that are woken at once the players of both read what came, though nothing follows."""
+    with ending(program, 4, "--gather", "100", "--seats", "1", *options) as server, contextlib.ExitStack() as peers:
+        cameras = [peers.enter_context(Camera(server, name)) for name in ("cam", "door")]
+        players = [peers.enter_context(Player(server, name)) for name in ("cam", "door")]
+        for number in range(TOGETHER):
+            for camera in cameras:
+                camera.publish([number])
+            if (came := [numbers_up_to(player, number, 3) for player in players]) != [[number]] * 2:
+                yield f"of the packets {number} of two mounts come {came}"
+
+
 # So many packets of 16,000 bytes are more than a socket's buffers hold.
 VERY_LARGE = 800
 
@@ -351,7 +392,8 @@ PARTS = [
     *((part, mode) for part in (bursts_wait_for_readers, accounts_add_up_at_four_speeds, last_packets_at_once) for mode in MODES),
     *((part, mode) for part in (last_of_all_tracks, each_play_goes_back) for mode in MODES),
     *((part, mode) for part in (thirty_read_beside_ten, stalled_one_reads_again) for mode in MODES),
+    *((mounts_that_gather_together_come_together, mode) for mode in MODES),
     (stalled_hold_up_their_mount_alone, ()),
 ]
 
-ALONE = [(slow_players_cost_no_other, mode) for mode in MODES]
+ALONE = [(part, mode) for part in (slow_players_cost_no_other, full_batches_gather_no_longer) for mode in MODES]

@@ -182,9 +182,13 @@ def frees_its_seat(program, options, said="", is_silent=False, stays=False, fail
             stall(server, camera, first)
             stalled = time.monotonic()
             wanted(second.play(), 453)
+            before = server.descriptors()
             first.send(said.format(first).encode())
             if is_silent:
                 first.fall_silent()
+            # Well before the server's system disconnects a peer that acknowledges nothing, after 20 seconds.
+            if stays and not until(5, lambda: server.descriptors() < before):
+                yield "its connection isn't closed, though it has sent a fault"
             if fails:
                 yield from goes_in_time(server, first, begun, stalled, not said)
             plays_soon(second)
@@ -194,7 +198,7 @@ def frees_its_seat(program, options, said="", is_silent=False, stays=False, fail
 
 
 def stalled_player_that_sends_a_fault(program, *options):
-    """A player that reads nothing and sends a fault has left its seat soon, and holds up no server that ends."""
+    """A player that reads nothing and sends a fault is closed and has left its seat soon, and holds up no server that ends."""
     yield from frees_its_seat(program, options, FAULT, stays=True)
 
 

@@ -113,6 +113,25 @@ def reports_add_up(program, *options):
         yield f"there is no report meanwhile: {reports}"
 
 
+# So many packets come once all that a stalled player's socket and its ring take have come.
+LATER = 100
+
+
+def losses_of_one_that_stands_are_reported(program, *options):
+    """What a player loses that takes nothing any more is reported while it stays."""
+    with ending(program, 2, "--report", "1", "--keep", "8", "--seats", "1", *GATHER, *options) as server:
+        with Camera(server) as camera, Player(server):
+            camera.publish(range(PACKETS), LARGE)
+            camera.is_read()
+            # A report passes.
+            time.sleep(1.5)
+            before = len(players_reported(list(server.lines)))
+            camera.publish(range(PACKETS, PACKETS + LATER))
+            camera.is_read()
+            if not until(3, lambda: len(players_reported(list(server.lines))) > before):
+                yield f"what it loses isn't reported: {server.lines}"
+
+
 def last_report_adds_up(program, *options):
     """What is reported in the end alone adds up."""
     with ending(program, 2, "--report", "3600", "--keep", "8", "--seats", "1", *GATHER, *options) as server:
@@ -365,6 +384,7 @@ PARTS = [
     (hundred_lines_at_once, ("--writers", "2")),
     *((part, mode) for part in (reports_add_up, last_report_adds_up, verbose_tells_of_mounts_and_players) for mode in MODES),
     *((part, mode) for part in (slowed_camera_is_reported, loss_is_reported_soon) for mode in MODES),
+    *((losses_of_one_that_stands_are_reported, mode) for mode in MODES),
     *((part, mode) for part in (each_loss_is_reported_under_its_players_name, losses_at_an_end_are_reported) for mode in MODES),
     (nothing_is_told_unasked, ("--writers", "0")),
     *((part, ()) for part in (refused_frames_are_reported, small_send_buffers_are_told)),

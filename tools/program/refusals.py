@@ -8,7 +8,7 @@ import threading
 import time
 
 from leaving import has_descriptors
-from peers import GATHER, MODES, REFUSED, SDP, Camera, Peer, Player, ending, ends_told, serving, until, wanted
+from peers import GATHER, MODES, REFUSED, SDP, Camera, Peer, Player, accounts, ending, ends_told, frame, packet, serving, until, wanted
 
 # A Transport header that asks for UDP.
 UDP = "Transport: RTP/AVP;unicast;client_port=5000-5001"
@@ -129,6 +129,22 @@ def each_refusal_has_its_line(program):
         yield f"of {due} is told {told}"
     if not any(f"events] {names[1]}: RECORD of cam refused 455, published by {names[0]}" in line for line in server.lines):
         yield f"no line tells of a RECORD of a player: {server.lines}"
+
+
+def name_that_begins_anothers(program):
+    """The name of one mount and a slash begin the name of another. A refused request of a track of each is logged under that mount, with
+    its publisher, whichever of them was announced first."""
+    for mounts in ("cam", "cam/door"), ("cam/door", "cam"):
+        with ending(program, 3, "--verbose") as server, contextlib.ExitStack() as peers:
+            publishers = {mount: peers.enter_context(Camera(server, mount)).name() for mount in mounts}
+            other = peers.enter_context(Peer(server))
+            name = other.name()
+            for mount in mounts:
+                wanted(other.ask("SETUP", f"rtsp://{server.address}/{mount}/trackID=0", UDP), 461)
+        told = [line.partition(f"events] {name}: ")[2] for line in server.lines if "events]" in line and " refused " in line]
+        due = [f"SETUP of {mount} refused 461, published by {publishers[mount]}" for mount in mounts]
+        if told != due or refused(server) != {(461, mount): (1, name) for mount in mounts}:
+            yield f"of {due} is logged {told}, and {refused(server)}"
 
 
 # How many faults come from one address, of which ten a second have a line, and the line that counts the others.
@@ -278,6 +294,32 @@ def faults_of_one_address_have_few_lines(program):
         yield f"another address is told {ends_told(server, name)}"
 
 
+# How many sessions one connection has, and the line that counts the accounts that weren't logged.
+SESSIONS = 40
+
+ACCOUNTS_NOT_TOLD = re.compile(r"\[WARN  relay_server::refusing\] (\d+) accounts weren't logged, .*")
+
+
+def accounts_of_one_connection_have_few_lines(program):
+    """Of many sessions of one connection, each with a frame that no track has, ten accounts a second are logged, and the others are
+    counted: the first of them while the connection goes on."""
+    with ending(program, 1, "--keep", "8") as server, Peer(server) as peer:
+        name, begun = peer.name(), time.monotonic()
+        for _ in range(SESSIONS):
+            Camera.announce(peer, f"rtsp://{server.address}/cam")
+            Camera.record(peer)
+            peer.send(frame(packet(7), 9))
+            peer.tear_down()
+        passed = time.monotonic() - begun
+        if not until(5, lambda: counted(server, ACCOUNTS_NOT_TOLD) or len(accounts(server, name, "publisher of cam")) == SESSIONS):
+            yield f"no line counts an account that isn't logged: {server.lines}"
+    told, others = accounts(server, name, "publisher of cam"), counted(server, ACCOUNTS_NOT_TOLD)
+    if not A_SECOND <= len(told) <= A_SECOND * (passed + 2) or len(told) + sum(others) != SESSIONS or len(others) > 2:
+        yield f"in {passed:.1f} s {len(told)} of {SESSIONS} are logged, and {others} counted"
+    if [it["unknown channel"] for it in told] != [1] * len(told):
+        yield f"of one frame a session is logged {told}"
+
+
 def faults_of_many_addresses_have_few_lines(program):
     """More addresses than there are places for share ten lines a second, and what is over is counted."""
     if not has_descriptors(faults_of_many_addresses_have_few_lines):
@@ -303,6 +345,7 @@ PARTS = [
     *((part, mode) for part in (refusals_are_told_by_mount_and_status, reset_is_told) for mode in MODES),
     *((part, ()) for part in (misspelt_names_are_told_as_others, mount_without_a_place_is_told, each_refusal_has_its_line)),
     *((part, ()) for part in (ended_mount_is_named_no_more, faults_of_one_address_have_few_lines, faults_of_many_addresses_have_few_lines)),
+    *((part, ()) for part in (name_that_begins_anothers, accounts_of_one_connection_have_few_lines)),
 ]
 
 ALONE = []

@@ -2,6 +2,8 @@
 //!
 //! The publisher's thread waits here. The pace's lock is held for a look at each seat or a change of one; senders take it under
 //! their own locks, and no other is taken under it. No lock is held in a pause.
+pub(crate) mod locked_round;
 pub(crate) mod opened_round;
 pub(crate) mod pace;
 pub(crate) mod pauses;
+pub(crate) mod round_change;

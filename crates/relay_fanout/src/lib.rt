@@ -11,6 +11,7 @@ mod sending;
 mod steady_clock;
 mod wake;
 
+pub use mount::attached_tap::AttachedTap;
 pub use mount::leave::Leave;
 pub use mount::maker::Maker;
 pub use mount::mount_feed::MountFeed;

@@ -3,6 +3,7 @@
 //!
 //! The feed runs on the publisher's own thread. `MountSignal`'s locks are held for a copy or a change of a few words,
 //! `RecordingMounts`' for a walk over the mounts, `Offers`' while an offer changes hands; no other lock is taken meanwhile.
+pub(crate) mod attached_tap;
 pub(crate) mod leave;
 pub(crate) mod maker;
 pub(crate) mod marks;

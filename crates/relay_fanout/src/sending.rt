@@ -4,6 +4,7 @@
 //! Writers and frame threads run here; the thread that reads a connection starts and stops them and writes its replies. A frame
 //! thread holds the seat's lock while it sends, a writer for one look. The sink's lock is held for one write: a frame thread or
 //! a reply may wait for the peer under it, a writer never does. Under both only the lock of the mount's pace is taken.
+pub(crate) mod batch;
 pub(crate) mod coming;
 pub(crate) mod counted;
 pub(crate) mod fewest;

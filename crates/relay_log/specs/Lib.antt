@@ -1,10 +1,13 @@
 pub mod Accounts
-pub mod Addresses
+pub mod AddressRates
 pub mod Backlogs
+pub mod Counted
 pub mod Kept
+pub mod Leaving
 pub mod Moments
 pub mod Names
 pub mod News
+pub mod Nexts
 pub mod Orders
 pub mod Places
 pub mod Rates

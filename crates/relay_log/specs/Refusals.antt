@@ -1,13 +1,14 @@
 -- Counts of requests that were refused.
-use Rattle.std.specs.Prelude.{◌≡◌, ℕ, ◌+◌, List, [], ◌∷◌, ◌++◌, slice_get, slice_set, Option, None, Some}
+use Rattle.std.specs.Prelude.{◌≡◌, ℕ, ◌+◌, ◌-◌, ◌==◌, Bool, true, false, if◌then◌else◌, nat_lt, List, [], ◌∷◌, ◌++◌, take, slice_get, slice_set, All, Option, None, Some}
 use Rattle.std.specs.declared.net.socket_addr.SocketAddr.{SocketAddr}
 use Rattle.rtsp_message.specs.declared.status.Status.{Status}
 use Rattle.relay_accounts.specs.Capped.{capped}
 use Rattle.relay_log.specs.declared.refused_requests.Entry.{Entry}
+use Rattle.relay_log.specs.declared.refused_line.RefusedLine.{RefusedLine}
 use Rattle.relay_log.specs.declared.subject.Subject.{Subject}
 use Rattle.relay_log.specs.declared.subject.Subject.TheVariants as subjects
 use Rattle.relay_log.specs.Kept.{IsAbout}
-use Rattle.relay_log.specs.Tallies.{due_at}
+use Rattle.relay_log.specs.Tallies.{IsDue, due_at}
 
 -- the count of requests about this subject that were refused with this status
 abbrev pub IsCountOf : Subject → Status → Entry → Type 0
@@ -38,3 +39,28 @@ pub record BeginsCount (old new : List Entry) (subject : Subject) (status : Stat
   pub last : entry.last ≡ peer
   pub tally : entry.tally ≡ record { count = 1; told = None }
   pub added : new ≡ old ++ entry ∷ []
+
+-- whether a line was written less than a minute before this moment
+abbrev pub was_told_lately : (now : ℕ) → Option ℕ → Bool
+was_told_lately now None = false
+was_told_lately now (Some told) = nat_lt (now - told) 60000
+
+-- whether a count is kept at this moment: something came since its line, or that was written less than a minute ago
+abbrev pub is_kept : (now : ℕ) → Entry → Bool
+is_kept now entry = if entry.tally.count == 0 then was_told_lately now entry.tally.told else true
+
+-- its line is due at this moment
+abbrev pub IsDueCount : (now : ℕ) → Entry → Type 0
+IsDueCount now entry = IsDue entry.tally now
+
+-- Of these counts the first whose line is due at this moment has this line, and then counts as reported. The others stay as they were.
+pub record TellsFirst (old new : List Entry) (now : ℕ) (line : RefusedLine) : Type 0 where
+  pub place : ℕ
+  pub entry : Entry
+  pub is_there : slice_get old place ≡ Some entry
+  pub is_due : IsDueCount now entry
+  pub none_before : All (λ before. IsDueCount now before → ⊥) (take place old)
+  pub count : line.count ≡ entry.tally.count
+  pub status : line.status ≡ entry.status
+  pub last : line.last ≡ entry.last
+  pub told : new ≡ slice_set old place (record entry { tally = record { count = 0; told = Some now } })

@@ -1,6 +1,7 @@
 //! A bounded queue whose items wait until they are taken.
 ghost use Rattle.std.specs.Prelude.{◌≡◌, ◌+◌, ◌∷◌, [], ◌++◌, ◌<◌, ◌≤◌, length, IfOk, IfSome, IfNone, IsTrue, ◌↔◌};
 ghost use Rattle.relay_accounts.specs.Capped.{capped};
+ghost use Rattle.relay_log.specs.Backlogs.{lost_with};
 
 use crate::limits::WAITING_LINES;
 use std::alloc::{AllocError, Global};
@@ -102,5 +103,19 @@ impl<T: Drop> Backlog<T> {
         ensures new { self.new ≡ record self.old { missed = 0 } }
     {
         mem::replace(&mut self.missed, 0)
+    }
+
+    /// Drops what waits, and counts it with what was missed before.
+    pub fn drop_all(&mut self)
+        ensures waiting { self.new.waiting ≡ [] }
+        ensures missed { capped self.new.missed ≡ capped (self.old.missed + lost_with self.old.waiting) }
+    {
+        let _ = &self.waiting;
+        for _turn in 0..WAITING_LINES {
+            match self.take() {
+                Some(line) => self.miss_all(line.missed.saturating_add(1)),
+                None => return,
+            }
+        }
     }
 }

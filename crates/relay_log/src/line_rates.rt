@@ -1,20 +1,38 @@
 //! The limits of log lines of each address in a second.
+ghost use Rattle.std.specs.Prelude.{◌≡◌, ◌≢◌, ◌↔◌, ◌∷◌, [], ◌++◌, ◌<◌, ◌/◌, None, Some, length, slice_get, IfOk, IfSome, IfNone, IsSomeAnd, IsTrue};
+ghost use Rattle.relay_log.specs.AddressRates.{AreBusy, Tells, place_in};
+ghost use Rattle.relay_log.specs.Rates.{MayTell};
+
 use crate::limits::ADDRESSES;
 use crate::line_rate::LineRate;
+use networks::Address;
 use std::alloc::{AllocError, Global};
-use std::net::IpAddr;
+use std::marker::Model;
 
 /// What is known of an address.
 #[derive(Clone, Copy, Debug, Drop)]
-struct Known {
-    address: IpAddr,
+pub struct Known {
+    address: Address,
     rate: LineRate,
 }
 
 /// How many lines of each address were logged in a second, for at most 256 addresses. The others share one rate.
+///
+/// Its model is what is known of these addresses, and the rate of the others.
 pub struct LineRates {
     known: Vec<Known>,
     others: LineRate,
+}
+
+impl Model for LineRates {
+    ghost use Rattle.std.specs.Prelude.{◌≤◌, length, vec_capacity};
+    ghost use Rattle.relay_log.specs.AddressRates.{Rates};
+
+    ghost Value = { Rates };
+
+    ghost view = { λ r. record { known = r.known.items; others = r.others } };
+
+    ghost invariant = { λ r. (length r.known.items ≤ 256) × (256 ≤ vec_capacity r.known) };
 }
 
 impl Drop for LineRates {
@@ -28,7 +46,9 @@ impl Drop for LineRates {
 
 impl LineRates {
     /// No line was logged yet.
-    pub fn new(alloc: Global) -> Result<LineRates, AllocError> {
+    pub fn new(alloc: Global) -> Result<LineRates, AllocError>
+        ensures { IfOk result (λ rates. rates ≡ record { known = []; others = record { second = 0; count = 0 } }) }
+    {
         Ok(LineRates {
             known: Vec::with_capacity(alloc, ADDRESSES)?,
             others: LineRate::new(),
@@ -36,31 +56,75 @@ impl LineRates {
     }
 
     /// Returns whether a line of this address may be logged at this moment, in milliseconds. A line that may be logged is
-    /// counted.
-    pub fn tell(&mut self, address: IpAddr, now: u64) -> bool {
-        for known in &mut self.known {
-            if known.address == address {
-                return known.rate.tell(now);
-            }
+    /// counted: at the address's own rate, in a place that may have been that of an address that had no line in this second, or
+    /// at the rate of the others if all places are taken by addresses that had one.
+    pub fn tell(&mut self, address: Address, now: u64) -> bool
+        ensures known { IfSome (place_in address self.old.known) (λ place. IsSomeAnd (slice_get self.old.known place) (λ known. IsTrue result ↔ MayTell known.rate now)) }
+        ensures others { place_in address self.old.known ≡ None → length self.old.known ≡ 256 → AreBusy self.old.known (now / 1000)
+            → Tells self.old self.new self.old.others now result (λ rate. record self.old { others = rate }) }
+    {
+        match place_of(self.known.as_slice(), address) {
+            Some(place) => self.known[place].rate.tell(now),
+            None => self.tell_new(address, now),
         }
-        self.rate_of_new(address, now / 1_000).tell(now)
     }
 
-    /// Returns the rate of an address of which nothing is known: in a place of its own, which may be that of an address that
-    /// had no line in this second. If there is no place, it shares one.
-    fn rate_of_new(&mut self, address: IpAddr, second: u64) -> &mut LineRate {
-        let rate = LineRate::new();
-        if self.known.len() < ADDRESSES && self.known.push(Known { address, rate }).is_ok() {
-            if let Some(known) = self.known.last_mut() {
-                return &mut known.rate;
-            }
+    /// Returns whether a line of an address of which nothing is known may be logged, and counts it.
+    fn tell_new(&mut self, address: Address, now: u64) -> bool
+        ensures others { length self.old.known ≡ 256 → AreBusy self.old.known (now / 1000)
+            → Tells self.old self.new self.old.others now result (λ rate. record self.old { others = rate }) }
+    {
+        match self.place_of_new(address, now / 1_000) {
+            Some(place) => self.known[place].rate.tell(now),
+            None => self.others.tell(now),
         }
-        for known in &mut self.known {
-            if known.rate.second != second {
-                *known = Known { address, rate };
-                return &mut known.rate;
-            }
-        }
-        &mut self.others
     }
+}
+
+impl LineRates {
+    ghost use Rattle.std.specs.Prelude.{slice_set};
+    ghost use Rattle.relay_log.specs.AddressRates.{fresh};
+
+    /// Returns the place of an address of which nothing is known. It is a place of its own, or that of the first address that had
+    /// no line in this second. `None` if there is neither.
+    fn place_of_new(&mut self, address: Address, second: u64) -> Option<usize>
+        ensures added { length self.old.known < 256 → (result ≡ Some (length self.old.known)) × (self.new.known ≡ self.old.known ++ fresh address ∷ []) }
+        ensures taken { length self.old.known ≡ 256 → IfSome result (λ place. IsSomeAnd (slice_get self.old.known place) (λ known. known.rate.second ≢ second)
+            × (self.new.known ≡ slice_set self.old.known place (fresh address))) }
+        ensures none { IfNone result ((length self.old.known ≡ 256) × AreBusy self.old.known second × (self.new.known ≡ self.old.known)) }
+        ensures within { IfSome result (λ place. place < length self.new.known) }
+        ensures busy { length self.old.known ≡ 256 → AreBusy self.old.known second → result ≡ None }
+        ensures others { self.new.others ≡ self.old.others }
+    {
+        let rate = LineRate::new();
+        let place = self.known.len();
+        if place < ADDRESSES {
+            self.known.push_reserved(Known { address, rate });
+            return Some(place);
+        }
+        let place = place_of_quiet(self.known.as_slice(), second)?;
+        self.known[place] = Known { address, rate };
+        Some(place)
+    }
+}
+
+/// Returns the place of an address. `None` if nothing is known of it.
+fn place_of(known: &[Known], address: Address) -> Option<usize>
+    ensures { result ≡ place_in address known.now }
+{
+    known.iter().position(|known| known.address == address)
+}
+
+/// Returns the place of the first address that had no line in this second. `None` if each had one.
+fn place_of_quiet(known: &[Known], second: u64) -> Option<usize>
+    ensures found { IfSome result (λ place. IsSomeAnd (slice_get known.now place) (λ known. known.rate.second ≢ second)) }
+    ensures none { IfNone result (AreBusy known.now second) }
+    ensures busy { AreBusy known.now second → result ≡ None }
+{
+    for (place, known) in known.iter().enumerate() {
+        if known.rate.second != second {
+            return Some(place);
+        }
+    }
+    None
 }

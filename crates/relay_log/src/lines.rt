@@ -1,9 +1,12 @@
 //! Lines for standard error, which one thread writes.
-use crate::backlog::{Backlog, Waiting};
-use crate::limits::{LAST_LINE, WAITING_LINES};
+mod state;
+
+use crate::backlog::Waiting;
+use crate::limits::LAST_LINE;
 use log::kv::Source;
 use log::span::Spans;
 use log::{LevelFilter, Log, Metadata, Record, warn};
+use state::{Next, State};
 use std::alloc::{AllocError, Global};
 use std::fmt::Display;
 use std::io::Eprint;
@@ -20,7 +23,7 @@ const TARGET: &str = "relay_server::lines";
 pub struct Lines<R> {
     rt: R,
     alloc: Global,
-    list: Mutex<List>,
+    state: Mutex<State<String>>,
     changed: Condvar,
     /// Notified when a line was taken to be written, once the server stops.
     has_room: Condvar,
@@ -31,56 +34,20 @@ impl<R: Drop> Drop for Lines<R> {
         let Lines {
             rt: _,
             alloc: _,
-            list: _,
+            state: _,
             changed: _,
             has_room: _,
         } = self;
     }
 }
 
-struct List {
-    lines: Backlog<String>,
-    /// Until when threads wait for room. No thread waits before the server stops.
-    room_until: Option<Instant>,
-    /// No line comes any more.
-    is_closed: bool,
-    /// All lines are written.
-    is_written: bool,
-}
-
-impl Drop for List {
-    fn drop(self) {
-        let List {
-            lines: _,
-            room_until: _,
-            is_closed: _,
-            is_written: _,
-        } = self;
-    }
-}
-
-/// What the writing thread does next.
-#[derive(Drop)]
-enum Next {
-    Write(Waiting<String>),
-    /// Logs how many lines were dropped.
-    Missed(u64),
-    End,
-}
-
 impl<R: Drop> Lines<R> {
     /// Nothing waits.
     pub fn new(rt: R, alloc: Global) -> Result<Lines<R>, AllocError> {
-        let list = List {
-            lines: Backlog::new(alloc)?,
-            room_until: None,
-            is_closed: false,
-            is_written: false,
-        };
         Ok(Lines {
             rt,
             alloc,
-            list: Mutex::new(list),
+            state: Mutex::new(State::new(alloc)?),
             changed: Condvar::new(),
             has_room: Condvar::new(),
         })
@@ -90,30 +57,28 @@ impl<R: Drop> Lines<R> {
 impl<R: Wait> Lines<R> {
     /// Counts a line that couldn't be made as dropped.
     pub fn miss(&self) {
-        self.list.lock(&self.rt).lines.miss();
-        self.changed.notify_one();
+        self.miss_all(1);
+    }
+
+    /// Counts `count` lines as dropped, because the threads that would have logged them haven't ended.
+    pub fn miss_all(&self, count: u64) {
+        let changed = self.state.lock(&self.rt).miss(count);
+        changed.tell(&self.changed);
+    }
+
+    /// No line comes any more: `write_all` ends once all are written.
+    pub fn end(&self) {
+        let changed = self.state.lock(&self.rt).close();
+        changed.tell(&self.changed);
     }
 
     /// Waits until there is something to do, and returns it.
-    fn next(&self) -> Next {
-        let mut list = self
-            .changed
-            .wait_while(&self.rt, self.list.lock(&self.rt), |list| {
-                list.lines.is_empty() && !list.is_closed
-            });
-        if let Some(line) = list.lines.take() {
-            if list.room_until.is_some() {
-                self.has_room.notify_one();
-            }
-            return Next::Write(line);
-        }
-        match list.lines.take_missed() {
-            0 => {
-                list.is_written = true;
-                Next::End
-            }
-            missed => Next::Missed(missed),
-        }
+    fn next(&self) -> Next<String> {
+        self.changed
+            .wait_while(&self.rt, self.state.lock(&self.rt), |state| {
+                state.is_quiet()
+            })
+            .next()
     }
 }
 
@@ -122,14 +87,15 @@ impl<R: Wait + Log + Eprint> Lines<R> {
     pub fn write_all(&self) {
         for _ in self.rt.forever() {
             match self.next() {
-                Next::Write(Waiting { missed, item }) => {
+                Next::Write(Waiting { missed, item }, room_made) => {
+                    room_made.tell(&self.has_room);
                     self.tell_missed(missed);
                     // If standard error is closed, the line is lost.
                     let _ = self.rt.eprintln(item.as_str());
                 }
                 Next::Missed(missed) => self.tell_missed(missed),
-                Next::End => {
-                    self.changed.notify_all();
+                Next::End(changed) => {
+                    changed.tell(&self.changed);
                     return;
                 }
             }
@@ -152,56 +118,33 @@ impl<R: Wait + Clock> Lines<R> {
             Ok(now) => now.checked_add(most),
             Err(_) => None,
         };
-        self.list.lock(&self.rt).room_until = until;
-    }
-
-    /// Counts `count` lines as dropped, because the threads that would have logged them haven't ended.
-    pub fn miss_all(&self, count: u64) {
-        self.list.lock(&self.rt).lines.miss_all(count);
-    }
-
-    /// No line comes any more: `write_all` ends once all are written.
-    pub fn end(&self) {
-        self.list.lock(&self.rt).is_closed = true;
-        self.changed.notify_all();
+        self.state.lock(&self.rt).wait_for_room(until);
     }
 
     /// No line comes any more. Waits at most `most` until all are written. Those that aren't by then are dropped and counted.
     pub fn close(&self, most: Duration) {
         self.end();
-        let (mut list, _) = self
+        let (mut state, _) = self
             .changed
-            .wait_timeout_while(&self.rt, self.list.lock(&self.rt), most, |list| {
-                !list.is_written
+            .wait_timeout_while(&self.rt, self.state.lock(&self.rt), most, |state| {
+                !state.is_written()
             });
-        if list.is_written {
+        if state.is_written() {
             return;
         }
-        list.drop_all();
+        state.drop_all();
         let last = Duration::from_millis(LAST_LINE);
         let _ = self
             .changed
-            .wait_timeout_while(&self.rt, list, last, |list| !list.is_written);
+            .wait_timeout_while(&self.rt, state, last, |state| !state.is_written());
     }
 
     /// Returns how long a thread that logs may still wait for room. `None` if it doesn't wait.
-    fn time_for_room(&self, list: &List) -> Option<Duration> {
-        let until = list.room_until?;
+    fn time_for_room(&self, state: &State<String>) -> Option<Duration> {
+        let until = state.room_until()?;
         let now = Instant::now(&self.rt).ok()?;
         let rest = until.checked_duration_since(now)?;
-        (list.lines.is_full() && !rest.is_zero()).then_some(rest)
-    }
-}
-
-impl List {
-    /// Drops what waits, and counts it.
-    fn drop_all(&mut self) {
-        for _ in 0..WAITING_LINES {
-            match self.lines.take() {
-                Some(line) => self.lines.miss_all(line.missed.saturating_add(1)),
-                None => return,
-            }
-        }
+        (state.is_full() && !rest.is_zero()).then_some(rest)
     }
 }
 
@@ -224,19 +167,19 @@ impl<R: Wait + Clock> Log for Lines<R> {
             return;
         }
         let line = String::format(self.alloc, log::Line::new(record));
-        let mut list = self.list.lock(&self.rt);
-        if let Some(most) = self.time_for_room(&list) {
-            list = self
+        let mut state = self.state.lock(&self.rt);
+        if let Some(most) = self.time_for_room(&state) {
+            state = self
                 .has_room
-                .wait_timeout_while(&self.rt, list, most, |list| list.lines.is_full())
+                .wait_timeout_while(&self.rt, state, most, |state| state.is_full())
                 .0;
         }
-        match line {
-            Ok(line) => list.lines.put(line),
-            Err(_) => list.lines.miss(),
-        }
-        drop(list);
-        self.changed.notify_one();
+        let changed = match line {
+            Ok(line) => state.put(line),
+            Err(_) => state.miss(1),
+        };
+        drop(state);
+        changed.tell(&self.changed);
     }
 
     fn flush(&self) {}

@@ -1,5 +1,5 @@
 //! The mounts that exist, for log lines.
-ghost use Rattle.std.specs.Prelude.{◌≡◌, ◌↔◌, IsTrue, IfOk};
+ghost use Rattle.std.specs.Prelude.{◌≡◌, ◌↔◌, slice_get, IsTrue, IfOk, IfSome, IsSomeAnd};
 ghost use Rattle.relay_log.specs.Names.{IsNamedBy};
 
 use base_syntax::Bytes;
@@ -83,15 +83,24 @@ impl PublishedMounts {
     /// Returns the mount that a path names: the whole path is its name, or else the longest prefix before a slash that is one.
     pub(crate) fn find(&self, rt: &impl Wait, path: &[u8]) -> Option<PublishedMount> {
         let mounts = self.mounts.lock(rt);
-        let mut found = None;
-        let mut longest = 0;
-        for (place, mount) in mounts.iter().enumerate() {
-            let length = mount.name.len();
-            if length > longest && mount.is_named_by(path) {
-                longest = length;
-                found = Some(place);
-            }
-        }
-        mounts.get(found?)?.copy(self.alloc).ok()
+        let place = longest_named(mounts.as_slice(), path)?;
+        mounts.get(place)?.copy(self.alloc).ok()
     }
+}
+
+/// Returns the place of the mount of the longest name that a path names. `None` if it names none.
+fn longest_named(mounts: &[PublishedMount], path: &[u8]) -> Option<usize>
+    ensures named { IfSome result (λ place. IsSomeAnd (slice_get mounts.now place) (λ mount. IsNamedBy mount.name path.now)) }
+{
+    let mut found = None;
+    let mut longest = 0;
+    for (place, mount) in mounts.iter().enumerate() {
+        let length = mount.name.len();
+        if length <= longest || !mount.is_named_by(path) {
+            continue;
+        }
+        longest = length;
+        found = Some(place);
+    }
+    found
 }

@@ -1,5 +1,7 @@
 pub mod Access
 pub mod Barred
+pub mod Endings
 pub mod Leavings
+pub mod QuietTimes
 pub mod Refusals
-pub mod Silences
+pub mod Snapshots

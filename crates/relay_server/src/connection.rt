@@ -6,11 +6,15 @@
 //! peers and the log lines it takes one at a time, each for one look or one change. No lock is held while it reads, or waits for its
 //! frames to end. Its writing side alone is locked while it writes, by `relay_fanout`.
 pub(crate) mod accounting;
+pub(crate) mod act_done;
+pub(crate) mod asked;
 pub(crate) mod asking;
 pub(crate) mod barring;
 pub(crate) mod carrying_out;
 pub(crate) mod clock_moments;
+pub(crate) mod closing_reads;
 pub(crate) mod connection_clock;
+pub(crate) mod end_rules;
 pub(crate) mod expiring;
 pub(crate) mod frame_notes;
 pub(crate) mod giving_back;
@@ -18,6 +22,7 @@ pub(crate) mod hanging_up;
 pub(crate) mod idle_policy;
 pub(crate) mod idle_reader;
 pub(crate) mod incoming;
+pub(crate) mod limited_waits;
 pub(crate) mod outgoing;
 pub(crate) mod replying;
 pub(crate) mod running;

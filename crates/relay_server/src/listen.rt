@@ -12,6 +12,7 @@ pub(crate) mod ending;
 pub(crate) mod gate;
 pub(crate) mod helpers;
 pub(crate) mod live_sockets;
+pub(crate) mod new_connection;
 pub(crate) mod options;
 pub(crate) mod peers;
 pub(crate) mod refused_peers;

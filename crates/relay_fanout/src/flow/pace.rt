@@ -1,10 +1,11 @@
 //! How a publisher is slowed to the pace of the players that keep up.
 ghost use Rattle.std.specs.Prelude.{◌≡◌, ◌≢◌, ◌↔◌, IsSome, IsTrue, None, Some};
 
-use pacing::Round;
+use crate::flow::locked_round::LockedRound;
+use crate::flow::round_change::LeftPace;
 use std::alloc::{AllocError, Global};
+use std::sync::Wait;
 use std::sync::atomic::{AtomicU64, Ordering};
-use std::sync::{Condvar, CondvarTimeouts, Mutex, Wait};
 use std::time::{Clock, Duration};
 
 /// The players of a mount as their publisher sees them, and what it waits on.
@@ -13,15 +14,9 @@ use std::time::{Clock, Duration};
 /// known to keep up or a round was opened since. The publisher's thread opens a round, wakes the players, and sleeps until
 /// the last that it waits for has taken as many as the round asks for, or left.
 ///
-/// The lock is held for a look at each seat or a change of one. It may be taken under the lock of a seat, with or without
-/// that of its writing side, and no other is taken meanwhile.
+/// The round's lock may be taken under the lock of a seat, with or without that of its writing side.
 pub(crate) struct Pace {
-    round: Mutex<Round>,
-    over: Condvar,
-    /// How often a round was opened or players were given up.
-    changes: AtomicU64,
-    /// How many packets the last round asks for.
-    target: AtomicU64,
+    round: LockedRound,
     /// How many packets each seat's player has taken.
     cursors: Vec<AtomicU64>,
 }
@@ -30,23 +25,21 @@ impl Drop for Pace {
     fn drop(self) {
         let Pace {
             round: _,
-            over: _,
-            changes: _,
-            target: _,
             cursors: _,
         } = self;
     }
 }
 
-/// What a player's thread knows of its own standing: the number of changes at which it was level, if it was.
+/// What a player's thread knows of its own standing: the number of changes at which it was level, if it was. A player that joins
+/// its mount's pace gets it.
 #[derive(Clone, Copy, Drop)]
 pub(crate) struct KnownLevel {
-    pub(crate) at: Option<u64>,
+    at: Option<u64>,
 }
 
 impl KnownLevel {
     /// The state of a new player, which isn't known to keep up.
-    pub(crate) fn new() -> KnownLevel
+    fn new() -> KnownLevel
         ensures { result ≡ record { at = None } }
     {
         KnownLevel { at: None }
@@ -82,10 +75,7 @@ impl Pace {
             cursors.push(AtomicU64::new(0))?;
         }
         Ok(Pace {
-            round: Mutex::new(Round::new(alloc, seats)?),
-            over: Condvar::new(),
-            changes: AtomicU64::new(0),
-            target: AtomicU64::new(0),
+            round: LockedRound::new(alloc, seats)?,
             cursors,
         })
     }
@@ -106,15 +96,19 @@ impl Pace {
     }
 
     /// A player begins to take from its seat. The player before it has left.
-    pub(crate) fn join(&self, rt: &impl Wait, seat: usize) {
-        let was_last = self.round.lock(rt).join(seat);
-        self.tell(was_last);
+    pub(crate) fn join(&self, rt: &impl Wait, seat: usize) -> KnownLevel
+        ensures { result ≡ record { at = None } }
+    {
+        let changed = self.round.join(rt, seat);
+        self.round.tell(changed);
+        KnownLevel::new()
     }
 
     /// A player takes no more.
-    pub(crate) fn leave(&self, rt: &impl Wait, seat: usize) {
-        let was_last = self.round.lock(rt).leave(seat);
-        self.tell(was_last);
+    pub(crate) fn leave(&self, rt: &impl Wait, seat: usize) -> LeftPace {
+        let (changed, left) = self.round.leave(rt, seat);
+        self.round.tell(changed);
+        left
     }
 
     /// A player had nothing more to take at this cursor.
@@ -123,80 +117,48 @@ impl Pace {
         if known.is_level(changes) {
             return;
         }
-        let mut round = self.round.lock(rt);
-        let was_last = round.level(seat, cursor);
+        let changed = self.round.level(rt, seat, cursor);
         // A player that is still awaited goes on reporting its cursor.
-        if round.is_level(seat) {
+        if changed.is_level() {
             known.at = Some(changes);
         }
-        drop(round);
-        self.tell(was_last);
+        self.round.tell(changed);
     }
 
     /// A player has come to this cursor, and may have more to take. One that isn't known to keep up has to take all first.
     pub(crate) fn reach(&self, rt: &impl Wait, seat: usize, cursor: u64, known: &mut KnownLevel) {
         let changes = self.follow_me(seat, cursor);
-        if !known.may_be_awaited(changes) || cursor < self.target.load(Ordering::SeqCst) {
+        if !known.may_be_awaited(changes) || cursor < self.round.target() {
             return;
         }
-        let mut round = self.round.lock(rt);
-        let was_last = round.reach(seat, cursor);
-        known.at = round.is_level(seat).then_some(changes);
-        drop(round);
-        self.tell(was_last);
+        let changed = self.round.reach(rt, seat, cursor);
+        known.at = changed.is_level().then_some(changes);
+        self.round.tell(changed);
     }
 
     /// Stores a player's cursor, and returns how often rounds were opened or players were given up.
     fn follow_me(&self, seat: usize, cursor: u64) -> u64 {
         self.stand(seat, cursor);
-        self.changes.load(Ordering::SeqCst)
+        self.round.changes()
     }
 
     /// Returns how many packets the slowest of the players that keep up has taken, or `published`.
     pub(crate) fn slowest(&self, rt: &impl Wait, published: u64) -> u64 {
-        let mut round = self.round.lock(rt);
-        self.follow(&mut round);
-        round.slowest(published)
+        self.round.slowest(rt, self.cursors.as_slice(), published)
     }
 
     /// Opens a round in which `target` packets are to be taken. Returns how many players are awaited.
     pub(super) fn open(&self, rt: &impl Wait, target: u64) -> usize {
-        let mut round = self.round.lock(rt);
-        self.follow(&mut round);
-        let awaited = round.open(target);
-        self.target.store(target, Ordering::SeqCst);
-        self.changes.fetch_add(1, Ordering::SeqCst);
-        awaited
+        self.round.open(rt, self.cursors.as_slice(), target)
     }
 
     /// Sleeps until no player is awaited, for at most `most`. Returns how many players are still awaited.
     pub(super) fn wait<R: Wait + Clock>(&self, rt: &R, most: Duration) -> usize {
-        let (round, _) = self
-            .over
-            .wait_timeout_while(rt, self.round.lock(rt), most, |round| {
-                round.awaited() > 0
-            });
-        round.awaited()
+        self.round.wait(rt, most)
     }
 
     /// Gives up the players that are still awaited.
     pub(super) fn give_up(&self, rt: &impl Wait) {
-        if self.round.lock(rt).give_up() > 0 {
-            self.changes.fetch_add(1, Ordering::SeqCst);
-        }
-    }
-
-    /// Reads how many packets each player that keeps up has taken.
-    fn follow(&self, round: &mut Round) {
-        for (seat, cursor) in self.cursors.iter().enumerate() {
-            round.follow(seat, cursor.load(Ordering::SeqCst));
-        }
-    }
-
-    /// Wakes the publisher if the last player that it waits for has taken all or left.
-    fn tell(&self, was_last: bool) {
-        if was_last {
-            self.over.notify_all();
-        }
+        self.round.give_up(rt);
     }
 }

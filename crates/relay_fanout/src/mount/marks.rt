@@ -16,7 +16,7 @@ use crate::wake::wake_word::WakeWord;
 use crate::wake::writers_word::WritersWord;
 use cursor::{Feed, Refused};
 use std::sync::Wait;
-use std::sync::atomic::{AtomicU64, Ordering};
+use std::sync::atomic::{AtomicBool, AtomicU64, Ordering};
 use waking::{NO_MARKS, are_marks, next_word};
 
 /// The marks of a mount, and the word that its players sleep on.
@@ -24,12 +24,17 @@ use waking::{NO_MARKS, are_marks, next_word};
 pub(crate) struct Marks {
     /// How many packets came since the players were last woken.
     marked: AtomicU64,
+    /// Whether no packet comes any more.
+    ended: AtomicBool,
     player_wakeups: WakeWord,
 }
 
 /// A packet, or the end, is in the ring, and no thread was told of it: its publisher is `publishing` in the machine of `waking`. It
 /// has no `Drop`, so that it ends in `mark` or `empty_for`.
 pub(crate) struct Logged(());
+
+/// The end is in the ring, and it isn't set that the mount has ended (`publishing`). It has no `Drop`, so that it ends in `set_ended`.
+pub(crate) struct Closed(());
 
 /// The mount is marked, and the waking thread wasn't notified of it (`notifying`). It has no `Drop`, so that it ends in `notify`.
 pub(crate) struct Marked {
@@ -62,9 +67,9 @@ pub(crate) fn publish_into<F: Feed>(
 }
 
 /// Ends the log, before any thread is told of it: the step `logs`.
-pub(crate) fn close_log<F: Feed>(feed: F) -> Logged {
+pub(crate) fn close_log<F: Feed>(feed: F) -> Closed {
     feed.close();
-    Logged(())
+    Closed(())
 }
 
 impl Marks {
@@ -72,6 +77,7 @@ impl Marks {
     pub(crate) fn new() -> Marks {
         Marks {
             marked: AtomicU64::new(NO_MARKS),
+            ended: AtomicBool::new(false),
             player_wakeups: WakeWord::new(),
         }
     }
@@ -93,6 +99,18 @@ impl Marks {
     pub(crate) fn empty_for(&self, logged: Logged) -> Emptied {
         let Logged(()) = logged;
         self.empty()
+    }
+
+    /// Sets that the mount has ended, before its players are woken for the end.
+    pub(crate) fn set_ended(&self, closed: Closed) -> Logged {
+        let Closed(()) = closed;
+        self.ended.store(true, Ordering::SeqCst);
+        Logged(())
+    }
+
+    /// Returns whether that was set.
+    pub(crate) fn has_ended(&self) -> bool {
+        self.ended.load(Ordering::SeqCst)
     }
 
     /// Empties the marks though nothing is new: the step `hurries`. A thread that makes a mark after this notifies.

@@ -1,17 +1,20 @@
 //! The signal that wakes the players of a mount when there are packets.
+ghost use Rattle.std.specs.Prelude.{◌≡◌};
+
 use crate::flow::pace::{KnownLevel, Pace};
 use crate::limits::TAKES;
-use crate::mount::marks::{Counted, Emptied, Logged, Marked, Marks};
+use crate::mount::attached_tap::AttachedTap;
+use crate::mount::marks::{Closed, Counted, Emptied, Logged, Marked, Marks};
 use crate::mount::player_figures::PlayerFigures;
 use crate::mount::tallies::Tallies;
 use crate::sending::ring_look::{LevelTold, WakeupsRead};
 use crate::wake::wake_signal::WakeSignal;
 use base_syntax::Items;
+use cursor::Lend;
 use pacing::Start;
 use publisher::Fate;
 use relay_accounts::{MountTally, lost_so_far};
 use std::alloc::{AllocError, Global};
-use std::sync::atomic::{AtomicBool, Ordering};
 use std::sync::{Arc, Mutex, Wait};
 use transport_header::{MOST_TRACKS, Point};
 
@@ -30,8 +33,6 @@ pub(crate) struct Stand {
 pub struct MountSignal {
     points: Mutex<[Option<Point>; MOST_TRACKS]>,
     marks: Marks,
-    /// Whether no packet comes any more.
-    ended: AtomicBool,
     /// Which players keep up with the publisher.
     pub(crate) pace: Pace,
     pub(crate) tallies: Tallies,
@@ -43,7 +44,6 @@ impl Drop for MountSignal {
         let MountSignal {
             points: _,
             marks: _,
-            ended: _,
             pace: _,
             tallies: _,
             wake_signal: _,
@@ -61,7 +61,6 @@ impl MountSignal {
         Ok(MountSignal {
             points: Mutex::new([None; MOST_TRACKS]),
             marks: Marks::new(),
-            ended: AtomicBool::new(false),
             pace: Pace::new(alloc, seats)?,
             tallies: Tallies::new(alloc, seats)?,
             wake_signal,
@@ -100,10 +99,11 @@ impl MountSignal {
         }
     }
 
-    /// A player is attached to its seat, at this cursor. The player before it has left.
-    pub fn attached(&self, seat: usize, cursor: u64) {
-        self.pace.stand(seat, cursor);
-        self.tallies.set_player(seat, 0, 0);
+    /// A player is attached to its seat by this tap: its figures begin anew, at the tap's cursor. The player before it has left.
+    pub fn attached<T: Lend>(&self, seat: usize, tap: T) -> AttachedTap<T>
+        ensures { result ≡ tap }
+    {
+        AttachedTap::begin(&self.pace, &self.tallies, seat, tap)
     }
 
     /// A player is at this position, and may have more to take.
@@ -167,13 +167,12 @@ impl MountSignal {
     }
 
     /// No packet comes any more.
-    pub(crate) fn end(&self, logged: Logged) {
-        self.ended.store(true, Ordering::SeqCst);
-        self.wake_for(logged);
+    pub(crate) fn end(&self, closed: Closed) {
+        self.wake_for(self.marks.set_ended(closed));
     }
 
     pub(crate) fn has_ended(&self) -> bool {
-        self.ended.load(Ordering::SeqCst)
+        self.marks.has_ended()
     }
 
     /// Wakes the players of the mount, whatever came.

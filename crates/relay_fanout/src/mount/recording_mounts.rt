@@ -1,24 +1,21 @@
-//! The mounts that are being recorded, by number.
+//! The mounts that are being recorded, by number, under their lock.
+mod state;
+
 use crate::mount::mount_signal::MountSignal;
 use crate::wake::wake_signal::{Asked, Cleared};
 use base_syntax::Items;
+use state::MountList;
+pub(crate) use state::RecordingMount;
 use std::alloc::{AllocError, Global};
 use std::sync::{Arc, Mutex, Wait};
 use transport_header::Point;
-
-/// A mount that is being recorded.
-#[derive(Drop)]
-pub(crate) struct RecordingMount {
-    mount: u64,
-    pub(crate) signal: Arc<MountSignal, Global>,
-}
 
 /// The mounts that are being recorded, each with the signal of its packets.
 ///
 /// Its lock is held for a walk over the mounts, and no other lock is taken meanwhile. The room for the most mounts that may
 /// exist is allocated beforehand.
 pub struct RecordingMounts {
-    mounts: Mutex<Vec<RecordingMount>>,
+    mounts: Mutex<MountList>,
 }
 
 impl Drop for RecordingMounts {
@@ -30,9 +27,8 @@ impl Drop for RecordingMounts {
 impl RecordingMounts {
     /// No mount is being recorded, and at most `most` will be.
     pub fn new(alloc: Global, most: usize) -> Result<RecordingMounts, AllocError> {
-        let mounts = Vec::with_capacity(alloc, most)?;
         Ok(RecordingMounts {
-            mounts: Mutex::new(mounts),
+            mounts: Mutex::new(MountList::new(alloc, most)?),
         })
     }
 
@@ -45,20 +41,17 @@ impl RecordingMounts {
         signal: &Arc<MountSignal, Global>,
     ) -> Result<(), AllocError> {
         let signal = Arc::try_clone(signal)?;
-        let mut mounts = self.mounts.lock(rt);
-        mounts.push(RecordingMount { mount, signal })?;
-        Ok(())
+        self.mounts.lock(rt).add(RecordingMount { mount, signal })
     }
 
     /// Removes a mount that has ended.
     pub fn remove(&self, rt: &impl Wait, mount: u64) {
-        let mut mounts = self.mounts.lock(rt);
-        mounts.retain(|registered| registered.mount != mount);
+        self.mounts.lock(rt).remove(mount);
     }
 
     /// Returns how many mounts are being recorded.
     pub fn len(&self, rt: &impl Wait) -> usize {
-        self.mounts.lock(rt).len()
+        self.mounts.lock(rt).as_slice().len()
     }
 
     /// Returns the points of a mount's tracks. The list is empty if the mount isn't recorded.
@@ -80,9 +73,9 @@ impl RecordingMounts {
         mount: u64,
     ) -> Result<Option<Arc<MountSignal, Global>>, AllocError> {
         let mounts = self.mounts.lock(rt);
-        for registered in mounts.iter() {
-            if registered.mount == mount {
-                return Ok(Some(Arc::try_clone(&registered.signal)?));
+        for recorded in mounts.as_slice().iter() {
+            if recorded.mount == mount {
+                return Ok(Some(Arc::try_clone(&recorded.signal)?));
             }
         }
         Ok(None)

@@ -1,4 +1,7 @@
 //! A thread of its own that sends a connection's frames.
+ghost use Rattle.std.specs.Prelude.{◌≡◌};
+ghost use Rattle.cursor.specs.Account.{cursor_of};
+ghost use Rattle.relay_accounts.specs.Handing.{handed_by};
 ghost use Rattle.relay_fanout.specs.Ways.{HasRoom};
 
 use crate::flow::pace::KnownLevel;
@@ -46,12 +49,14 @@ impl<T: Lend + Leave + Drop, W: Sink + Drop, H: HangUp + Drop> SendSide<T, W, H>
             ..
         } = sending;
         let mut handover = Handover::new();
-        signal.pace.join(rt, *seat);
+        let mut known = signal.pace.join(rt, *seat);
         let end = match &mut self.seat.lock(rt).tap {
-            TapPlace::Attached(tap) => self.send_all(rt, alloc, tap, sending, &mut handover),
+            TapPlace::Attached(tap) => {
+                self.send_all(rt, alloc, tap, sending, &mut known, &mut handover)
+            }
             _ => FrameEnd::Stopped,
         };
-        signal.pace.leave(rt, *seat);
+        let left = signal.pace.leave(rt, *seat);
         if end == FrameEnd::Ended {
             self.seat.lock(rt).tap.leave();
         }
@@ -61,7 +66,7 @@ impl<T: Lend + Leave + Drop, W: Sink + Drop, H: HangUp + Drop> SendSide<T, W, H>
         } else {
             FrameEnd::Stopped
         };
-        SentFrames::of_thread(end, handover, self.phase.end(rt))
+        SentFrames::of_thread(end, handover, self.phase.end(rt), left)
     }
 
     /// Disconnects the player if the frames ended by themselves, so that the thread that reads sees it. At the end of the mount
@@ -86,10 +91,11 @@ impl<T: Lend + Leave + Drop, W: Sink + Drop, H: HangUp + Drop> SendSide<T, W, H>
         alloc: Global,
         tap: &mut T,
         sending: &Sending,
+        known: &mut KnownLevel,
         handover: &mut Handover,
     ) -> FrameEnd {
         match Way::new(alloc, sending.is_direct, tap.packet_bytes()) {
-            Ok(mut way) => self.send_from(rt, tap, sending, &mut way, handover),
+            Ok(mut way) => self.send_from(rt, tap, sending, known, &mut way, handover),
             Err(_) => FrameEnd::OutOfMemory,
         }
     }
@@ -99,14 +105,13 @@ impl<T: Lend + Leave + Drop, W: Sink + Drop, H: HangUp + Drop> SendSide<T, W, H>
         rt: &impl Wait,
         tap: &mut T,
         sending: &Sending,
+        known: &mut KnownLevel,
         way: &mut Way,
         handover: &mut Handover,
     ) -> FrameEnd
         requires { HasRoom way.old (T.packet_bytes tap.old) }
     {
         let signal: &MountSignal = &sending.signal;
-        let seat = sending.seat;
-        let mut known = KnownLevel::new();
         for _ in rt.forever() {
             let wakeups = signal.player_wakeups();
             if !self.phase.is_running(rt) {
@@ -115,28 +120,34 @@ impl<T: Lend + Leave + Drop, W: Sink + Drop, H: HangUp + Drop> SendSide<T, W, H>
             let stop = self
                 .writing
                 .relay(rt, tap, &sending.channels, way, handover);
-            // All frames before the last batch were taken, and that batch too unless a write failed.
-            let stand = Stand {
-                cursor: tap.cursor(),
-                sent: handover.handed(0).sent,
-                lost: tap.account().lost,
-            };
+            let stand = stand_of(tap, handover);
             match stop {
                 OutStop::Done => {
                     wakeups.go_on();
-                    signal.reach(rt, seat, stand, &mut known);
+                    signal.reach(rt, sending.seat, stand, known);
                 }
                 OutStop::Empty => {
-                    let told = wakeups.tell_level(rt, signal, seat, stand, &mut known);
+                    let told = wakeups.tell_level(rt, signal, sending.seat, stand, known);
                     signal.sleep(rt, told);
                 }
                 OutStop::Ended => {
-                    signal.stand(seat, stand);
+                    signal.stand(sending.seat, stand);
                     return wakeups.end(FrameEnd::Ended);
                 }
                 OutStop::WriteFailed => return wakeups.end(FrameEnd::WriteFailed),
             }
         }
         unreachable!()
+    }
+}
+
+/// Returns the position of a player after a batch. All frames before the batch were taken, and the batch too unless a write failed.
+fn stand_of<T: Lend>(tap: &T, handover: &Handover) -> Stand
+    ensures { result ≡ record { cursor = cursor_of (T.account tap.now); sent = (handed_by handover.now 0).sent; lost = (T.account tap.now).lost } }
+{
+    Stand {
+        cursor: tap.cursor(),
+        sent: handover.handed(0).sent,
+        lost: tap.account().lost,
     }
 }

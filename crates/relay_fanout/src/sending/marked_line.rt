@@ -3,7 +3,7 @@
 ghost use Rattle.std.specs.Prelude.{◌≡◌};
 ghost use Rattle.waking.specs.PlayerStates.{next_skipped, player_skipped};
 
-use crate::sending::gather::Line;
+use crate::sending::batch::Line;
 use interleaved::Sink;
 use std::sync::atomic::{AtomicBool, Ordering};
 use std::sync::{Mutex, MutexGuard, Wait};

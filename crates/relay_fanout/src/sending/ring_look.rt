@@ -8,7 +8,7 @@ ghost use Rattle.relay_fanout.specs.RingLooks.{unless_empty};
 use crate::flow::pace::KnownLevel;
 use crate::mount::mount_signal::{MountSignal, Stand};
 use crate::reading::Reading;
-use crate::sending::gather::Line;
+use crate::sending::batch::Line;
 use crate::sending::marked_line::LineSkipped;
 use crate::sending::writing_side::WritingSide;
 use crate::wake::wake_word::WakeWord;

@@ -1,4 +1,5 @@
 //! The send side of a connection.
+use crate::mount::attached_tap::AttachedTap;
 use crate::mount::leave::Leave;
 use crate::mount::mount_signal::MountSignal;
 use crate::net::hang_up::HangUp;
@@ -116,8 +117,8 @@ impl<T: Lend + Leave + Drop, W: Sink + Drop, H: HangUp + Drop> SendSide<T, W, H>
         let is_attached = matches!(self.seat.lock(rt).tap, TapPlace::Attached(_));
         let mut player = None;
         if is_attached {
-            signal.pace.join(rt, seat);
-            player = Some(WriterPlayer::new(number, signal, seat, channels, after_end));
+            let known = signal.pace.join(rt, seat);
+            player = Some(WriterPlayer::new(number, signal, seat, known, channels, after_end));
         }
         PutIn::new(rt, &self.seat, number, player)
     }
@@ -132,9 +133,9 @@ impl<T: Lend + Leave + Drop, W: Sink + Drop, H: HangUp + Drop> SendSide<T, W, H>
     }
 
     /// Puts a tap in, which a frame thread or a writer will take from.
-    pub fn put(&self, rt: &impl Wait, tap: T) {
+    pub fn put(&self, rt: &impl Wait, tap: AttachedTap<T>) {
         self.phase.begin(rt);
-        self.seat.lock(rt).tap = TapPlace::Attached(tap);
+        self.seat.lock(rt).tap = TapPlace::Attached(tap.into_tap());
     }
 
     /// Takes the tap out. No frame thread runs.

@@ -3,6 +3,7 @@ ghost use Rattle.std.specs.Prelude.{◌≡◌, []};
 ghost use Rattle.relay_accounts.specs.declared.ending.FrameEnd.TheVariants.{Stopped};
 ghost use Rattle.relay_fanout.specs.FrameEnds.{frame_end_of};
 
+use crate::flow::round_change::LeftPace;
 use crate::sending::phase::EndTold;
 use relay_accounts::{FrameEnd, Handover};
 use waking::{Ending, Failure};
@@ -33,8 +34,13 @@ impl SentFrames {
         }
     }
 
-    /// Of a frame thread, whose end was told.
-    pub(super) fn of_thread(end: FrameEnd, handover: Handover, told: EndTold) -> SentFrames
+    /// Of a frame thread, whose end was told, and whose player has left the pace.
+    pub(super) fn of_thread(
+        end: FrameEnd,
+        handover: Handover,
+        told: EndTold,
+        _left: LeftPace,
+    ) -> SentFrames
         ensures end { result.end ≡ end }
         ensures handover { result.handover ≡ handover }
     {
@@ -46,8 +52,12 @@ impl SentFrames {
         }
     }
 
-    /// Of a writer's player, whose frames had ended so when it was stopped.
-    pub(super) fn of_player(ending: Option<Ending>, handover: Handover) -> SentFrames
+    /// Of a writer's player that has left the pace, whose frames had ended so when it was stopped.
+    pub(super) fn of_player(
+        ending: Option<Ending>,
+        handover: Handover,
+        _left: LeftPace,
+    ) -> SentFrames
         ensures end { result.end ≡ frame_end_of ending }
         ensures handover { result.handover ≡ handover }
     {

@@ -1,8 +1,9 @@
 //! A player whose frames a writer sends.
-ghost use Rattle.std.specs.Prelude.{◌≡◌};
+ghost use Rattle.std.specs.Prelude.{◌≡◌, IsNone, IsSome, None, true, false};
 ghost use Rattle.waking.specs.PlayerStates.{comer};
 
 use crate::flow::pace::KnownLevel;
+use crate::flow::round_change::LeftPace;
 use crate::mount::leave::Leave;
 use crate::mount::mount_signal::MountSignal;
 use crate::net::hang_up::HangUp;
@@ -24,22 +25,26 @@ pub(crate) struct WriterPlayer {
     pub(super) seat: usize,
     pub(super) channels: TrackChannels,
     pub(super) known: KnownLevel,
+    /// That it has left its mount's pace, if it has.
+    left: Option<LeftPace>,
     /// What its writer decides of it.
     pub(super) state: PlayerState,
 }
 
 impl WriterPlayer {
-    /// It has taken nothing yet, and its mount's pace knows of it. `after_end` is for how many milliseconds the connection may stay
+    /// It has taken nothing yet, and has joined its mount's pace. `after_end` is for how many milliseconds the connection may stay
     /// after its mount has ended and all was sent, `None` for ever.
     pub(crate) fn new(
         number: u64,
         signal: Arc<MountSignal, Global>,
         seat: usize,
+        known: KnownLevel,
         channels: TrackChannels,
         after_end: Option<u64>,
     ) -> WriterPlayer
         ensures seat { (result.number ≡ number) × (result.signal ≡ signal) × (result.seat ≡ seat) × (result.channels ≡ channels) }
         ensures comes { result.state ≡ comer after_end }
+        ensures paced { (result.known ≡ known) × IsNone result.left }
     {
         WriterPlayer {
             number,
@@ -47,7 +52,8 @@ impl WriterPlayer {
             signal,
             seat,
             channels,
-            known: KnownLevel::new(),
+            known,
+            left: None,
             state: PlayerState::new(after_end),
         }
     }
@@ -62,18 +68,21 @@ impl WriterPlayer {
     /// Returns how its frames ended: `Stopped` if they hadn't, or if the last of them weren't written. No publisher waits for it any
     /// more.
     pub(crate) fn stop(self, rt: &impl Wait) -> SentFrames {
-        if self.state.is_paced {
-            self.signal.pace.leave(rt, self.seat);
-        }
+        let left = match self.left {
+            Some(left) => left,
+            None => self.signal.pace.leave(rt, self.seat),
+        };
         let ending = self.state.written_ending();
         let WriterPlayer { handover, .. } = self;
-        SentFrames::of_player(ending, handover)
+        SentFrames::of_player(ending, handover, left)
     }
 
     /// Its socket has taken all that waited: a publisher may wait for it again, once it has taken all.
-    pub(super) fn come_back(&mut self, rt: &impl Wait) {
-        self.known = KnownLevel::new();
-        self.signal.pace.join(rt, self.seat);
+    pub(super) fn come_back(&mut self, rt: &impl Wait)
+        ensures joined { (self.new.known ≡ record { at = None }) × IsNone self.new.left }
+    {
+        self.known = self.signal.pace.join(rt, self.seat);
+        self.left = None;
     }
 
     /// Carries out what was decided after a look, but for what needs the line.
@@ -83,9 +92,12 @@ impl WriterPlayer {
         tap: &mut TapPlace<T>,
         shutdown: &impl HangUp,
         after: After,
-    ) {
+    )
+        ensures leaves { after.leaves_pace ≡ true → IsSome self.new.left }
+        ensures stays { after.leaves_pace ≡ false → self.new.left ≡ self.old.left }
+    {
         if after.leaves_pace {
-            self.signal.pace.leave(rt, self.seat);
+            self.left = Some(self.signal.pace.leave(rt, self.seat));
         }
         if after.leaves_tap {
             tap.leave();

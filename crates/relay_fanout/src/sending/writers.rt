@@ -11,13 +11,13 @@ use crate::sending::send_side::SendSide;
 use crate::sending::sweeping::{Found, Share, Sweeping, Swept};
 use crate::sending::waits::Waits;
 use crate::steady_clock::SteadyClock;
+use crate::wake::end_flag::EndFlag;
 use crate::wake::wake_signal::WakeSignal;
 use crate::wake::writers_word::{Awake, WordRead};
 use cursor::Tap;
 use interleaved::{Sink, TrySink};
 use std::alloc::{AllocError, Global};
 use std::marker::Model;
-use std::sync::atomic::{AtomicBool, Ordering};
 use std::sync::{Arc, Mutex, Wait};
 use std::time::Clock;
 
@@ -28,7 +28,7 @@ use std::time::Clock;
 pub struct Writers<T, W: Sink, H> {
     lists: Vec<WriterList<T, W, H>>,
     wake_signal: Arc<WakeSignal, Global>,
-    stopped: AtomicBool,
+    stopped: EndFlag,
     waits: Waits,
 }
 
@@ -102,7 +102,7 @@ impl<T: Drop, W: Sink + Drop, H: Drop> Writers<T, W, H> {
         Ok(Writers {
             lists,
             wake_signal,
-            stopped: AtomicBool::new(false),
+            stopped: EndFlag::new(),
             waits,
         })
     }
@@ -163,13 +163,12 @@ impl<T: Drop, W: Sink + Drop, H: Drop> Writers<T, W, H> {
 
     /// Ends the writers.
     pub fn stop(&self) {
-        self.stopped.store(true, Ordering::SeqCst);
-        self.wake_signal.writers.raise();
+        self.stopped.set().raise(&self.wake_signal.writers);
     }
 
     /// Returns whether the writers are to end, after the word was read: a stop after this ends the sleep.
     fn is_stopped(&self, _read: &WordRead) -> bool {
-        self.stopped.load(Ordering::SeqCst)
+        self.stopped.is_set()
     }
 }
 

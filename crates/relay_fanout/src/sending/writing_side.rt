@@ -4,8 +4,9 @@ ghost use Rattle.relay_fanout.specs.Ways.{HasRoom};
 
 use crate::limits::GATHERED;
 use crate::net::hang_up::HangUp;
+use crate::sending::batch::Line;
 use crate::sending::counted::Counted;
-use crate::sending::gather::{Line, gather, gather_held};
+use crate::sending::gather::{gather, gather_held};
 use crate::sending::marked_line::{LineSkipped, MarkedLine};
 use crate::sending::way::Way;
 use cursor::Lend;

@@ -2,9 +2,10 @@
 use crate::limits::BURST;
 use crate::mount::marks::Counted;
 use crate::mount::recording_mounts::RecordingMount;
+use crate::wake::end_flag::EndFlag;
 use crate::wake::writers_word::WritersWord;
 use std::sync::Wait;
-use std::sync::atomic::{AtomicBool, AtomicU64, Ordering};
+use std::sync::atomic::{AtomicU64, Ordering};
 use std::thread;
 use std::time::{Clock, Duration};
 
@@ -22,7 +23,7 @@ const URGENT: u64 = 2;
 pub struct WakeSignal {
     /// `QUIET`, `NOTIFIED` or `URGENT`.
     state: AtomicU64,
-    stopped: AtomicBool,
+    stopped: EndFlag,
     /// What writers sleep on.
     pub(crate) writers: WritersWord,
 }
@@ -46,7 +47,7 @@ impl WakeSignal {
     pub fn new() -> WakeSignal {
         WakeSignal {
             state: AtomicU64::new(QUIET),
-            stopped: AtomicBool::new(false),
+            stopped: EndFlag::new(),
             writers: WritersWord::new(),
         }
     }
@@ -72,8 +73,7 @@ impl WakeSignal {
 
     /// Ends the waking thread.
     pub fn stop(&self) {
-        self.stopped.store(true, Ordering::SeqCst);
-        self.notify();
+        self.stopped.set().notify(self);
     }
 
     /// Sleeps until it is notified.
@@ -109,7 +109,7 @@ impl WakeSignal {
     /// Returns whether the waking thread is to end. A stop before the signal was cleared is seen here, and one after it notifies.
     pub(super) fn is_stopped(&self, raised: Raised) -> bool {
         let Raised(()) = raised;
-        self.stopped.load(Ordering::SeqCst)
+        self.stopped.is_set()
     }
 }
 

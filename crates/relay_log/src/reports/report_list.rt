@@ -1,5 +1,6 @@
 //! What reports know of mounts and players, and the lines of a report.
-ghost use Rattle.std.specs.Prelude.{◌≡◌, ◌∷◌, [], ◌++◌, OnOk, OnErr};
+ghost use Rattle.std.specs.Prelude.{◌≡◌, ◌↔◌, ◌<◌, ◌∷◌, [], ◌++◌, IsTrue, OnOk, OnErr};
+ghost use Rattle.relay_log.specs.Leaving.{players_of, recorded_in, seated_in};
 
 use crate::limits::REPORT_LINES;
 use crate::lines::Lines;
@@ -55,32 +56,44 @@ impl List {
         Ok(())
     }
 
-    /// Ends a mount. It stays in the list until it is reported, if packets came since its last report.
-    pub(super) fn end_mount(&mut self, rt: &impl Wait, conn: u64) {
+    /// Ends a mount. It stays in the list until it is reported, if packets came since its last report and fewer than 100 others
+    /// wait.
+    pub(super) fn end_mount(&mut self, rt: &impl Wait, conn: u64)
+        ensures players { self.new.players ≡ self.old.players }
+    {
+        let Some(place) = recorded_at(self.mounts.as_slice(), conn) else {
+            return;
+        };
         let ended = self.mounts.iter().filter(|mount| mount.has_ended).count();
-        self.mounts.retain_mut(|mount| {
-            if mount.conn != conn || mount.has_ended {
-                return true;
-            }
+        let mount = &mut self.mounts[place];
+        let has_news = !mount.signal.tally(rt).since(&mount.told).is_nothing();
+        if may_wait(has_news, ended) {
             mount.has_ended = true;
-            ended < REPORT_LINES && !mount.signal.tally(rt).since(&mount.told).is_nothing()
-        });
+        } else {
+            self.mounts.remove(place);
+        }
     }
 
-    /// A player leaves. It stays in the list until it is reported, if it has lost packets since its last report.
-    pub(super) fn leave(&mut self, conn: u64, left: PlayerTold) {
+    /// A player leaves. It stays in the list until it is reported, if it has lost packets since its last report and fewer than 100
+    /// others wait.
+    pub(super) fn leave(&mut self, conn: u64, left: PlayerTold)
+        ensures mounts { self.new.mounts ≡ self.old.mounts }
+    {
+        let Some(place) = seated_at(self.players.as_slice(), conn) else {
+            return;
+        };
         let gone = self
             .players
             .iter()
             .filter(|player| player.left.is_some())
             .count();
-        self.players.retain_mut(|player| {
-            if player.conn != conn || player.left.is_some() {
-                return true;
-            }
+        let player = &mut self.players[place];
+        let has_lost = left.lost > player.told.lost;
+        if may_wait(has_lost, gone) {
             player.left = Some(left);
-            gone < REPORT_LINES && left.lost > player.told.lost
-        });
+        } else {
+            self.players.remove(place);
+        }
     }
 
     /// Returns the figures of each mount and each player at this moment, in the order of the lists.
@@ -93,11 +106,7 @@ impl List {
     ) -> Result<Snapshot, AllocError> {
         let mut snapshot = Snapshot::new(alloc);
         for mount in &self.mounts {
-            let players = self
-                .players
-                .iter()
-                .filter(|player| player.mount == mount.number && player.left.is_none())
-                .count();
+            let players = count_players_of(self.players.as_slice(), mount.number);
             snapshot
                 .mounts
                 .push(mount.status(rt, alloc, players, now)?)?;
@@ -127,10 +136,7 @@ impl List {
         told: &mut Told,
     ) {
         for (mount, status) in self.mounts.iter_mut().zip(&snapshot.mounts) {
-            let since = status.tally.since(&mount.told);
-            let is_told = !mount.has_ended || !since.is_nothing();
-            if is_told && told.has_room() {
-                mount.told = status.tally;
+            if let Some(since) = mount.tell(status, told) {
                 let line = MountLine { status, since };
                 info!(lines; target: TARGET, "{line}");
             }
@@ -165,4 +171,40 @@ impl List {
                 .is_some_and(|left| left.lost <= player.told.lost)
         });
     }
+}
+
+/// Returns whether a mount that ends or a player that leaves waits to be reported, beside so many that wait: there is something to
+/// report of it, and fewer than 100 wait.
+fn may_wait(has_news: bool, waiting: usize) -> bool
+    ensures { IsTrue result ↔ (IsTrue has_news × (waiting < 100)) }
+{
+    has_news && waiting < REPORT_LINES
+}
+
+/// Returns the place of the mount that a connection records. `None` if it records none.
+fn recorded_at(mounts: &[Mount], conn: u64) -> Option<usize>
+    ensures { result ≡ recorded_in conn mounts.now }
+{
+    mounts
+        .iter()
+        .position(|mount| mount.conn == conn && !mount.has_ended)
+}
+
+/// Returns the place of the player of a connection that has its seat. `None` if there is none.
+fn seated_at(players: &[Player], conn: u64) -> Option<usize>
+    ensures { result ≡ seated_in conn players.now }
+{
+    players
+        .iter()
+        .position(|player| player.conn == conn && player.left.is_none())
+}
+
+/// Returns how many players have a seat of the mount of this number.
+fn count_players_of(players: &[Player], mount: u64) -> usize
+    ensures { result ≡ players_of mount players.now }
+{
+    players
+        .iter()
+        .filter(|player| player.mount == mount && player.left.is_none())
+        .count()
 }

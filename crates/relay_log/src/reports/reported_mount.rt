@@ -1,7 +1,8 @@
 //! The mounts of reports.
-ghost use Rattle.std.specs.Prelude.{◌≡◌, false, IfOk};
+ghost use Rattle.std.specs.Prelude.{◌≡◌, ◌<◌, false, IfOk, IfNone, IfSome, IsSome};
 ghost use Rattle.relay_accounts.specs.Reporting.{nothing_published};
 
+use crate::reports::told::Told;
 use base_syntax::Bytes;
 use relay_accounts::MountTally;
 use relay_fanout::MountSignal;
@@ -86,5 +87,22 @@ impl Mount {
             tally: self.signal.tally(rt),
             silence: now.saturating_sub(self.signal.last_packet(rt)),
         })
+    }
+
+    /// Returns what came since its last line, if it has a line in this report: it goes on or something came, and there is room.
+    /// That is then reported; what finds no room is in the next report.
+    pub(super) fn tell(&mut self, status: &MountStatus, told: &mut Told) -> Option<MountTally>
+        ensures left_out { IfNone result (self.new ≡ self.old) }
+        ensures room { IfSome result (λ since. told.old.lines < 100) }
+        ensures reported { IfSome result (λ since. self.new ≡ record self.old { told = status.now.tally }) }
+        ensures goes_on { self.old.has_ended ≡ false → told.old.lines < 100 → IsSome result }
+    {
+        let since = status.tally.since(&self.told);
+        let has_line = !self.has_ended || !since.is_nothing();
+        if !has_line || !told.has_room() {
+            return None;
+        }
+        self.told = status.tally;
+        Some(since)
     }
 }

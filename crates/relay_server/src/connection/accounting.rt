@@ -18,6 +18,11 @@ pub(super) struct LeftSeat {
     handover: Handover,
 }
 
+/// A seat's player was taken off the reports. Nothing else makes it, so that the seat goes back to the book, where another player
+/// may take it, after that.
+#[derive(Drop)]
+pub(super) struct SeatLeft(());
+
 impl<R, M, V, G, W, H, N> Connection<R, M, V, G, W, H, N>
 where
     R: Threads + Wait + Clock + Copy + Send + 'static,
@@ -30,7 +35,7 @@ where
     N: Moments + Drop,
 {
     /// A seat was left. Its account closes when none of its frames waits for the socket: the next reply is written after them.
-    pub(super) fn leave_seat(&mut self, seat: usize, left: Left, handover: Handover) {
+    pub(super) fn leave_seat(&mut self, seat: usize, left: Left, handover: Handover) -> SeatLeft {
         let taken = self.player.writing.taken(&self.rt);
         let handed = handover.handed(taken);
         let waits = handed != handover.handed(u64::MAX);
@@ -45,6 +50,7 @@ where
         if !waits {
             self.settle_seat();
         }
+        SeatLeft(())
     }
 
     /// Closes the account of the seat that was left last, by what the socket has taken by now, and logs it.

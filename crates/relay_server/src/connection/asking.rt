@@ -1,34 +1,22 @@
 //! How a connection's requests are decided.
-ghost use Rattle.std.specs.Prelude.{◌≡◌, IfSome};
+ghost use Rattle.std.specs.Prelude.{◌≡◌};
 
+use crate::connection::asked::Asked;
 use crate::connection::frame_notes::{FrameNotes, Publishing};
 use crate::connection::serving::Connection;
-use crate::connection::session_snapshot::SessionSnapshot;
 use crate::listen::gate::Gate;
-use base_syntax::{Bytes, Items};
+use base_syntax::Items;
 use interleaved::Sink;
 use pacing::Back;
-use relay_accounts::Part;
 use relay_fanout::{Busy, HangUp, Maker, MountFeed, MountSignal, Offer, Seat, WakeSignal};
 use rtsp_message::Request;
-use session_lock::{Answer, AskFault, Copies};
-use session_state::{Given, Method, Moments, Session, Words, read_method};
+use session_lock::{Answer, Copies, Retired};
+use session_state::{Given, Method, Moments, Words, read_method};
 use std::alloc::{AllocError, Global};
 use std::sync::{Arc, Wait};
 use std::thread::Threads;
 use std::time::Clock;
 use transport_header::Point;
-
-/// The part that a session has in its mount.
-fn part_of(alloc: Global, session: &Session) -> Option<Part>
-    ensures { IfSome result (λ part. (part.name ≡ session.now.name) × (part.publishes ≡ session.now.recording)) }
-{
-    let name = Bytes::from_slice(alloc, session.name.as_slice()).ok()?;
-    Some(Part {
-        name,
-        publishes: session.recording,
-    })
-}
 
 /// The book has no answer, or there was no memory or no offer to ask it with.
 #[derive(Debug, Drop)]
@@ -51,7 +39,7 @@ impl From<Busy> for NoAnswer {
 }
 
 /// An answer, and with an ANNOUNCE the feed of the mount that it has opened.
-pub(super) type Asked<R, M> = (
+pub(super) type Answered<R, M> = (
     Answer<Seat<<M as Maker>::Pass>>,
     Option<Publishing<R, MountFeed<R, <M as Maker>::In>>>,
 );
@@ -68,7 +56,7 @@ where
     N: Moments + Drop,
 {
     /// Has the book decide a request that comes at this moment. With an ANNOUNCE that is accepted comes the feed of its mount.
-    pub(super) fn ask(&mut self, request: &Request, now: u64) -> Result<Asked<R, M>, NoAnswer> {
+    pub(super) fn ask(&mut self, request: &Request, now: u64) -> Result<Answered<R, M>, NoAnswer> {
         let rt = self.rt;
         self.shared.gate.pass(self.conn, self.turns);
         self.turns = self.turns.saturating_add(1);
@@ -91,7 +79,11 @@ where
     }
 
     /// Asks with nothing offered.
-    fn ask_plainly(&mut self, request: &Request, given: &Given) -> Result<Asked<R, M>, NoAnswer> {
+    fn ask_plainly(
+        &mut self,
+        request: &Request,
+        given: &Given,
+    ) -> Result<Answered<R, M>, NoAnswer> {
         match self.ask_book(request, given, None) {
             Ok(answer) => Ok((answer, None)),
             Err(_) => Err(NoAnswer),
@@ -103,7 +95,7 @@ where
         &mut self,
         request: &Request,
         given: &Given,
-    ) -> Result<Asked<R, M>, NoAnswer> {
+    ) -> Result<Answered<R, M>, NoAnswer> {
         let wake_signal = Arc::try_clone(&self.shared.wake_signal)?;
         let watch = Arc::try_clone(self.clock.watch())?;
         let Offer {
@@ -192,29 +184,28 @@ where
         let Ok(copies) = Copies::of(self.alloc, request, given) else {
             return Err(offer);
         };
-        let mut book = self.shared.book.lock(&self.rt);
-        let asked = book.ask_copied(self.conn, copies, offer);
-        let session = book.session_of(self.conn);
-        let begins = match (&self.session, session) {
-            (None, Some(session)) => Some(part_of(self.alloc, session)),
-            _ => None,
-        };
-        self.session = session.map(SessionSnapshot::of);
-        let retired = book.retired();
-        drop(book);
-        // Without the lock: it may be the last to hold the descriptions of many mounts that have ended.
+        let (asked, retired) = self.ask_locked(copies, offer);
+        // It may be the last to hold the descriptions of many mounts that have ended.
         drop(retired);
-        if let Some(part) = begins {
-            self.begin_account(part);
-        }
-        match asked {
-            Ok(answer) => Ok(answer),
-            Err(
-                AskFault::NotOpen { back }
-                | AskFault::BadOffer { back }
-                | AskFault::NoMemory { back },
-            ) => Err(back),
-        }
+        self.note_asked(asked)
+    }
+
+    /// Asks the book under its lock, which is free when this returns: so what the book has cut off is dropped without it.
+    fn ask_locked(
+        &self,
+        copies: Copies,
+        offer: Option<Vec<Seat<M::Pass>>>,
+    ) -> (Asked<Seat<M::Pass>>, Option<Retired>) {
+        let mut book = self.shared.book.lock(&self.rt);
+        let asked = Asked::ask(
+            &mut book,
+            self.alloc,
+            self.conn,
+            copies,
+            offer,
+            &self.session,
+        );
+        (asked, book.retired())
     }
 
     /// The points of the tracks of the session's mount: none if players begin with packets from before.

@@ -1,8 +1,8 @@
 //! Carries out an answer of the book: what its request begins or ends.
 use crate::connection::frame_notes::Publishing;
+use crate::connection::replying::ReplyWritten;
 use crate::connection::serving::Connection;
 use crate::listen::gate::Gate;
-use cursor::Tap;
 use interleaved::Sink;
 use pacing::Back;
 use relay_accounts::ConnectionEnd;
@@ -52,29 +52,24 @@ where
 
     /// Writes a reply, after what its request begins or ends for others and before the frames of a PLAY.
     fn reply_to(&mut self, act: Act, reply: &Reply) -> Result<(), ConnectionEnd> {
-        match act {
-            Act::Record => self.record(),
-            Act::Stop { .. } => self.stop_playing()?,
-            Act::End => self.end_mount(),
-            Act::None | Act::Open | Act::Play { .. } => {}
-        }
+        let done = self.act(act)?;
         let has_ended = self.session.is_none();
         if has_ended && self.left.is_none() {
             self.close_account();
         }
-        let written = self.write_reply(reply);
+        let written = self.write_reply(reply, done);
         if has_ended {
             self.close_account();
         }
-        written?;
+        let written = written?;
         match act {
-            Act::Play { .. } => self.start_frames(),
+            Act::Play { .. } => self.start_frames(written),
             _ => Ok(()),
         }
     }
 
     /// The mount is among those that are recorded from its first RECORD on.
-    fn record(&mut self) {
+    pub(super) fn record(&mut self) {
         let now = self.clock.watch().heard.now();
         let (Some(publishing), Some(session)) = (&mut self.publishing, &self.session) else {
             return;
@@ -107,8 +102,8 @@ where
         self.is_over = false;
         let back = self.packets_back(&signal);
         let tap = self.shared.maker.attach(pass, back);
-        signal.attached(seat, tap.cursor());
-        self.player.put(&self.rt, tap);
+        let attached = signal.attached(seat, tap);
+        self.player.put(&self.rt, attached);
         self.events
             .plays(&self.rt, self.alloc, mount, &self.part, seat, &signal);
         self.frames = Some(SeatHold::new(mount, seat, signal));
@@ -131,7 +126,8 @@ where
         start.packets
     }
 
-    fn start_frames(&mut self) -> Result<(), ConnectionEnd> {
+    /// Starts the frames of a PLAY, whose reply was written.
+    fn start_frames(&mut self, _written: ReplyWritten) -> Result<(), ConnectionEnd> {
         let (Some(frames), Some(session)) = (&mut self.frames, &self.session) else {
             return Ok(());
         };

@@ -1,4 +1,5 @@
 //! How the frames of a player stop, and its seat is given back.
+use crate::connection::accounting::SeatLeft;
 use crate::connection::serving::Connection;
 use crate::limits::STALLED;
 use crate::listen::gate::Gate;
@@ -64,7 +65,9 @@ where
         match self.player.take(&self.rt) {
             TapPlace::Attached(tap) => self.give_back(tap, frames, handover),
             // The mount has ended: its seats have no owner any more.
-            TapPlace::Left(left) => self.leave_seat(frames.seat(), left, handover),
+            TapPlace::Left(left) => {
+                self.leave_seat(frames.seat(), left, handover);
+            }
             TapPlace::Nowhere => {}
         }
         end
@@ -74,11 +77,24 @@ where
     fn give_back(&mut self, tap: M::Out, frames: SeatHold, handover: Handover) {
         let (pass, left) = self.shared.maker.detach(tap);
         let (mount, seat, signal) = frames.into_seat();
-        self.leave_seat(seat, left, handover);
-        let mut book = self.shared.book.lock(&self.rt);
-        let returned = book.give_back(mount, seat, Seat { pass, signal });
-        // If the mount has ended, the pass comes back, and its ring may be freed with it. That isn't done under the lock.
-        drop(book);
+        let gone = self.leave_seat(seat, left, handover);
+        let returned = self.give_back_to_book(mount, seat, Seat { pass, signal }, gone);
+        // If the mount has ended its ring may be freed with it.
         drop(returned);
+    }
+
+    /// Gives a seat back under the book's lock, which is free when this returns. A seat of a mount that has ended comes back, and is
+    /// dropped without the lock.
+    fn give_back_to_book(
+        &self,
+        mount: u64,
+        seat: usize,
+        taken: Seat<M::Pass>,
+        _gone: SeatLeft,
+    ) -> Option<Seat<M::Pass>> {
+        self.shared
+            .book
+            .lock(&self.rt)
+            .give_back(mount, seat, taken)
     }
 }

@@ -2,12 +2,15 @@
 ghost use Rattle.std.specs.Prelude.{◌↔◌, IsSomeAnd, IsTrue};
 ghost use Rattle.relay_fanout.specs.SeatHolds.{HasThread};
 
+use crate::connection::closing_reads::ClosingReads;
+use crate::connection::end_rules::{failure_of, has_last_text};
+use crate::connection::limited_waits::LimitedWaits;
 use crate::connection::serving::Connection;
-use crate::limits::{AFTER_TEXT, LAST_READS};
+use crate::limits::AFTER_TEXT;
 use crate::listen::gate::Gate;
 use interleaved::{Sink, Source};
-use relay_accounts::{ConnectionEnd, WireFailure, end_by, end_of};
-use relay_fanout::{HangUp, Maker, close_behind_text};
+use relay_accounts::{ConnectionEnd, end_by, end_of};
+use relay_fanout::{HangUp, Maker};
 use rtsp_message::Status;
 use session_state::{Act, Moments, Words};
 use std::sync::Wait;
@@ -30,8 +33,8 @@ where
     pub(super) fn write_last(&mut self, status: Status) {
         self.stop_frames(Duration::from_millis(AFTER_TEXT));
         let _ = self.detach();
-        self.player.shutdown.limit_waits(AFTER_TEXT);
-        let _ = self.write_plain(status, None);
+        let limited = LimitedWaits::of(&self.player.shutdown);
+        self.write_last_text(status, limited);
     }
 
     /// Whether a thread of its own sends its frames.
@@ -53,11 +56,7 @@ where
     ) -> ConnectionEnd {
         let act = self.shared.book.lock(&self.rt).hangup(self.conn);
         self.rights.leave_mount(&self.rt);
-        let has_last_text = self.is_stranded && end == ConnectionEnd::Expired
-            || matches!(
-                end,
-                ConnectionEnd::StreamFault(_) | ConnectionEnd::OutOfMemory
-            );
+        let has_last_text = has_last_text(self.is_stranded, end);
         let was_sent_frames = self.frames.is_some();
         self.player.phase.stop(&self.rt);
         // A frame thread may wait for a peer that stops reading; a writer waits for none, and mustn't find it disconnected.
@@ -74,13 +73,9 @@ where
             self.end_mount();
         }
         if has_last_text {
-            self.clock.watch().close();
-            close_behind_text(&self.player.shutdown, source, LAST_READS, AFTER_TEXT);
+            ClosingReads::of(self.clock.watch()).close_behind(&self.player.shutdown, source);
         }
-        let failure = match self.player.shutdown.failure() {
-            Some(WireFailure::Reset) if !was_sent_frames => None,
-            failure => failure,
-        };
+        let failure = failure_of(self.player.shutdown.failure(), was_sent_frames);
         end_by(end_of(end, sent, self.is_over), failure)
     }
 }

@@ -1,7 +1,7 @@
 //! For how long a peer may be silent.
 ghost use Rattle.std.specs.Prelude.{◌≡◌, ◌↔◌, None, Some, IsTrue};
 ghost use Rattle.relay_accounts.specs.declared.ending.ConnectionEnd.TheVariants.{Idle, NotSetUp, Silent};
-ghost use Rattle.relay_server.specs.Silences.{IsIdle, IsNotSetUp, IsOver, IsTooSilent};
+ghost use Rattle.relay_server.specs.QuietTimes.{IsIdle, IsNotSetUp, IsOver, IsTooSilent};
 
 use relay_accounts::ConnectionEnd;
 
@@ -18,7 +18,7 @@ pub struct IdlePolicy {
 
 /// A connection whose session hasn't expired, at a check.
 #[derive(Clone, Copy, Debug, Drop)]
-pub(super) struct Silence {
+pub(super) struct QuietTime {
     /// For how many milliseconds no whole message or frame of it came.
     pub(super) time: u64,
     /// Whether it announced a mount and has set up no track of it for as long as it may.
@@ -30,17 +30,17 @@ pub(super) struct Silence {
 
 impl IdlePolicy {
     /// Returns how its silence ends a connection, if it does.
-    pub(super) fn end_of(&self, silence: Silence) -> Option<ConnectionEnd>
-        ensures not_set_up { IsNotSetUp silence → result ≡ Some NotSetUp }
-        ensures silent { IsTooSilent self.now silence → result ≡ Some Silent }
-        ensures idle { IsIdle self.now silence → result ≡ Some Idle }
-        ensures stays { (IsNotSetUp silence → ⊥) → (IsTooSilent self.now silence → ⊥) → (IsIdle self.now silence → ⊥) → result ≡ None }
+    pub(super) fn end_of(&self, quiet: QuietTime) -> Option<ConnectionEnd>
+        ensures not_set_up { IsNotSetUp quiet → result ≡ Some NotSetUp }
+        ensures silent { IsTooSilent self.now quiet → result ≡ Some Silent }
+        ensures idle { IsIdle self.now quiet → result ≡ Some Idle }
+        ensures stays { (IsNotSetUp quiet → ⊥) → (IsTooSilent self.now quiet → ⊥) → (IsIdle self.now quiet → ⊥) → result ≡ None }
     {
-        if silence.is_unset {
+        if quiet.is_unset {
             Some(ConnectionEnd::NotSetUp)
-        } else if silence.is_recording && is_over(self.silent, silence.time) {
+        } else if quiet.is_recording && is_over(self.silent, quiet.time) {
             Some(ConnectionEnd::Silent)
-        } else if !silence.has_session && is_over(self.idle, silence.time) {
+        } else if !quiet.has_session && is_over(self.idle, quiet.time) {
             Some(ConnectionEnd::Idle)
         } else {
             None

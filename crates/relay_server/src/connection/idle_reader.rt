@@ -4,7 +4,7 @@ ghost use Rattle.std.specs.IoError.{error_kind};
 ghost use Rattle.std.specs.declared.io.ErrorKind.TheVariants.{WouldBlock};
 
 use crate::connection::connection_clock::ConnectionClock;
-use crate::connection::idle_policy::{IdlePolicy, Silence};
+use crate::connection::idle_policy::{IdlePolicy, QuietTime};
 use crate::connection::server_book::SharedBook;
 use crate::limits::SETUP_WAIT;
 use pacing::ReadRate;
@@ -109,7 +109,7 @@ impl<R: Wait, P: Drop, N: Moments + Drop, S> IdleReader<R, P, N, S> {
         }
         let has_session = book.session_of(self.conn).is_some();
         drop(book);
-        self.idle_policy.end_of(Silence {
+        self.idle_policy.end_of(QuietTime {
             time: now.saturating_sub(last),
             is_unset: watch.is_unset(now, SETUP_WAIT),
             is_recording: watch.is_recording(),

@@ -1,15 +1,16 @@
 //! What the thread of a connection does.
+use crate::connection::closing_reads::ClosingReads;
 use crate::connection::connection_clock::{ConnectionClock, Watch};
 use crate::connection::outgoing::Outgoing;
 use crate::connection::serving::Connection;
 use crate::connection::shared::Shared;
-use crate::limits::{AFTER_TEXT, LAST_READS, SETUP_WAIT};
+use crate::limits::SETUP_WAIT;
 use crate::listen::gate::Gate;
 use crate::listen::rights::Rights;
 use interleaved::{Sink, Source};
 use publisher::InStop;
 use relay_accounts::{ConnectionEnd, Counts, Outcome, status_of};
-use relay_fanout::{HangUp, Maker, SendSide, close_behind_text};
+use relay_fanout::{HangUp, Maker, SendSide};
 use relay_log::Events;
 use rtsp_message::{Intake, Reply, Request, Status};
 use session_state::{Act, Method, Moments, Words, read_method};
@@ -165,7 +166,7 @@ where
     /// Refuses a request that the book wasn't asked, or had no memory to answer.
     fn refuse(&mut self, request: &Request, status: Status) -> Result<Status, ConnectionEnd> {
         self.events.refused(&self.rt, self.alloc, request, status);
-        self.write_plain(status, request.cseq)?;
+        self.write_refusal(request, status)?;
         Ok(status)
     }
 
@@ -204,6 +205,5 @@ where
 {
     let _ = player.write_plain(rt, &shared.wake_signal, Status::ServiceUnavailable, None);
     let _ = shared.book.lock(rt).hangup(conn);
-    watch.close();
-    close_behind_text(&player.shutdown, reader, LAST_READS, AFTER_TEXT);
+    ClosingReads::of(watch).close_behind(&player.shutdown, reader);
 }

@@ -2,7 +2,7 @@
 ghost use Rattle.std.specs.Prelude.{◌≤◌};
 
 use crate::limits::KEPT_ENTRIES;
-use session_lock::Book;
+use session_lock::{Book, Retired};
 use session_state::ConnectFault;
 use std::alloc::{AllocError, Global};
 use std::collections::hash_map::RandomState;
@@ -28,11 +28,18 @@ pub fn shared_book<P: Drop>(
 
 /// Lets a connection into a book.
 pub(crate) fn let_in<P: Drop>(rt: &impl Wait, book: &SharedBook<P>) -> Result<u64, ConnectFault> {
-    let mut book = book.lock(rt);
-    let came = book.connect();
-    let retired = book.retired();
-    drop(book);
-    // Without the lock: `retired` may be the last owner of the descriptions of many mounts that have ended.
+    let (came, retired) = connect(rt, book);
+    // It may be the last to hold the descriptions of many mounts that have ended.
     drop(retired);
     came
+}
+
+/// Lets a connection in under the book's lock, which is free when this returns: so what the book has cut off is dropped without it.
+fn connect<P: Drop>(
+    rt: &impl Wait,
+    book: &SharedBook<P>,
+) -> (Result<u64, ConnectFault>, Option<Retired>) {
+    let mut book = book.lock(rt);
+    let came = book.connect();
+    (came, book.retired())
 }

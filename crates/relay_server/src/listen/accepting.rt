@@ -1,28 +1,23 @@
 //! Accepts connections: each is entered in the book and its thread is started, or it is refused.
-ghost use Rattle.std.specs.Prelude.{◌≡◌, IfOk};
-ghost use Rattle.std.specs.Arc.{arc_value};
-ghost use Rattle.std.specs.Option.{option_map};
+ghost use Rattle.std.specs.Prelude.{◌≡◌};
 ghost use Rattle.relay_server.specs.Refusals.{refusal_for};
 
-use crate::connection::connection_clock::ConnectionClock;
-use crate::connection::idle_reader::IdleReader;
-use crate::connection::outgoing::Outgoing;
-use crate::connection::running::run_connection;
 use crate::connection::server_book::let_in;
-use crate::limits::{AFTER_NO_ACCEPT, MOST_LIVE};
+use crate::limits::AFTER_NO_ACCEPT;
 use crate::listen::accepts::Accepts;
-use crate::listen::ending::Ending;
+use crate::listen::ending::take_out;
 use crate::listen::gate::Gate;
+use crate::listen::new_connection::NewConnection;
 use crate::listen::options::Options;
 use crate::listen::refused_peers::write_unavailable;
 use crate::listen::server::Server;
-use interleaved::{Reading, Writing};
+use crate::listen::stopping::{Entered, Room};
 use log::Log;
 use networks::Address;
-use relay_fanout::{Maker, SharedSocket, Socket, WritingSide, limit_peers};
-use relay_log::{Events, Refusal, Teller};
+use relay_fanout::{SharedSocket, Socket, limit_peers};
+use relay_log::Refusal;
 use session_state::{ConnectFault, Moments, Words};
-use std::alloc::{AllocError, Global};
+use std::alloc::Global;
 use std::net::{SocketAddr, TcpStream};
 use std::sync::{Arc, Wait};
 use std::thread;
@@ -114,7 +109,7 @@ where
 }
 
 /// Lets a connection come and starts its thread. The thread that accepts is the only one that adds connections: so what is counted
-/// of an address only falls meanwhile.
+/// of all, and of an address, only falls meanwhile.
 fn take_in<R, V, G, N>(
     rt: R,
     alloc: Global,
@@ -128,20 +123,21 @@ where
     G: Gate + Drop + Send + Sync + 'static,
     N: Moments + Copy + Send + Sync + 'static,
 {
-    if server.stopping.live() >= MOST_LIVE {
+    let Some(room) = server.stopping.room() else {
         return Err(Refusal::Full);
-    }
-    if server
-        .access
-        .is_full(&rt, &server.peers, Address::of(peer.ip()))
-    {
-        return Err(Refusal::AddressFull);
+    };
+    let address = Address::of(peer.ip());
+    if server.access.is_full(&rt, &server.peers, address) {
+        return Err(room.refuse(Refusal::AddressFull));
     }
     let conn = match let_in(&rt, &server.shared.book) {
         Ok(conn) => conn,
-        Err(fault) => return Err(refusal_of(fault)),
+        Err(fault) => return Err(room.refuse(refusal_of(fault))),
     };
-    let started = start(rt, alloc, server, conn, shared, peer);
+    let started = match NewConnection::new(rt, alloc, server, conn, shared, peer) {
+        Ok(new) => start(rt, alloc, server, room, shared, new),
+        Err(refused) => Err(room.refuse(Refusal::from(refused))),
+    };
     if started.is_err() {
         let _ = server.shared.book.lock(&rt).hangup(conn);
     }
@@ -163,9 +159,9 @@ fn start<R, V, G, N>(
     rt: R,
     alloc: Global,
     server: &Server<R, V, G, N>,
-    conn: u64,
+    room: Room,
     shared: &Arc<SharedSocket, Global>,
-    peer: SocketAddr,
+    new: NewConnection<R, V, G, N>,
 ) -> Result<(), Refusal>
 where
     R: Threads + Wait + Clock + Log + Copy + Send + Sync + 'static,
@@ -173,122 +169,46 @@ where
     G: Gate + Drop + Send + Sync + 'static,
     N: Moments + Copy + Send + Sync + 'static,
 {
-    let clock = ConnectionClock::new(alloc, server.moments)?;
-    let socket = Socket::of(shared)?;
-    let book = &server.shared.book;
-    let idle_reader = IdleReader::new(rt, socket, book, conn, &clock, server.idle_policy)?;
-    let reader = Reading::new(idle_reader);
-    let writer = Writing::new(Socket::of(shared)?);
-    let hang_up = Socket::of(shared)?;
-    let writers = share(&server.writers)?;
-    let longest = server.shared.maker.packet_bytes();
-    let theirs = Arc::try_clone(&server.shared)?;
-    let ending = server.ending(conn, peer)?;
-    let events = Events::new(server.teller(conn, peer)?);
-    let address = Address::of(peer.ip());
-    let rights = server.access.rights(&server.peers, conn, address)?;
-    server.enter(&rt, conn, shared, address.group())?;
-    let run = move || {
-        let outgoing = Outgoing {
-            writing: WritingSide::new(alloc, writer, longest),
-            shutdown: hang_up,
-            writers,
-        };
-        let outcome = run_connection(
-            rt, alloc, theirs, conn, reader, outgoing, events, clock, rights,
-        );
-        ending.end(&rt, outcome);
-    };
+    let entered = server.enter(&rt, room, new.conn(), shared, new.group())?;
+    let run = move || new.run(rt, alloc);
     let started = if server.shared.gate.may_start() {
         thread::spawn(&rt, run)
     } else {
         Err(SpawnError { value: run })
     };
     match started {
-        Ok(_) => Ok(()),
+        Ok(_) => {
+            entered.hand_over();
+            Ok(())
+        }
         Err(_) => {
-            server.leave(&rt, conn);
+            take_out(&rt, &server.live, &server.peers, &server.stopping, entered);
             Err(Refusal::NoThread)
         }
     }
 }
 
-impl<R: Drop, V: Drop, G: Drop, N> Server<R, V, G, N> {
-    /// What a connection reports of what comes and leaves.
-    fn teller(&self, conn: u64, peer: SocketAddr) -> Result<Teller<R>, AllocError>
-        ensures peer { IfOk result (λ teller. (teller.conn ≡ conn) × (teller.peer ≡ peer)) }
-        ensures verbose { IfOk result (λ teller. teller.is_verbose ≡ self.now.is_verbose) }
-        ensures lines { IfOk result (λ teller. arc_value teller.lines ≡ arc_value self.now.lines) }
-        ensures reports { IfOk result (λ teller. option_map arc_value teller.reports ≡ option_map arc_value self.now.reports) }
-        ensures published { IfOk result (λ teller. arc_value teller.published ≡ arc_value self.now.published) }
-        ensures refusing { IfOk result (λ teller. arc_value teller.refusing ≡ arc_value self.now.refusing) }
-    {
-        Ok(Teller {
-            lines: Arc::try_clone(&self.lines)?,
-            peer,
-            conn,
-            is_verbose: self.is_verbose,
-            reports: share(&self.reports)?,
-            published: Arc::try_clone(&self.published)?,
-            refusing: Arc::try_clone(&self.refusing)?,
-        })
-    }
-
-    /// What is done when a connection has ended.
-    fn ending(&self, conn: u64, peer: SocketAddr) -> Result<Ending<R>, AllocError>
-        ensures peer { IfOk result (λ ending. (ending.conn ≡ conn) × (ending.peer ≡ peer)) }
-        ensures verbose { IfOk result (λ ending. ending.is_verbose ≡ self.now.is_verbose) }
-        ensures lines { IfOk result (λ ending. arc_value ending.lines ≡ arc_value self.now.lines) }
-        ensures refusing { IfOk result (λ ending. arc_value ending.refusing ≡ arc_value self.now.refusing) }
-        ensures live { IfOk result (λ ending. arc_value ending.live ≡ arc_value self.now.live) }
-        ensures peers { IfOk result (λ ending. arc_value ending.peers ≡ arc_value self.now.peers) }
-        ensures stopping { IfOk result (λ ending. arc_value ending.stopping ≡ arc_value self.now.stopping) }
-    {
-        Ok(Ending {
-            lines: Arc::try_clone(&self.lines)?,
-            refusing: Arc::try_clone(&self.refusing)?,
-            live: Arc::try_clone(&self.live)?,
-            peers: Arc::try_clone(&self.peers)?,
-            stopping: Arc::try_clone(&self.stopping)?,
-            conn,
-            peer,
-            is_verbose: self.is_verbose,
-        })
-    }
-}
-
 impl<R: Wait, V, G, N> Server<R, V, G, N> {
-    /// Counts a connection that is to have a thread, with its socket and the group of its address.
+    /// Counts a connection that is to have a thread, with its socket and the group of its address. If there is no memory, it is
+    /// counted nowhere.
     fn enter(
         &self,
         rt: &R,
+        room: Room,
         conn: u64,
         shared: &Arc<SharedSocket, Global>,
         group: Address,
-    ) -> Result<(), AllocError> {
-        self.live.add(rt, conn, shared)?;
-        if let Err(refused) = self.peers.add(rt, conn, group) {
-            self.live.remove(rt, conn);
-            return Err(refused);
+    ) -> Result<Entered, Refusal> {
+        let socket = match self.live.add(rt, conn, shared) {
+            Ok(socket) => socket,
+            Err(refused) => return Err(room.refuse(Refusal::from(refused))),
+        };
+        match self.peers.add(rt, socket, group) {
+            Ok(peer) => Ok(self.stopping.come(room, peer)),
+            Err(socket) => {
+                let _ = self.live.remove(rt, socket);
+                Err(room.refuse(Refusal::OutOfMemory))
+            }
         }
-        self.stopping.come();
-        Ok(())
-    }
-
-    /// Counts it no longer: its thread couldn't be started.
-    fn leave(&self, rt: &R, conn: u64) {
-        self.live.remove(rt, conn);
-        self.peers.remove(rt, conn);
-        self.stopping.leave();
-    }
-}
-
-/// One more owner of what may be there.
-fn share<T>(shared: &Option<Arc<T, Global>>) -> Result<Option<Arc<T, Global>>, AllocError>
-    ensures { IfOk result (λ other. option_map arc_value other ≡ option_map arc_value shared.now) }
-{
-    match shared {
-        Some(shared) => Ok(Some(Arc::try_clone(shared)?)),
-        None => Ok(None),
     }
 }

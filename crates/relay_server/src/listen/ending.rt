@@ -1,7 +1,7 @@
 //! What is done when a connection has ended.
 use crate::listen::live_sockets::LiveSockets;
 use crate::listen::peers::Peers;
-use crate::listen::stopping::Stopping;
+use crate::listen::stopping::{Entered, Stopping};
 use relay_accounts::{ConnectionEnd, Outcome};
 use relay_log::{Lines, Refusing, tell_end, tell_last_account};
 use std::alloc::Global;
@@ -47,8 +47,21 @@ impl<R: Wait + Clock + Drop> Ending<R> {
             tell_end(&*self.lines, self.peer, self.conn, &outcome);
         }
         tell_last_account(&*self.lines, self.peer, &outcome, self.is_verbose);
-        self.live.remove(rt, self.conn);
-        self.peers.remove(rt, self.conn);
-        self.stopping.leave();
+        let entered = Entered::of_thread(self.conn);
+        take_out(rt, &self.live, &self.peers, &self.stopping, entered);
     }
+}
+
+/// A connection has a thread no longer, or has got none. It is counted until the last: then the server may end.
+pub(super) fn take_out(
+    rt: &impl Wait,
+    live: &LiveSockets,
+    peers: &Peers,
+    stopping: &Stopping,
+    entered: Entered,
+) {
+    let (counted, peer) = entered.open();
+    let socket = peers.remove(rt, peer);
+    let removed = live.remove(rt, socket);
+    stopping.leave(counted, removed);
 }

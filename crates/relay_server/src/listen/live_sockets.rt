@@ -1,4 +1,6 @@
 //! The sockets that a stop shuts down.
+ghost use Rattle.std.specs.Prelude.{◌≡◌};
+
 use relay_fanout::{HangUp, SharedSocket, Socket};
 use std::alloc::{AllocError, Global};
 use std::sync::{Arc, Mutex, Wait};
@@ -9,6 +11,37 @@ struct Live {
     conn: u64,
     socket: Socket,
 }
+
+/// A connection's socket is among the live ones. It has no `Drop`, so that it ends in `LiveSockets::remove`, or goes on to
+/// `Peers::add`.
+pub(crate) struct LiveEntry {
+    conn: u64,
+}
+
+impl LiveEntry {
+    /// Returns the number of the connection.
+    pub(super) fn conn(&self) -> u64
+        ensures { result ≡ self.now.conn }
+    {
+        self.conn
+    }
+
+    /// The connection's thread takes it out.
+    pub(super) fn hand_over(self) {
+        let LiveEntry { conn: _ } = self;
+    }
+
+    /// The connection's thread has it.
+    pub(super) fn of_thread(conn: u64) -> LiveEntry
+        ensures { result.conn ≡ conn }
+    {
+        LiveEntry { conn }
+    }
+}
+
+/// A connection's socket isn't among the live ones any more.
+#[derive(Drop)]
+pub(crate) struct Removed(());
 
 /// The sockets of the connections that have a thread, which a stop shuts down. The lock is held for a walk over them, and no
 /// other is taken meanwhile.
@@ -36,21 +69,23 @@ impl LiveSockets {
         rt: &impl Wait,
         conn: u64,
         shared: &Arc<SharedSocket, Global>,
-    ) -> Result<(), AllocError> {
+    ) -> Result<LiveEntry, AllocError> {
         let socket = Socket::of(shared)?;
         self.sockets.lock(rt).push(Live { conn, socket })?;
-        Ok(())
+        Ok(LiveEntry { conn })
     }
 
-    /// A connection has ended.
-    pub(crate) fn remove(&self, rt: &impl Wait, conn: u64) {
+    /// A connection has ended, or its thread wasn't started.
+    pub(crate) fn remove(&self, rt: &impl Wait, entry: LiveEntry) -> Removed {
+        let LiveEntry { conn } = entry;
         let mut sockets = self.sockets.lock(rt);
         for (place, live) in sockets.iter().enumerate() {
             if live.conn == conn {
                 sockets.swap_remove(place);
-                return;
+                break;
             }
         }
+        Removed(())
     }
 
     /// Shuts down both directions of each socket, so that no thread waits for its peer.

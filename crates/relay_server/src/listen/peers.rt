@@ -1,12 +1,38 @@
 //! Which connections there are, from where, and which of them have a mount.
+ghost use Rattle.std.specs.Prelude.{◌≡◌};
+
+use crate::listen::live_sockets::LiveEntry;
 use networks::{Address, PeerTable};
-use std::alloc::{AllocError, Global};
+use std::alloc::Global;
 use std::sync::{Mutex, Wait};
 
 /// Which connections there are, by the groups of their addresses, and which of them have a mount. The lock is held for a walk over
 /// them, and no other is taken meanwhile.
 pub(crate) struct Peers {
     table: Mutex<PeerTable>,
+}
+
+/// A connection is among the peers, and its socket among the live ones. It has no `Drop`, so that it ends in `Peers::remove`, or
+/// goes on to `Stopping::come`.
+pub(crate) struct PeerEntry {
+    socket: LiveEntry,
+}
+
+impl PeerEntry {
+    /// The connection's thread takes it out.
+    pub(super) fn hand_over(self) {
+        let PeerEntry { socket } = self;
+        socket.hand_over();
+    }
+
+    /// The connection's thread has it.
+    pub(super) fn of_thread(conn: u64) -> PeerEntry
+        ensures { result.socket.conn ≡ conn }
+    {
+        PeerEntry {
+            socket: LiveEntry::of_thread(conn),
+        }
+    }
 }
 
 impl Drop for Peers {
@@ -28,14 +54,24 @@ impl Peers {
         self.table.lock(rt).connections(group)
     }
 
-    /// A connection of a group comes.
-    pub(crate) fn add(&self, rt: &impl Wait, conn: u64, group: Address) -> Result<(), AllocError> {
-        self.table.lock(rt).add(conn, group)
+    /// A connection of a group comes, whose socket was added. If there is no memory, the socket is to be removed.
+    pub(crate) fn add(
+        &self,
+        rt: &impl Wait,
+        socket: LiveEntry,
+        group: Address,
+    ) -> Result<PeerEntry, LiveEntry> {
+        match self.table.lock(rt).add(socket.conn(), group) {
+            Ok(()) => Ok(PeerEntry { socket }),
+            Err(_) => Err(socket),
+        }
     }
 
-    /// A connection has ended.
-    pub(crate) fn remove(&self, rt: &impl Wait, conn: u64) {
-        self.table.lock(rt).remove(conn);
+    /// A connection has ended, or its thread wasn't started.
+    pub(crate) fn remove(&self, rt: &impl Wait, peer: PeerEntry) -> LiveEntry {
+        let PeerEntry { socket } = peer;
+        self.table.lock(rt).remove(socket.conn());
+        socket
     }
 
     /// A connection is to have a mount, unless its group has `most` already. Returns whether it has one now.

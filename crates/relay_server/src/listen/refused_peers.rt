@@ -7,7 +7,7 @@ use log::Log;
 use relay_fanout::{HangUp, Socket};
 use relay_log::{Due, Refusal, Refusing};
 use rtsp_message::{Status, put_plain};
-use state::State;
+use state::{Leaver, NextDue, State};
 use std::alloc::{AllocError, Global};
 use std::net::{SocketAddr, TcpStream};
 use std::sync::{Arc, Mutex, Wait};
@@ -76,17 +76,17 @@ impl RefusedPeers {
 
     /// Closes the first peer if its moment has come, and sets the moment of the next one.
     fn close_first<R: Wait + Clock>(&self, rt: &R) {
-        let now = self.refusing.now(rt);
-        let mut leaving = self.leaving.lock(rt);
-        let first = leaving.take_due(now);
-        let next = leaving.next();
-        drop(leaving);
-        if let Some(next) = next {
-            self.refusing.wake_at(rt, next);
-        }
+        let (first, next) = self.take_first(rt, self.refusing.now(rt));
+        next.set(rt, &self.refusing);
         if let Some(first) = first {
             close(first.peer);
         }
+    }
+
+    /// Takes the first peer out if its moment has come. The lock is free when this returns: so no refusal waits while the peer is
+    /// read and closed.
+    fn take_first(&self, rt: &impl Wait, now: u64) -> (Option<Leaver<Socket>>, NextDue) {
+        self.leaving.lock(rt).take_due(now)
     }
 }
 

@@ -1,5 +1,12 @@
-//! The end of a server after a request to stop.
+//! How many connections have a thread, and the end of a server after a request to stop.
+ghost use Rattle.std.specs.Prelude.{◌≡◌};
+
+mod room;
+
+use crate::listen::live_sockets::Removed;
+use crate::listen::peers::PeerEntry;
 use relay_fanout::{SteadyClock, low_half};
+pub(crate) use room::Room;
 use std::sync::Wait;
 use std::sync::atomic::{AtomicU64, Ordering};
 use std::time::{Clock, Duration};
@@ -14,6 +21,40 @@ const STOPPED: u64 = 1 << 31;
 #[derive(Drop)]
 pub struct Stopping {
     word: AtomicU64,
+}
+
+/// A connection is counted as one that has a thread, also in `Peers` and in `LiveSockets`. It has no `Drop`, so that it ends in
+/// `open` or `hand_over`.
+pub(crate) struct Entered {
+    peer: PeerEntry,
+}
+
+/// A connection is counted as one that has a thread. It has no `Drop`, so that it ends in `Stopping::leave`.
+pub(crate) struct Counted(());
+
+impl Entered {
+    /// Its thread has ended, or wasn't started: it is to be taken out of `Peers` and of `LiveSockets`, and is counted until then.
+    pub(crate) fn open(self) -> (Counted, PeerEntry)
+        ensures { result.1 ≡ self.peer }
+    {
+        let Entered { peer } = self;
+        (Counted(()), peer)
+    }
+
+    /// Its thread was started, and takes it out at its end.
+    pub(crate) fn hand_over(self) {
+        let Entered { peer } = self;
+        peer.hand_over();
+    }
+
+    /// The connection of this number ends on its thread, to which it was handed over.
+    pub(crate) fn of_thread(conn: u64) -> Entered
+        ensures { result.peer.socket.conn ≡ conn }
+    {
+        Entered {
+            peer: PeerEntry::of_thread(conn),
+        }
+    }
 }
 
 impl Stopping {
@@ -39,18 +80,22 @@ impl Stopping {
         self.word.load(Ordering::SeqCst) >= STOPPED
     }
 
-    /// Returns how many connections have a thread.
-    pub(crate) fn live(&self) -> u64 {
-        self.word.load(Ordering::SeqCst) % STOPPED
+    /// Returns room for one more connection that has a thread, if there is some.
+    pub(crate) fn room(&self) -> Option<Room> {
+        Room::beside(self.word.load(Ordering::SeqCst) % STOPPED)
     }
 
-    /// Counts one more connection that has a thread.
-    pub(crate) fn come(&self) {
+    /// Counts one more connection that is to have a thread.
+    pub(crate) fn come(&self, room: Room, peer: PeerEntry) -> Entered {
+        room.fill();
         self.word.fetch_add(1, Ordering::SeqCst);
+        Entered { peer }
     }
 
-    /// Counts a connection that has ended. If it was the last, the threads that wait for it are woken.
-    pub(crate) fn leave(&self) {
+    /// Counts a connection that has ended, or whose thread wasn't started, and whose socket isn't kept any more. If it was the
+    /// last, the threads that wait for it are woken.
+    pub(crate) fn leave(&self, counted: Counted, _removed: Removed) {
+        let Counted(()) = counted;
         if self.word.fetch_sub(1, Ordering::SeqCst) % STOPPED == 1 {
             self.word.wake_all();
         }

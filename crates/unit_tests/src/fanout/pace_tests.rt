@@ -12,23 +12,29 @@ use std::time::{Clock, Duration, Instant};
 use test_kit::{FRAME, PACKET, has_come};
 
 /// How many packets come at once: more than are kept.
-const BURST: u64 = 160;
+pub(super) const BURST: u64 = 160;
 
 /// How often a test that depends on times is tried, because a machine that does other work may be late.
-const TRIES: u32 = 5;
+pub(super) const TRIES: u32 = 5;
 
 /// A mount whose players keep up.
 #[derive(Drop)]
-struct Stage<R: Wait + Clock + Drop> {
-    feed: MountFeed<R, Publisher>,
-    players: Vec<Seated<R>>,
-    writers: Arc<Writer<R>, Global>,
+pub(super) struct Stage<R: Wait + Clock + Drop> {
+    pub(super) feed: MountFeed<R, Publisher>,
+    pub(super) players: Vec<Seated<R>>,
+    pub(super) writers: Arc<Writer<R>, Global>,
     writer: JoinHandle<()>,
 }
 
 /// A mount of `seats` seats. Players are in the last of them, one for each of these waits, which is the time of each write to
 /// it. Their frames are sent by a writer or by a thread for each player. They have taken the one packet that there is.
-fn staged<R>(rt: R, alloc: Global, seats: usize, waits: &[u64], by_writer: bool) -> Stage<R>
+pub(super) fn staged<R>(
+    rt: R,
+    alloc: Global,
+    seats: usize,
+    waits: &[u64],
+    by_writer: bool,
+) -> Stage<R>
 where
     R: Threads + Wait + Clock + Abort + Copy + Drop + Send + Sync + 'static,
 {
@@ -67,7 +73,7 @@ where
 }
 
 /// Publishes `count` packets.
-fn publish<R: Wait + Clock + Drop>(
+pub(super) fn publish<R: Wait + Clock + Drop>(
     rt: &impl Abort,
     feed: &mut MountFeed<R, Publisher>,
     count: u64,
@@ -83,7 +89,7 @@ where
     R: Threads + Wait + Clock + Abort + Copy + Drop + Send + Sync + 'static,
 {
     /// Ends the mount. Returns for how many milliseconds packets waited for players, and how many packets these lost.
-    fn end(self, rt: &R) -> (u64, u64) {
+    pub(super) fn end(self, rt: &R) -> (u64, u64) {
         let Stage {
             feed,
             players,

@@ -1,5 +1,5 @@
 //! A mount and its players without connections, whose sockets are in memory, for tests.
-use cursor::{Left, Tap};
+use cursor::Left;
 use interleaved::{TryWrite, Writing};
 use packet_ring::{Pass, Publisher, Subscriber};
 use relay_fanout::{
@@ -175,8 +175,7 @@ impl<R: Wait + Clock + Abort + Copy + Drop> Seated<R> {
         };
         let line = WritingSide::new(alloc, Writing::new(socket), LONGEST);
         let player = SendSide::new(line, Open);
-        signal.attached(seat, tap.cursor());
-        player.put(&rt, tap);
+        player.put(&rt, signal.attached(seat, tap));
         let signal = Arc::try_clone(signal).expect(&rt, "a count of its users");
         Seated {
             player: Arc::new(alloc, player).expect(&rt, "memory"),

@@ -4,9 +4,11 @@ ghost use Rattle.std.specs.Option.{option_to_list};
 ghost use Rattle.relay_server.specs.Leavings.{next_moment, NoneIsDue};
 
 use crate::limits::REFUSED_PEERS;
+use relay_log::Refusing;
 use std::alloc::{AllocError, Global};
 use std::collections::VecDeque;
 use std::marker::Model;
+use std::sync::Wait;
 
 /// A refused peer that stays until a moment, in milliseconds.
 #[derive(Drop)]
@@ -19,6 +21,21 @@ pub(super) struct Leaver<P> {
 #[derive(Drop)]
 pub(super) struct State<P> {
     leaving: VecDeque<Leaver<P>>,
+}
+
+/// When the next peer is to be closed, of which the thread that closes it wasn't told. It has no `Drop`, so that it ends in `set`.
+pub(super) struct NextDue {
+    moment: Option<u64>,
+}
+
+impl NextDue {
+    /// Sets the moment, if a peer stays.
+    pub(super) fn set(self, rt: &impl Wait, refusing: &Refusing) {
+        let NextDue { moment } = self;
+        if let Some(moment) = moment {
+            refusing.wake_at(rt, moment);
+        }
+    }
 }
 
 impl<P> Model for State<P> {
@@ -57,20 +74,25 @@ impl<P: Drop> State<P> {
         first
     }
 
-    /// Takes the first one out, if it is to be closed at this moment.
-    pub(super) fn take_due(&mut self, now: u64) -> Option<Leaver<P>>
-        ensures new { self.old ≡ option_to_list result ++ self.new }
-        ensures some { IfSome result (λ first. first.due ≤ now) }
-        ensures none { IfNone result (NoneIsDue self.old now) }
+    /// Takes the first one out, if it is to be closed at this moment. Returns when the next one is, too.
+    pub(super) fn take_due(&mut self, now: u64) -> (Option<Leaver<P>>, NextDue)
+        ensures new { self.old ≡ option_to_list result.0 ++ self.new }
+        ensures some { IfSome result.0 (λ first. first.due ≤ now) }
+        ensures none { IfNone result.0 (NoneIsDue self.old now) }
+        ensures next { result.1.moment ≡ next_moment self.new }
     {
-        match self.next() {
+        let first = match self.next() {
             Some(due) if due <= now => self.leaving.pop_front(),
             _ => None,
-        }
+        };
+        let next = NextDue {
+            moment: self.next(),
+        };
+        (first, next)
     }
 
     /// Returns when the first one is to be closed.
-    pub(super) fn next(&self) -> Option<u64>
+    fn next(&self) -> Option<u64>
         ensures { result ≡ next_moment self.now }
     {
         match self.leaving.front() {

@@ -1,0 +1,31 @@
+-- How many lines of each address were logged in a second. Moments are milliseconds.
+use Rattle.std.specs.Prelude.{◌≡◌, ◌↔◌, ℕ, Bool, List, All, Option, IsTrue}
+use Rattle.std.specs.List.{position}
+use Rattle.networks.specs.declared.address.Address.{Address}
+use Rattle.networks.specs.Peers.{is_same}
+use Rattle.relay_log.specs.declared.line_rate.LineRate.{LineRate}
+use Rattle.relay_log.specs.declared.line_rates.Known.{Known}
+use Rattle.relay_log.specs.Rates.{MayTell, told_once_more}
+
+-- what is known of addresses, and the rate that the others share
+pub record Rates : Type 0 where
+  pub known : List Known
+  pub others : LineRate
+
+-- the place of an address among those that are known
+abbrev pub place_in : Address → List Known → Option ℕ
+place_in address known = position (λ other. is_same other.address address) known
+
+-- each of these addresses had its last line in this second
+abbrev pub AreBusy : List Known → (second : ℕ) → Type 0
+AreBusy known second = All (λ other. other.rate.second ≡ second) known
+
+-- an address that had no line
+abbrev pub fresh : Address → Known
+fresh address = record { address = address; rate = record { second = 0; count = 0 } }
+
+-- A line is logged exactly if this rate allows one at this moment, and then is counted there. Else all stays as it was.
+pub record Tells (old new : Rates) (rate : LineRate) (now : ℕ) (told : Bool) (counted : LineRate → Rates) : Type 0 where
+  pub allowed : IsTrue told ↔ MayTell rate now
+  pub told_more : IsTrue told → new ≡ counted (told_once_more rate now)
+  pub same : (IsTrue told → ⊥) → new ≡ old

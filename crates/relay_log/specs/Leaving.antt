@@ -1,0 +1,21 @@
+-- Mounts and players of reports that end and leave.
+use Rattle.std.specs.Prelude.{ℕ, Bool, List, count_by, nat_eq, not, ◌&&◌, Option, is_some}
+use Rattle.std.specs.List.{position}
+use Rattle.relay_log.specs.declared.reports.reported_mount.Mount.{Mount}
+use Rattle.relay_log.specs.declared.reports.reported_player.Player.{Player}
+
+-- the place of the mount that a connection records
+abbrev pub recorded_in : (conn : ℕ) → List Mount → Option ℕ
+recorded_in conn mounts = position (λ mount. nat_eq mount.conn conn && not mount.has_ended) mounts
+
+-- the place of a connection's player that has its seat
+abbrev pub seated_in : (conn : ℕ) → List Player → Option ℕ
+seated_in conn players = position (λ player. nat_eq player.conn conn && not (is_some player.left)) players
+
+-- whether a player has a seat of this mount
+abbrev pub plays_on : (mount : ℕ) → Player → Bool
+plays_on mount player = nat_eq player.mount mount && not (is_some player.left)
+
+-- how many of these players have
+abbrev pub players_of : (mount : ℕ) → List Player → ℕ
+players_of mount players = count_by (plays_on mount) players
