@@ -1,5 +1,6 @@
 //! A socket that threads share.
-ghost use Rattle.std.specs.Prelude.{◌≡◌, ◌↔◌, ◌⊎◌, IsTrue};
+ghost use Rattle.relay_accounts.specs.declared.ending.WireFailure.TheVariants as failure;
+ghost use Rattle.std.specs.Prelude.{◌≡◌, ◌↔◌, ◌⊎◌, IsTrue, true, false, Some, None};
 
 use relay_accounts::WireFailure;
 use std::io;
@@ -56,14 +57,23 @@ impl SharedSocket {
         self.is_unacknowledged.store(true, Ordering::SeqCst);
     }
 
-    /// What fails after the system has given the peer up fails as after a reset, so that comes second.
     pub(super) fn failure(&self) -> Option<WireFailure> {
-        if self.is_unacknowledged.load(Ordering::SeqCst) {
-            return Some(WireFailure::NoAcknowledgement);
-        }
-        let was_reset = self.was_reset.load(Ordering::SeqCst);
-        was_reset.then_some(WireFailure::Reset)
+        let is_unacknowledged = self.is_unacknowledged.load(Ordering::SeqCst);
+        socket_failure(is_unacknowledged, self.was_reset.load(Ordering::SeqCst))
     }
+}
+
+/// How the system has ended a connection. What fails after it has given the peer up fails as after a reset, so a reset comes
+/// second.
+fn socket_failure(is_unacknowledged: bool, was_reset: bool) -> Option<WireFailure>
+    ensures unacknowledged { is_unacknowledged ≡ true → result ≡ Some failure.NoAcknowledgement }
+    ensures reset { is_unacknowledged ≡ false → was_reset ≡ true → result ≡ Some failure.Reset }
+    ensures none { is_unacknowledged ≡ false → was_reset ≡ false → result ≡ None }
+{
+    if is_unacknowledged {
+        return Some(WireFailure::NoAcknowledgement);
+    }
+    was_reset.then_some(WireFailure::Reset)
 }
 
 /// Returns whether a read or a write that failed so did because the peer has reset the connection, or has closed it and reads no
