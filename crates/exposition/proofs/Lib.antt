@@ -1,0 +1,5 @@
+pub mod Lines
+pub mod Reading
+pub mod Samples
+pub mod Times
+pub mod Utf8

@@ -1,0 +1,2 @@
+pub mod Exposition
+pub mod Reading

@@ -1,0 +1,4 @@
+mod Following
+mod Ordering
+mod Reaching
+mod Stepping

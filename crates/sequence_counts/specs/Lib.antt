@@ -1,0 +1,4 @@
+pub mod Counting
+pub mod Counts
+pub mod Header
+pub mod Ordered

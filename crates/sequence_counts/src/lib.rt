@@ -1,0 +1,9 @@
+//! What the sequence numbers of a track's RTP packets show of losses before the relay (RFC 3550, 5.1, A.1 and A.3).
+#![tactic(auto)]
+
+mod counts;
+mod header;
+pub mod laws;
+
+pub use counts::SequenceCounts;
+pub use header::rtp_numbers;
