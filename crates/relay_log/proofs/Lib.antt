@@ -1,2 +1,4 @@
 mod Counting
+mod Naming
+mod Rating
 mod Turning

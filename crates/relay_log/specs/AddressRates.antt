@@ -1,5 +1,5 @@
 -- How many lines of each address were logged in a second. Moments are milliseconds.
-use Rattle.std.specs.Prelude.{◌≡◌, ◌↔◌, ℕ, Bool, List, All, Option, IsTrue}
+use Rattle.std.specs.Prelude.{◌≡◌, ◌≢◌, ◌↔◌, ◌/◌, ℕ, Bool, List, slice_get, slice_set, All, Option, IsSomeAnd, IsTrue}
 use Rattle.std.specs.List.{position}
 use Rattle.networks.specs.declared.address.Address.{Address}
 use Rattle.networks.specs.Peers.{is_same}
@@ -20,9 +20,15 @@ place_in address known = position (λ other. is_same other.address address) know
 abbrev pub AreBusy : List Known → (second : ℕ) → Type 0
 AreBusy known second = All (λ other. other.rate.second ≡ second) known
 
--- an address that had no line
-abbrev pub fresh : Address → Known
-fresh address = record { address = address; rate = record { second = 0; count = 0 } }
+-- an address whose first line is logged at this moment
+abbrev pub once_told : Address → (now : ℕ) → Known
+once_told address now = record { address = address; rate = record { second = now / 1000; count = 1 } }
+
+-- The address takes the place of one that had no line in this second, with a line of its own.
+pub record TakesPlace (old new : Rates) (address : Address) (now : ℕ) : Type 0 where
+  pub place : ℕ
+  pub quiet : IsSomeAnd (slice_get old.known place) (λ other. other.rate.second ≢ now / 1000)
+  pub taken : new ≡ record old { known = slice_set old.known place (once_told address now) }
 
 -- A line is logged exactly if this rate allows one at this moment, and then is counted there. Else all stays as it was.
 pub record Tells (old new : Rates) (rate : LineRate) (now : ℕ) (told : Bool) (counted : LineRate → Rates) : Type 0 where

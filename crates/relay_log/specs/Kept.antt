@@ -11,3 +11,9 @@ IsAbout (kept.Mount name) (subjects.Mount text) = name ≡ text.now
 IsAbout kept.Others subjects.Others = ⊤
 IsAbout kept.NoMount subjects.NoMount = ⊤
 IsAbout a b = ⊥
+
+-- the subject has no name, so that keeping it takes no memory
+abbrev pub IsUnnamed : Subject → Type 0
+IsUnnamed (subjects.Mount text) = ⊥
+IsUnnamed subjects.Others = ⊤
+IsUnnamed subjects.NoMount = ⊤

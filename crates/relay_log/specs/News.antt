@@ -1,7 +1,8 @@
 -- What a connection reports at first, and the path of a request.
-use Rattle.std.specs.Prelude.{◌≡◌, ℕ, List, Option, None}
+use Rattle.std.specs.Prelude.{◌≡◌, ◌⊎◌, ℕ, List, Option, None, Some, codes}
 use Rattle.mounts.specs.declared.target.Target.{Target}
-use Rattle.mounts.specs.Uri.{IsTarget}
+use Rattle.mounts.specs.declared.fault.UriFault.TheVariants.{BadUri}
+use Rattle.mounts.specs.Uri.{IsRefused, IsTarget}
 use Rattle.relay_log.specs.declared.events.Events.{Events}
 use Rattle.relay_log.specs.declared.line_rate.LineRate.{LineRate}
 use Rattle.relay_log.specs.declared.teller.Teller.{Teller}
@@ -22,3 +23,8 @@ pub record IsPathOf (uri path : List ℕ) : Type 0 where
   pub target : Target
   pub is_target : IsTarget uri target
   pub is_path : path ≡ target.path
+
+-- The URI has this path. It has none if it is `*`, or no URI of RTSP.
+abbrev pub IsPathIn : (uri : List ℕ) → Option (List ℕ) → Type 0
+IsPathIn uri (Some path) = IsPathOf uri path
+IsPathIn uri None = (uri ≡ codes "*") ⊎ IsRefused uri BadUri

@@ -1,5 +1,5 @@
 -- Counts of requests that were refused.
-use Rattle.std.specs.Prelude.{◌≡◌, ℕ, ◌+◌, ◌-◌, ◌==◌, Bool, true, false, if◌then◌else◌, nat_lt, List, [], ◌∷◌, ◌++◌, take, slice_get, slice_set, All, Option, None, Some}
+use Rattle.std.specs.Prelude.{◌≡◌, ◌≤◌, ◌⊎◌, ℕ, ◌+◌, ◌-◌, ◌==◌, Bool, true, false, if◌then◌else◌, nat_lt, List, [], ◌∷◌, ◌++◌, take, length, slice_get, slice_set, All, Option, None, Some}
 use Rattle.std.specs.declared.net.socket_addr.SocketAddr.{SocketAddr}
 use Rattle.rtsp_message.specs.declared.status.Status.{Status}
 use Rattle.relay_accounts.specs.Capped.{capped}
@@ -7,6 +7,7 @@ use Rattle.relay_log.specs.declared.refused_requests.Entry.{Entry}
 use Rattle.relay_log.specs.declared.refused_line.RefusedLine.{RefusedLine}
 use Rattle.relay_log.specs.declared.subject.Subject.{Subject}
 use Rattle.relay_log.specs.declared.subject.Subject.TheVariants as subjects
+use Rattle.relay_log.specs.declared.refused_line.Kept.TheVariants as kept
 use Rattle.relay_log.specs.Kept.{IsAbout}
 use Rattle.relay_log.specs.Tallies.{IsDue, due_at}
 
@@ -40,6 +41,21 @@ pub record BeginsCount (old new : List Entry) (subject : Subject) (status : Stat
   pub tally : entry.tally ≡ record { count = 1; told = None }
   pub added : new ≡ old ++ entry ∷ []
 
+-- none of these counts is of this subject and status
+abbrev pub IsUncounted : List Entry → Subject → Status → Type 0
+IsUncounted entries subject status = All (λ entry. IsCountOf subject status entry → ⊥) entries
+
+-- A request is counted by the count of its subject and status. It begins if there was none.
+abbrev pub AddsOne : (old new : List Entry) → Subject → Status → (peer : SocketAddr) → Type 0
+AddsOne old new subject status peer = CountsOne old new subject status peer ⊎ (IsUncounted old subject status × BeginsCount old new subject status peer)
+
+-- A request is counted by its subject or, if there was no count of that and none could begin, as one about others. It isn't counted
+-- only if there was no count of others, and no place for one.
+abbrev pub Counts : (old new : List Entry) → Subject → Status → (peer : SocketAddr) → Type 0
+Counts old new subject status peer = AddsOne old new subject status peer
+    ⊎ (IsUncounted old subject status × (AddsOne old new subjects.Others status peer
+    ⊎ (IsUncounted old subjects.Others status × (128 ≤ length old) × (new ≡ old))))
+
 -- whether a line was written less than a minute before this moment
 abbrev pub was_told_lately : (now : ℕ) → Option ℕ → Bool
 was_told_lately now None = false
@@ -62,5 +78,6 @@ pub record TellsFirst (old new : List Entry) (now : ℕ) (line : RefusedLine) : 
   pub none_before : All (λ before. IsDueCount now before → ⊥) (take place old)
   pub count : line.count ≡ entry.tally.count
   pub status : line.status ≡ entry.status
+  pub subject : (line.kept ≡ kept.Others) ⊎ (line.kept ≡ entry.kept)
   pub last : line.last ≡ entry.last
   pub told : new ≡ slice_set old place (record entry { tally = record { count = 0; told = Some now } })

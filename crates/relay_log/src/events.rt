@@ -5,8 +5,8 @@ mod request_lines;
 mod seat_lines;
 mod tracks;
 
-ghost use Rattle.std.specs.Prelude.{None, Some, IfSome};
-ghost use Rattle.relay_log.specs.News.{IsNew, IsPathOf};
+ghost use Rattle.std.specs.Prelude.{None, Some, IfOk};
+ghost use Rattle.relay_log.specs.News.{IsNew, IsPathIn};
 
 use crate::line_rate::LineRate;
 use crate::lines::Lines;
@@ -16,7 +16,7 @@ use crate::teller::Teller;
 pub(crate) use account_lines::{has_to_be_logged, log_account};
 use base_syntax::Bytes;
 use mount_lines::Announced;
-use mounts::{Uri, read_uri};
+use mounts::{Uri, UriFault, read_uri};
 use rtsp_message::Request;
 use std::alloc::{AllocError, Global};
 use std::net::SocketAddr;
@@ -95,13 +95,14 @@ impl<R> Events<R> {
     }
 }
 
-/// Returns the path of a request's URI, which for an accepted ANNOUNCE is the name of the mount that it makes. `None` if it has none,
-/// or if there is no memory for it.
-fn path_in(alloc: Global, request: &Request) -> Option<Bytes>
-    ensures { IfSome result (IsPathOf request.now.uri) }
+/// Returns the path of a request's URI, which for an accepted ANNOUNCE is the name of the mount that it makes. `None` if it has none.
+/// The only error is out of memory.
+fn path_in(alloc: Global, request: &Request) -> Result<Option<Bytes>, AllocError>
+    ensures { IfOk result (IsPathIn request.now.uri) }
 {
     match read_uri(alloc, request.uri.as_slice()) {
-        Ok(Uri::At(target)) => Some(target.path),
-        _ => None,
+        Ok(Uri::At(target)) => Ok(Some(target.path)),
+        Ok(Uri::Star) | Err(UriFault::BadUri) => Ok(None),
+        Err(UriFault::OutOfMemory) => Err(AllocError),
     }
 }

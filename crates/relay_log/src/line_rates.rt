@@ -1,7 +1,7 @@
 //! The limits of log lines of each address in a second.
-ghost use Rattle.std.specs.Prelude.{◌≡◌, ◌≢◌, ◌↔◌, ◌∷◌, [], ◌++◌, ◌<◌, ◌/◌, None, Some, length, slice_get, IfOk, IfSome, IfNone, IsSomeAnd, IsTrue};
-ghost use Rattle.relay_log.specs.AddressRates.{AreBusy, Tells, place_in};
-ghost use Rattle.relay_log.specs.Rates.{MayTell};
+ghost use Rattle.std.specs.Prelude.{◌≡◌, ◌≢◌, ◌↔◌, ◌∷◌, [], ◌++◌, ◌<◌, ◌/◌, None, true, length, slice_get, slice_set, IfOk, IfSome, IfNone, IsSomeAnd, IsTrue};
+ghost use Rattle.relay_log.specs.AddressRates.{AreBusy, TakesPlace, Tells, once_told, place_in};
+ghost use Rattle.relay_log.specs.Rates.{MayTell, told_once_more};
 
 use crate::limits::ADDRESSES;
 use crate::line_rate::LineRate;
@@ -58,8 +58,16 @@ impl LineRates {
     /// Returns whether a line of this address may be logged at this moment, in milliseconds. A line that may be logged is
     /// counted: at the address's own rate, in a place that may have been that of an address that had no line in this second, or
     /// at the rate of the others if all places are taken by addresses that had one.
+    #[tactic(auto, using(crate::proofs::Rating::written_back))]
     pub fn tell(&mut self, address: Address, now: u64) -> bool
         ensures known { IfSome (place_in address self.old.known) (λ place. IsSomeAnd (slice_get self.old.known place) (λ known. IsTrue result ↔ MayTell known.rate now)) }
+        ensures told { IfSome (place_in address self.old.known) (λ place. IsTrue result → IsSomeAnd (slice_get self.old.known place) (λ known.
+            self.new ≡ record self.old { known = slice_set self.old.known place (record known { rate = told_once_more known.rate now }) })) }
+        ensures same { (IsTrue result → ⊥) → self.new ≡ self.old }
+        ensures added { place_in address self.old.known ≡ None → length self.old.known < 256
+            → (result ≡ true) × (self.new ≡ record self.old { known = self.old.known ++ once_told address now ∷ [] }) }
+        ensures taken { place_in address self.old.known ≡ None → length self.old.known ≡ 256 → (AreBusy self.old.known (now / 1000) → ⊥)
+            → (result ≡ true) × TakesPlace self.old self.new address now }
         ensures others { place_in address self.old.known ≡ None → length self.old.known ≡ 256 → AreBusy self.old.known (now / 1000)
             → Tells self.old self.new self.old.others now result (λ rate. record self.old { others = rate }) }
     {
@@ -69,42 +77,28 @@ impl LineRates {
         }
     }
 
-    /// Returns whether a line of an address of which nothing is known may be logged, and counts it.
+    /// Returns whether a line of an address of which nothing is known may be logged, and counts it. The address takes a place of its
+    /// own, or that of the first address that had no line in this second.
     fn tell_new(&mut self, address: Address, now: u64) -> bool
+        ensures added { length self.old.known < 256 → (result ≡ true) × (self.new ≡ record self.old { known = self.old.known ++ once_told address now ∷ [] }) }
+        ensures taken { length self.old.known ≡ 256 → (AreBusy self.old.known (now / 1000) → ⊥) → (result ≡ true) × TakesPlace self.old self.new address now }
         ensures others { length self.old.known ≡ 256 → AreBusy self.old.known (now / 1000)
             → Tells self.old self.new self.old.others now result (λ rate. record self.old { others = rate }) }
+        ensures same { (IsTrue result → ⊥) → self.new ≡ self.old }
     {
-        match self.place_of_new(address, now / 1_000) {
-            Some(place) => self.known[place].rate.tell(now),
+        let second = now / 1_000;
+        let rate = LineRate { second, count: 1 };
+        if self.known.len() < ADDRESSES {
+            self.known.push_reserved(Known { address, rate });
+            return true;
+        }
+        match place_of_quiet(self.known.as_slice(), second) {
+            Some(place) => {
+                self.known[place] = Known { address, rate };
+                true
+            }
             None => self.others.tell(now),
         }
-    }
-}
-
-impl LineRates {
-    ghost use Rattle.std.specs.Prelude.{slice_set};
-    ghost use Rattle.relay_log.specs.AddressRates.{fresh};
-
-    /// Returns the place of an address of which nothing is known. It is a place of its own, or that of the first address that had
-    /// no line in this second. `None` if there is neither.
-    fn place_of_new(&mut self, address: Address, second: u64) -> Option<usize>
-        ensures added { length self.old.known < 256 → (result ≡ Some (length self.old.known)) × (self.new.known ≡ self.old.known ++ fresh address ∷ []) }
-        ensures taken { length self.old.known ≡ 256 → IfSome result (λ place. IsSomeAnd (slice_get self.old.known place) (λ known. known.rate.second ≢ second)
-            × (self.new.known ≡ slice_set self.old.known place (fresh address))) }
-        ensures none { IfNone result ((length self.old.known ≡ 256) × AreBusy self.old.known second × (self.new.known ≡ self.old.known)) }
-        ensures within { IfSome result (λ place. place < length self.new.known) }
-        ensures busy { length self.old.known ≡ 256 → AreBusy self.old.known second → result ≡ None }
-        ensures others { self.new.others ≡ self.old.others }
-    {
-        let rate = LineRate::new();
-        let place = self.known.len();
-        if place < ADDRESSES {
-            self.known.push_reserved(Known { address, rate });
-            return Some(place);
-        }
-        let place = place_of_quiet(self.known.as_slice(), second)?;
-        self.known[place] = Known { address, rate };
-        Some(place)
     }
 }
 

@@ -1,6 +1,6 @@
 //! The mounts that exist, for log lines.
-ghost use Rattle.std.specs.Prelude.{◌≡◌, ◌↔◌, slice_get, IsTrue, IfOk, IfSome, IsSomeAnd};
-ghost use Rattle.relay_log.specs.Names.{IsNamedBy};
+ghost use Rattle.std.specs.Prelude.{◌≡◌, ◌↔◌, length, slice_get, All, IsTrue, IfOk, IfSome, IfNone, IsSomeAnd};
+ghost use Rattle.relay_log.specs.Names.{IsNamedBy, IsNoLongerName};
 
 use base_syntax::Bytes;
 use mounts::MAX_MOUNTS;
@@ -91,6 +91,8 @@ impl PublishedMounts {
 /// Returns the place of the mount of the longest name that a path names. `None` if it names none.
 fn longest_named(mounts: &[PublishedMount], path: &[u8]) -> Option<usize>
     ensures named { IfSome result (λ place. IsSomeAnd (slice_get mounts.now place) (λ mount. IsNamedBy mount.name path.now)) }
+    ensures longest { IfSome result (λ place. IsSomeAnd (slice_get mounts.now place) (λ mount. All (IsNoLongerName (length mount.name) path.now) mounts.now)) }
+    ensures none { IfNone result (All (IsNoLongerName 0 path.now) mounts.now) }
 {
     let mut found = None;
     let mut longest = 0;

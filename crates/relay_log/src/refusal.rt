@@ -1,5 +1,5 @@
 //! Why a connection isn't served.
-ghost use Rattle.std.specs.Prelude.{◌≡◌, Option};
+ghost use Rattle.std.specs.Prelude.{◌≡◌, ◌<◌, Option, Some};
 ghost use Rattle.relay_log.specs.Places.{place_of_refusal};
 
 use std::alloc::AllocError;
@@ -24,13 +24,18 @@ impl Refusal {
     /// How many reasons are counted by themselves.
     pub(crate) const COUNT: usize = 4;
 
-    /// These reasons, each at its place.
-    pub(crate) const ALL: [Refusal; Refusal::COUNT] = [
-        Refusal::Full,
-        Refusal::OutOfMemory,
-        Refusal::NoThread,
-        Refusal::NotAccepted,
-    ];
+    /// Returns the reason at a place.
+    pub(crate) fn at(place: usize) -> Refusal
+        requires { place < 4 }
+        ensures { place_of_refusal result ≡ Some place }
+    {
+        match place {
+            0 => Refusal::Full,
+            1 => Refusal::OutOfMemory,
+            2 => Refusal::NoThread,
+            _ => Refusal::NotAccepted,
+        }
+    }
 
     /// Its place among them. `None` if it is counted with its peer's address.
     pub(crate) fn place(self) -> Option<usize>

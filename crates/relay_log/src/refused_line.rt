@@ -1,6 +1,6 @@
 //! The line that reports requests that were refused.
-ghost use Rattle.std.specs.Prelude.{◌↔◌, IsTrue, IfOk};
-ghost use Rattle.relay_log.specs.Kept.{IsAbout};
+ghost use Rattle.std.specs.Prelude.{◌≡◌, ◌↔◌, IsTrue, IsOk, IfOk};
+ghost use Rattle.relay_log.specs.Kept.{IsAbout, IsUnnamed};
 
 use crate::subject::Subject;
 use base_syntax::Bytes;
@@ -41,7 +41,8 @@ pub(crate) enum Kept {
 impl Kept {
     /// Returns a copy of the subject. The only error is out of memory.
     pub(crate) fn of(alloc: Global, subject: Subject) -> Result<Kept, AllocError>
-        ensures { IfOk result (λ kept. IsAbout kept subject.entry) }
+        ensures kept { IfOk result (λ kept. IsAbout kept subject.entry) }
+        ensures without_memory { IsUnnamed subject.entry → IsOk result }
     {
         Ok(match subject {
             Subject::Mount(name) => Kept::Mount(Bytes::from_slice(alloc, name)?),
@@ -61,14 +62,14 @@ impl Kept {
         }
     }
 
-    /// Returns the subject that is kept.
-    pub(crate) fn subject(&self) -> Subject
-        ensures { IsAbout self.now result }
+    /// Returns a copy. The only error is out of memory.
+    pub(crate) fn copy(&self, alloc: Global) -> Result<Kept, AllocError>
+        ensures { IfOk result (λ copied. copied ≡ self.now) }
     {
-        match self {
-            Kept::Mount(name) => Subject::Mount(name.as_slice()),
-            Kept::Others => Subject::Others,
-            Kept::NoMount => Subject::NoMount,
-        }
+        Ok(match self {
+            Kept::Mount(name) => Kept::Mount(Bytes::from_slice(alloc, name.as_slice())?),
+            Kept::Others => Kept::Others,
+            Kept::NoMount => Kept::NoMount,
+        })
     }
 }

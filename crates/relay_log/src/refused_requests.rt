@@ -1,6 +1,7 @@
 //! Requests that were refused, by what they were about and status.
-ghost use Rattle.std.specs.Prelude.{◌≡◌, ◌↔◌, ◌<◌, [], ◌++◌, length, filter, map, slice_get, take, All, IsTrue, IfOk, IfSome, IfNone, IsSomeAnd};
-ghost use Rattle.relay_log.specs.Refusals.{BeginsCount, CountsOne, IsCountOf, IsDueCount, TellsFirst, due_of, is_kept, most_counts};
+ghost use Rattle.std.specs.Prelude.{◌≡◌, ◌↔◌, ◌<◌, ◌≤◌, [], ◌++◌, length, filter, map, slice_get, take, All, IsTrue, IfOk, IfSome, IfNone, IsSomeAnd};
+ghost use Rattle.relay_log.specs.Refusals.{AddsOne, BeginsCount, Counts, CountsOne, IsCountOf, IsDueCount, IsUncounted, TellsFirst, due_of, is_kept, most_counts};
+ghost use Rattle.relay_log.specs.Kept.{IsUnnamed};
 ghost use Rattle.relay_log.specs.Tallies.{earliest};
 
 use crate::limits::{REFUSED_COUNTS, REFUSED_KEPT};
@@ -89,19 +90,33 @@ impl RefusedRequests {
         })
     }
 
-    /// A request about this subject, of this peer, was refused with this status.
-    pub(crate) fn add(&mut self, subject: Subject, status: Status, peer: SocketAddr) {
-        if self.count(subject, status, peer) || self.begin(subject, status, peer) {
-            return;
+    /// Counts a request about this subject, of this peer, that was refused with this status. It counts as one about others if there
+    /// is no place or no memory for the subject, and isn't counted if there is no place for that either.
+    pub(crate) fn add(&mut self, subject: Subject, status: Status, peer: SocketAddr)
+        ensures { Counts self.old self.new subject.entry status peer }
+    {
+        if !self.add_one(subject, status, peer) {
+            let _ = self.add_one(Subject::Others, status, peer);
         }
-        let _ = self.count(Subject::Others, status, peer)
-            || self.begin(Subject::Others, status, peer);
+    }
+
+    /// Counts the request if there is a count of its subject and status, or a place and memory for one. Returns whether it did.
+    fn add_one(&mut self, subject: Subject, status: Status, peer: SocketAddr) -> bool
+        ensures added { IsTrue result → AddsOne self.old self.new subject.entry status peer }
+        ensures none { (IsTrue result → ⊥) → IsUncounted self.old subject.entry status }
+        ensures full { (IsTrue result → ⊥) → IsUnnamed subject.entry → 128 ≤ length self.old }
+        ensures same { (IsTrue result → ⊥) → self.new ≡ self.old }
+    {
+        if self.count(subject, status, peer) {
+            return true;
+        }
+        self.begin(subject, status, peer)
     }
 
     /// Counts the request, if there is a count of its subject and status. Returns whether there is.
     fn count(&mut self, subject: Subject, status: Status, peer: SocketAddr) -> bool
         ensures counted { IsTrue result → CountsOne self.old self.new subject.entry status peer }
-        ensures none { (IsTrue result → ⊥) → All (λ entry. IsCountOf subject.entry status entry → ⊥) self.old }
+        ensures none { (IsTrue result → ⊥) → IsUncounted self.old subject.entry status }
         ensures same { (IsTrue result → ⊥) → self.new ≡ self.old }
     {
         let Some(place) = place_of(self.entries.as_slice(), subject, status) else {
@@ -118,6 +133,7 @@ impl RefusedRequests {
     fn begin(&mut self, subject: Subject, status: Status, peer: SocketAddr) -> bool
         ensures room { IsTrue result → length self.old < most_counts subject.entry }
         ensures begun { IsTrue result → BeginsCount self.old self.new subject.entry status peer }
+        ensures full { (IsTrue result → ⊥) → IsUnnamed subject.entry → 128 ≤ length self.old }
         ensures same { (IsTrue result → ⊥) → self.new ≡ self.old }
     {
         let most = match subject {
@@ -161,7 +177,7 @@ impl RefusedRequests {
         let entry = &mut self.entries[place];
         let count = entry.tally.tell(now)?;
         // Without memory for the name it is reported without.
-        let kept = Kept::of(self.alloc, entry.kept.subject()).unwrap_or(Kept::Others);
+        let kept = entry.kept.copy(self.alloc).unwrap_or(Kept::Others);
         Some(RefusedLine {
             count,
             kept,

@@ -34,7 +34,7 @@ impl<R: Wait + Clock> Events<R> {
         let Some(teller) = &self.teller else {
             return;
         };
-        let Some(name) = path_in(alloc, request) else {
+        let Ok(Some(name)) = path_in(alloc, request) else {
             teller.lines.miss();
             return;
         };

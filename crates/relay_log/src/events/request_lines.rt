@@ -20,7 +20,7 @@ impl<R: Wait + Clock> Events<R> {
             return;
         };
         let peer = teller.peer;
-        let path = path_in(alloc, request);
+        let path = path_in(alloc, request).unwrap_or(None);
         let found = match &path {
             Some(path) => teller.published.find(rt, path.as_slice()),
             None => None,

@@ -1,7 +1,7 @@
 //! The lines that wait to be written, as a value.
 //!
 //! Each change returns what has to be told to the threads that wait for it, so none is held back.
-ghost use Rattle.std.specs.Prelude.{◌≡◌, ◌+◌, ◌∷◌, [], ◌++◌, ◌<◌, ◌≤◌, ◌↔◌, ℕ, length, true, IsTrue};
+ghost use Rattle.std.specs.Prelude.{◌≡◌, ◌+◌, ◌∷◌, [], ◌++◌, ◌<◌, ◌≤◌, ◌↔◌, ℕ, length, true, false, None, IsTrue, IfOk};
 ghost use Rattle.relay_accounts.specs.Capped.{capped};
 ghost use Rattle.relay_log.specs.declared.lines.state.Next.TheVariants.{Missed};
 ghost use Rattle.relay_log.specs.Backlogs.{lost_with};
@@ -66,7 +66,10 @@ impl RoomMade {
 
 impl<T: Drop> State<T> {
     /// Nothing waits.
-    pub(super) fn new(alloc: Global) -> Result<State<T>, AllocError> {
+    pub(super) fn new(alloc: Global) -> Result<State<T>, AllocError>
+        ensures lines { IfOk result (λ state. state.lines ≡ record { waiting = []; missed = 0 }) }
+        ensures goes_on { IfOk result (λ state. (state.room_until ≡ None) × (state.is_closed ≡ false) × (state.is_written ≡ false)) }
+    {
         Ok(State {
             lines: Backlog::new(alloc)?,
             room_until: None,
@@ -77,7 +80,7 @@ impl<T: Drop> State<T> {
 
     /// Returns whether there is nothing for the writing thread to do.
     pub(super) fn is_quiet(&self) -> bool
-        ensures { IsTrue result → (self.now.lines.waiting ≡ []) × (self.now.lines.missed ≡ 0) }
+        ensures { IsTrue result ↔ ((self.now.lines.waiting ≡ []) × (self.now.lines.missed ≡ 0) × (self.now.is_closed ≡ false)) }
     {
         self.lines.is_empty() && !self.is_closed
     }
@@ -105,8 +108,8 @@ impl<T: Drop> State<T> {
 
     /// Adds a line. If there is no room, it is dropped and counted.
     pub(super) fn put(&mut self, line: T) -> Changed
-        ensures kept { length self.old.lines.waiting < 1024 → self.new.lines ≡ record { waiting = self.old.lines.waiting ++ record { missed = self.old.lines.missed; item = line } ∷ []; missed = 0 } }
-        ensures full { 1024 ≤ length self.old.lines.waiting → self.new.lines ≡ record self.old.lines { missed = capped (self.old.lines.missed + 1) } }
+        ensures kept { length self.old.lines.waiting < 1024 → self.new ≡ record self.old { lines = record { waiting = self.old.lines.waiting ++ record { missed = self.old.lines.missed; item = line } ∷ []; missed = 0 } } }
+        ensures full { 1024 ≤ length self.old.lines.waiting → self.new ≡ record self.old { lines = record self.old.lines { missed = capped (self.old.lines.missed + 1) } } }
     {
         self.lines.put(line);
         Changed(())
@@ -114,7 +117,7 @@ impl<T: Drop> State<T> {
 
     /// Counts lines that couldn't be made, or whose threads haven't ended.
     pub(super) fn miss(&mut self, count: u64) -> Changed
-        ensures { self.new.lines ≡ record self.old.lines { missed = capped (self.old.lines.missed + count) } }
+        ensures { self.new ≡ record self.old { lines = record self.old.lines { missed = capped (self.old.lines.missed + count) } } }
     {
         self.lines.miss_all(count);
         Changed(())
@@ -139,6 +142,7 @@ impl<T: Drop> State<T> {
     pub(super) fn drop_all(&mut self)
         ensures waiting { self.new.lines.waiting ≡ [] }
         ensures missed { capped self.new.lines.missed ≡ capped (self.old.lines.missed + lost_with self.old.lines.waiting) }
+        ensures same { self.new ≡ record self.old { lines = self.new.lines } }
     {
         self.lines.drop_all();
     }
@@ -146,8 +150,10 @@ impl<T: Drop> State<T> {
     /// Takes what the writing thread does next, if it isn't quiet: the lines in their order, then those that were dropped.
     pub(super) fn next(&mut self) -> Next<T>
         ensures line { IfWrites result (λ line. self.old.lines.waiting ≡ line ∷ self.new.lines.waiting) }
-        ensures missed { (count : ℕ) → result ≡ Missed count → (self.old.lines.waiting ≡ []) × (count ≡ self.old.lines.missed) × (self.new.lines.missed ≡ 0) }
-        ensures end { IsEnd result → (self.old.lines.waiting ≡ []) × (self.old.lines.missed ≡ 0) × (self.new.is_written ≡ true) }
+        ensures keeps_missed { IfWrites result (λ line. self.new ≡ record self.old { lines = record self.old.lines { waiting = self.new.lines.waiting } }) }
+        ensures missed { (count : ℕ) → result ≡ Missed count → (self.old.lines.waiting ≡ []) × (count ≡ self.old.lines.missed) × (0 < count) }
+        ensures reported { (count : ℕ) → result ≡ Missed count → self.new ≡ record self.old { lines = record self.old.lines { missed = 0 } } }
+        ensures end { IsEnd result → (self.old.lines.waiting ≡ []) × (self.old.lines.missed ≡ 0) × (self.new ≡ record self.old { is_written = true }) }
     {
         if let Some(line) = self.lines.take() {
             return Next::Write(line, RoomMade(()));

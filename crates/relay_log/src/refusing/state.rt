@@ -1,12 +1,16 @@
 //! What was refused and left out since that was last reported, as a value.
 //!
 //! Each change returns what has to be told to the thread that writes the rows, so none is held back.
-ghost use Rattle.std.specs.Prelude.{◌≡◌, ◌+◌, ◌-◌, ◌^◌, ◌≤◌, ◌<◌, ◌↔◌, true, None, Some, IfSome, IfNone, IsSomeAnd, IsTrue, slice_get};
+ghost use Rattle.std.specs.Prelude.{◌≡◌, ◌+◌, ◌-◌, ◌^◌, ◌≤◌, ◌<◌, ◌↔◌, true, None, Some, IfOk, IfSome, IfNone, IsSome, IsSomeAnd, IsTrue, slice_get};
 ghost use Rattle.relay_accounts.specs.Capped.{capped};
+ghost use Rattle.rtsp_message.specs.declared.status.Status.TheVariants as statuses;
 ghost use Rattle.relay_log.specs.declared.due.Due.TheVariants as dues;
+ghost use Rattle.relay_log.specs.declared.subject.Subject.TheVariants as subjects;
 ghost use Rattle.relay_log.specs.declared.refusing.state.MayReport.TheVariants.{Counted, Logged};
 ghost use Rattle.relay_log.specs.AddressRates.{place_in};
-ghost use Rattle.relay_log.specs.Counted.{CountsAt, NothingDue, first_due_of_all};
+ghost use Rattle.relay_log.specs.Counted.{CountsAt, IsEmpty, NothingDue, TellsRow, first_due_of_all, reported_at, without_old};
+ghost use Rattle.relay_log.specs.Nexts.{IfRow};
+ghost use Rattle.relay_log.specs.Refusals.{Counts};
 ghost use Rattle.relay_log.specs.Moments.{sooner_of};
 ghost use Rattle.relay_log.specs.Places.{place_of_refusal};
 ghost use Rattle.relay_log.specs.Rates.{MayTell};
@@ -94,7 +98,9 @@ impl MayReport {
 
 impl State {
     /// Nothing was refused or left out.
-    pub(super) fn new(alloc: Global) -> Result<State, AllocError> {
+    pub(super) fn new(alloc: Global) -> Result<State, AllocError>
+        ensures { IfOk result IsEmpty }
+    {
         Ok(State {
             tallies: [Tally::new(); Refusal::COUNT],
             requests: RefusedRequests::new(alloc)?,
@@ -109,7 +115,8 @@ impl State {
     /// Counts a refusal, if it is counted without its peer.
     pub(super) fn count(&mut self, why: Refusal) -> Noted
         ensures counted { IfSome (place_of_refusal why) (λ place. CountsAt self.old.tallies self.new.tallies place) }
-        ensures moment { self.new.moment ≡ self.old.moment }
+        ensures with_peer { IfNone (place_of_refusal why) (self.new ≡ self.old) }
+        ensures same { self.new ≡ record self.old { tallies = self.new.tallies } }
     {
         if let Some(place) = why.place() {
             self.tallies[place].add();
@@ -120,7 +127,9 @@ impl State {
     /// Counts a peer that was refused and stays until this moment.
     pub(super) fn count_peer(&mut self, why: Refusal, peer: SocketAddr, until: u64) -> Noted
         ensures counted { IfSome (place_of_refusal why) (λ place. CountsAt self.old.tallies self.new.tallies place) }
-        ensures moment { self.new.moment ≡ sooner_of self.old.moment (Some until) }
+        ensures with_peer { IfNone (place_of_refusal why) (self.new ≡ record self.old { requests = self.new.requests; moment = sooner_of self.old.moment (Some until) }) }
+        ensures same { IfSome (place_of_refusal why) (λ place. self.new ≡ record self.old { tallies = self.new.tallies; moment = sooner_of self.old.moment (Some until) }) }
+        ensures request { IfNone (place_of_refusal why) (Counts self.old.requests self.new.requests subjects.NoMount statuses.ServiceUnavailable peer) }
     {
         if why.place().is_none() {
             let status = Status::ServiceUnavailable;
@@ -145,7 +154,8 @@ impl State {
         status: Status,
         peer: SocketAddr,
     ) -> Noted
-        ensures moment { self.new.moment ≡ self.old.moment }
+        ensures counted { Counts self.old.requests self.new.requests subject.entry status peer }
+        ensures same { self.new ≡ record self.old { requests = self.new.requests } }
     {
         self.requests.add(subject, status, peer);
         Noted(())
@@ -157,6 +167,7 @@ impl State {
         requires { place < 11 }
         ensures known { IfSome (place_in address self.old.rates.known) (λ at. IsSomeAnd (slice_get self.old.rates.known at) (λ known. result ≡ Logged ↔ MayTell known.rate now)) }
         ensures logged { result ≡ Logged → self.new.unlogged ≡ self.old.unlogged }
+        ensures same { self.new ≡ record self.old { rates = self.new.rates; unlogged = self.new.unlogged } }
         ensures counted { (result ≡ Logged → ⊥) → CountsAt self.old.unlogged self.new.unlogged place }
     {
         if self.rates.tell(address, now) {
@@ -191,8 +202,12 @@ impl State {
     /// What is due at this moment. If nothing is refused any more, what was counted is reported at once.
     pub(super) fn next(&mut self, now: u64) -> Option<Due>
         ensures moment { IsSomeAnd self.old.moment (λ moment. moment ≤ now) → (result ≡ Some dues.Moment) × (self.new ≡ record self.old { moment = None }) }
+        ensures set { result ≡ Some dues.Moment → IsSomeAnd self.old.moment (λ moment. moment ≤ now) }
         ensures end { result ≡ Some dues.End → (self.old.is_closed ≡ true) × (self.new.moment ≡ None) × NothingDue self.new (2 ^ 64 - 1) }
-        ensures none { IfNone result (NothingDue self.new now) }
+        ensures ended { result ≡ Some dues.End → self.new ≡ without_old self.old (2 ^ 64 - 1) }
+        ensures row { IfRow result (TellsRow self.old self.new (reported_at self.old now)) }
+        ensures none { IfNone result (NothingDue self.new now × (self.new ≡ without_old self.old (reported_at self.old now))) }
+        ensures waits { IfNone result (self.old.is_closed ≡ true → IsSome self.old.moment) }
     {
         if self.moment.is_some_and(|moment| moment <= now) {
             self.moment = None;
@@ -210,12 +225,11 @@ impl State {
 
     /// The next row that is due at this moment.
     fn row(&mut self, now: u64) -> Option<RefusalRow>
-        ensures none { IfNone result (NothingDue self.new now) }
-        ensures moment { self.new.moment ≡ self.old.moment }
-        ensures closed { self.new.is_closed ≡ self.old.is_closed }
+        ensures row { IfSome result (TellsRow self.old self.new now) }
+        ensures none { IfNone result (NothingDue self.new now × (self.new ≡ without_old self.old now)) }
     {
         if let Some((place, count)) = tell_first(self.tallies.as_mut_slice(), now) {
-            return Some(RefusalRow::Peers(Refusal::ALL[place], count));
+            return Some(RefusalRow::Peers(Refusal::at(place), count));
         }
         if let Some(line) = self.requests.tell(now) {
             return Some(RefusalRow::Requests(line));
