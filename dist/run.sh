@@ -52,12 +52,13 @@ serve() {
 
 # Closes the pipe, kills the program if it's still there after five seconds, and exits with its status.
 stop() {
-    local status=0 tenths=0
+    # In microseconds, by the clock: a busy machine needs longer than its 0.1 seconds for each `sleep`.
+    local status=0 end=$((${EPOCHREALTIME/[.,]/} + 5000000))
     trap '' INT TERM HUP
     # First, so that no `sleep` holds the writer open.
     exec 3>&-
     while kill -0 "$child"; do
-        [ "$((tenths += 1))" != 50 ] || kill -KILL "$child" || true
+        [ "${EPOCHREALTIME/[.,]/}" -lt "$end" ] || kill -KILL "$child" || true
         sleep 0.1
     done
     wait "$child" || status=$?

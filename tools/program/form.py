@@ -1,19 +1,20 @@
-"""The form of README.md, which `tools/check-docs` asks for: its titles, the size of its parts, and its tables of options and of proofs."""
+"""The form of README.md and docs/OPERATING.md, which `tools/check-docs` asks for: their titles, the size of their parts, the options that
+they name, and README's tables of options and of proofs."""
 import collections
 import re
 
-from readme import cells, declared, parts, sentences, spans, table
+from readme import OPERATING, README, cells, declared, parts, sentences, spans, table
 
 # Per section, in lines of LINE_WIDTH characters; per sentence, in words; per paragraph or list item, in characters.
 SECTION_LINES, SENTENCE_WORDS, PARAGRAPH_CHARACTERS = 40, 30, 600
 
 LINE_WIDTH = 120
 
-# Titles that the man page, the tools and other pages name.
-TITLES = (
-    "Two commands", "Try it", "Options of `serve`", "Lines on standard error", "What to know", "Figures", "What is proved",
-    "What is trusted",
-)
+# Titles that the man page, the tools and other pages name: each is on its page once, and not on the other one.
+TITLES = {
+    README: ("Two commands", "Try it", "Options of `serve`", "What to know", "Figures", "What is proved", "What is trusted"),
+    OPERATING: ("Lines on standard error", "If something is wrong"),
+}
 
 OPTIONS, PROVED = "Options of `serve`", "What is proved"
 
@@ -24,7 +25,7 @@ PROVED_ROWS = 15
 # What names a theorem: a clause after its function, a law or a module of laws.
 CITED = re.compile(r"`#`\w+`|`(?:\w+::)*\w*laws(?:::\w+)?`")
 
-# What names a title of README.
+# What names a title of the same page. A title of another page is named by a link.
 TITLE_CITED = re.compile(r"\b(?:[Ss]ee|[Cc]heck of) \*([A-Z][^*]*)\*")
 
 # The options that each command has by the parser of the command line.
@@ -60,11 +61,12 @@ def oversized(page):
             yield f"{lines} lines of text in {section!r}; at most {SECTION_LINES} are allowed"
 
 
-def missing_titles(page):
+def wrong_titles(name, page):
     there = [part.text for part in page if part.kind == "title"]
-    for title in TITLES:
-        if there.count(title) != 1:
-            yield f"the title {title!r} is there {there.count(title)} times, and not once"
+    for owner, title in ((owner, title) for owner, titles in TITLES.items() for title in titles):
+        if there.count(title) != (owner == name):
+            wanted = "once" if owner == name else f"on {owner} alone"
+            yield f"the title {title!r} is there {there.count(title)} times, and not {wanted}"
 
 
 def unknown_titles(page):
@@ -127,17 +129,22 @@ def unproved_rows(text):
             yield f"the row {begin_of(row)!r} of {PROVED!r} cites no clause and no law"
 
 
-def wrong_form(text, sources):
-    """Yields what is wrong with README's text, by the sources of the command line: the text of each module by its name."""
-    page = parts(text)
-    options = {command: declared(sources, command) for command in ("serve", "talk", "steps", "pass")}
-    found = [option for each in options.values() for option in each]
-    for what, call, those in (("options", '.long("', found), ("ranges", ".value_parser(", [it for it in found if it.range])):
-        if len(those) != (there := sum(source.count(call) for source in sources.values())):
-            yield f"{len(those)} {what} of commands are found in sources that declare {there}"
-    yield from missing_titles(page)
+def wrong_page(name, page, names):
+    """What is wrong with a page of this name beside the tables of README. `names` are those of all options."""
+    yield from wrong_titles(name, page)
     yield from unknown_titles(page)
     yield from oversized(page)
-    yield from wrong_rows(text, options["serve"])
-    yield from unknown_options(page, OF_EACH | {option.name for option in found})
-    yield from unproved_rows(text)
+    yield from unknown_options(page, names)
+
+
+def wrong_form(readme, operating, sources):
+    """Yields the name of a page and what is wrong with its text, by the sources of the command line: the text of each module by its name."""
+    options = {command: declared(sources, command) for command in ("serve", "talk", "steps", "pass")}
+    found = [option for each in options.values() for option in each]
+    names = OF_EACH | {option.name for option in found}
+    for what, call, those in (("options", '.long("', found), ("ranges", ".value_parser(", [it for it in found if it.range])):
+        if len(those) != (there := sum(source.count(call) for source in sources.values())):
+            yield README, f"{len(those)} {what} of commands are found in sources that declare {there}"
+    for name, text in ((README, readme), (OPERATING, operating)):
+        yield from ((name, it) for it in wrong_page(name, parts(text), names))
+    yield from ((README, it) for it in [*wrong_rows(readme, options["serve"]), *unproved_rows(readme)])

@@ -3,9 +3,9 @@ import pathlib
 import re
 import subprocess
 
-from readme import table
+from readme import README, table
 
-README = pathlib.Path(__file__).resolve().parent.parent.parent / "README.md"
+TOP = pathlib.Path(__file__).resolve().parent.parent.parent
 
 # An option's lines: its name with that of its value, and its text, which goes on in lines of its column.
 OPTION = re.compile(r"(?m)^ {6}--([\w-]+)(?: <(\w+)>)? +(\S.*(?:\n {32}\S.*)*)$")
@@ -34,7 +34,7 @@ def of_readme(text):
 
 def help_has_readmes_words(program):
     """Each option has the same words in the help and in README."""
-    helped, said = list(of_help(program)), list(of_readme(README.read_text(encoding="utf-8")))
+    helped, said = list(of_help(program)), list(of_readme((TOP / README).read_text(encoding="utf-8")))
     if [row[0] for row in helped] != [row[0] for row in said]:
         yield f"the help has the options {[row[0] for row in helped]}, and README {[row[0] for row in said]}"
     for ours, theirs in zip(helped, said):

@@ -18,6 +18,7 @@ INSIDE = {
     "networks": "MOST_DIGITS",
     "pacing": "recent::MOST",
     "packet_ring": "WRITING NUMBER CELLS",
+    "process_figures": "TICK PAGE_BYTES",
     "publisher": "FIXED_HEADER SOURCE VERSION",
     "relay_fanout": "YIELDS QUIET NOTIFIED URGENT",
     "relay_log": "COUNT OTHERS",
@@ -26,6 +27,7 @@ INSIDE = {
     "relay_talk": "TALKER",
     "sdp": "CONTROL_LEN",
     "session_lock": "CUT",
+    "status_listener": "READ_BYTES DISCARD_BYTES MOST_CALLS MOST_ACCEPTS MOST_EVENTS LISTENER ENDING FIRST_VISIT NO_DATE",
     "transport_header": "CHANNELS MOST_CHANNELS",
     "waking": "NO_MARKS",
 }

@@ -1,4 +1,4 @@
-"""The man page of the Debian package, made from README's text and from the help of `talk` and `steps`."""
+"""The man page of the Debian package, made from README, docs/OPERATING.md and the help of `talk`, `steps` and `pass`."""
 import re
 import subprocess
 
@@ -54,7 +54,7 @@ def marked(found):
 
 
 def roff(text):
-    """Returns a line of README's text for roff: code and bold words in bold, words in italics so, and of links their texts."""
+    """Returns a line of a page's text for roff: code and bold words in bold, words in italics so, and of links their texts."""
     found, end = [], 0
     for span in [*SPAN.finditer(text), None]:
         plain = escaped(text[end: span.start() if span else len(text)])
@@ -66,7 +66,7 @@ def roff(text):
 
 
 def sentence(text):
-    """Returns a text of README's as a sentence, or nothing if it is empty or a dash."""
+    """Returns a text of a page as a sentence, or nothing if it is empty or a dash."""
     text = text.strip(" -–—")
     return text + "." if re.search(r"[^.?!]$", text) else text
 
@@ -89,7 +89,7 @@ def entry(head, row):
 
 
 def chapter(text, title):
-    """Returns a chapter of README: its paragraphs, its items and the rows of its tables."""
+    """Returns a chapter of a page: its paragraphs, its items and the rows of its tables."""
     made, head = [], []
     for part in parts(text):
         if part.chapter != title:
@@ -109,7 +109,7 @@ def chapter(text, title):
 
 
 def options(text):
-    """Returns the options of `serve`: the rows of their table alone."""
+    """Returns the options of `serve`: the rows of README's table alone."""
     rows = [cells(part.text) for part in parts(text) if part.chapter == OPTIONS and part.kind == "row"]
     return [line for row in [*rows, cells(HELP)] if len(row) == len(OPTION_COLUMNS) for line in entry(OPTION_COLUMNS, row)]
 
@@ -120,10 +120,10 @@ def help_of(program, command):
     return [f".SH HELP OF {command.upper()}", ".nf", *(begun(escaped(line)) for line in lines), ".fi"]
 
 
-def man_page(readme, program, number):
-    """Returns the man page by README's text, of the program at a path, with the number of its version."""
+def man_page(readme, operating, program, number):
+    """Returns the man page by the texts of README and docs/OPERATING.md, of the program at a path, with the number of its version."""
     about = [part.text for part in parts(readme) if part.kind == "paragraph"][:2]
     page = [HEAD.format(number=number).rstrip(), ".SH DESCRIPTION", roff(about[0]), ".PP", roff(about[1])]
-    page += [".SH OPTIONS OF SERVE", *options(readme), ".SH LINES ON STANDARD ERROR", *chapter(readme, LINES)]
+    page += [".SH OPTIONS OF SERVE", *options(readme), ".SH LINES ON STANDARD ERROR", *chapter(operating, LINES)]
     page += [*help_of(program, "talk"), *help_of(program, "steps"), *help_of(program, "pass"), ".SH SIGNALS", roff(SIGNALS), ".SH EXIT STATUS", EXIT_STATUS, ""]
     return "\n".join(page)

@@ -1,23 +1,21 @@
-"""The man page and what README says of lines: that they have each option and each line of the program, and no other line."""
+"""The man page and what docs/OPERATING.md says of lines: that they have each option and each line of the program, and no other line."""
 import re
 import shutil
 import subprocess
 
 from manpage import LINE_COLUMNS, LINES, man_page
 from peers import leave_out
-from readme import cells, parts, spans, table
+from readme import OPERATING, README, cells, parts, spans, table
 from written import ANY, BEGIN, NAMED, OF_TESTS, REASONS, TOP, WORDLESS, Table
 from written import common, fixed_words, forms_of, kinds, pattern, text_of, unwritten, words_of
 
-README = TOP / "README.md"
-
-# README's line that finds what to alert on.
+# The page's line that finds what to alert on.
 ALERTS = re.compile(r"(?m)^    journalctl .* grep -E '([^']+)'$")
 
 # The counts of an account, and the reasons for which connections are refused.
 COUNTS, REFUSALS = "relay_accounts/src/counts.rt", "relay_log/src/refusal.rt"
 
-# README's table of symptoms, and its column of the lines that the program writes then.
+# The page's table of symptoms, and its column of the lines that the program writes then.
 SYMPTOMS, SYMPTOM_LINE = "If something is wrong", "Line in the log"
 
 
@@ -28,7 +26,7 @@ def shown(page):
 
 
 def options_missing(program, page):
-    """Options of a command's help that the page doesn't have."""
+    """Options of a command's help that the man page doesn't have."""
     sections = dict(re.findall(r"(?ms)^\.SH ([^\n]+)\n(.*?)(?=^\.SH|\Z)", page))
     for command, section in (("serve", "OPTIONS OF SERVE"), ("talk", "HELP OF TALK"), ("steps", "HELP OF STEPS"), ("pass", "HELP OF PASS")):
         ran = subprocess.run([program, command, "--help"], capture_output=True, text=True, timeout=60)
@@ -39,23 +37,23 @@ def options_missing(program, page):
             words = option if command != "serve" else option.replace("<", "").replace(">", "")
             begins = r"^\.TP\n(?:-\w, )?" if command == "serve" else r"^ +(?:-\w, )?"
             if not re.search(rf"(?m){begins}{re.escape(words)}(?![\w-])", shown(sections.get(section, ""))):
-                yield f"the page has no option {words} of {command}"
+                yield f"the man page has no option {words} of {command}"
 
 
 def rows_missing(text, page):
-    """Rows of README's table of lines that the page doesn't have."""
+    """Rows of the table of lines that the man page doesn't have."""
     lines = text.partition("\n## Lines on standard error\n")[2].partition("\n## ")[0].splitlines()
     rows = [line for line in lines if re.match(rf"\| `({BEGIN.pattern})", line)]
     if not rows:
-        yield "README has no row of a line"
+        yield f"{OPERATING} has no row of a line"
     for row in rows:
         first = re.match(r"\| `([^`]*)`", row)[1].replace("\\|", "|")
         if f".TP\n{first}" not in shown(page):
-            yield f"the page has no line {first}"
+            yield f"the man page has no line {first}"
 
 
 def lines_missing(text):
-    """Kinds of lines that README's chapter doesn't have, and what it has that no source writes."""
+    """Kinds of lines that the chapter doesn't have, and what it has that no source writes."""
     said, which, there = Table(text), set(), set()
     for begin, form in kinds():
         there.add(form if begin == NAMED else (begin[7:-2], form))
@@ -74,7 +72,7 @@ def lines_missing(text):
 
 
 def texts_missing(table, begin, form, which):
-    """What README hasn't of a kind of line: each of its texts, and of each of their sources one line. `which` gets the places of the rows
+    """What the chapter hasn't of a kind of line: each of its texts, and of each of their sources one line. `which` gets the places of the rows
     that have them."""
     lines = {}
     for one, words, source in forms_of(begin, form):
@@ -82,16 +80,16 @@ def texts_missing(table, begin, form, which):
         is_said = words and all(run in table.chapter for run in fixed_words(words))
         lines[source] = lines.get(source, False) or is_line
         if words and not is_said and (source == REASONS or not is_line):
-            yield f"README has no line {begin}{form} with {words!r}"
+            yield f"{OPERATING} has no line {begin}{form} with {words!r}"
     if not all(lines.values()):
-        yield f"README has no line {begin}{form}"
+        yield f"{OPERATING} has no line {begin}{form}"
 
 
 def alerts_missed(text):
-    """What README's pattern for lines to alert on finds otherwise than its table says."""
+    """What the page's pattern for lines to alert on finds otherwise than its table says."""
     found = ALERTS.search(text)
     if not found:
-        yield "README has no pattern for lines to alert on"
+        yield f"{OPERATING} has no pattern for lines to alert on"
         return
     for row in (row for row in table(text, LINES) if len(row) == len(LINE_COLUMNS)):
         wanted = {"yes": True, "no": False}.get(row[2])
@@ -112,7 +110,7 @@ def counts():
 
 
 def counts_missed(text):
-    """Words of accounts and of refused connections that README's pattern for alerts finds otherwise than by their counts."""
+    """Words of accounts and of refused connections that the page's pattern for alerts finds otherwise than by their counts."""
     if not (found := ALERTS.search(text)):
         return
     alerts, words = found[1], counts()
@@ -127,7 +125,7 @@ def counts_missed(text):
 
 
 def symptoms_unwritten(text):
-    """Lines of README's table of symptoms that no source writes, as a whole or in part. At least half of a line's lower-case letters have
+    """Lines of the table of symptoms that no source writes, as a whole or in part. At least half of a line's lower-case letters have
     to be fixed words of a source: the others may be values, as a mount's name."""
     heads = [cells(part.text) for part in parts(text) if part.chapter == SYMPTOMS and part.kind == "head"]
     if [head.index(SYMPTOM_LINE) for head in heads if SYMPTOM_LINE in head] != [2]:
@@ -141,16 +139,17 @@ def symptoms_unwritten(text):
 
 
 def manual_is_whole(program):
-    """The man page has each option and each row of README's table of lines. The table has each kind of line that the sources write, and no
-    other, and README's pattern finds those that it says to alert on, and each count of a loss. So is each line of a symptom written."""
-    text = README.read_text(encoding="utf-8")
-    page = man_page(text, program, "0")
+    """The man page has each option, and each row of the table of lines of docs/OPERATING.md. The table has each kind of line that the
+    sources write, and no other. The page's pattern finds those that it says to alert on, and each count of a loss. Each line of a symptom
+    is written."""
+    readme, operating = ((TOP / it).read_text(encoding="utf-8") for it in (README, OPERATING))
+    page = man_page(readme, operating, program, "0")
     yield from options_missing(program, page)
-    yield from rows_missing(text, page)
-    yield from lines_missing(text)
-    yield from alerts_missed(text)
-    yield from counts_missed(text)
-    yield from symptoms_unwritten(text)
+    yield from rows_missing(operating, page)
+    yield from lines_missing(operating)
+    yield from alerts_missed(operating)
+    yield from counts_missed(operating)
+    yield from symptoms_unwritten(operating)
     if not shutil.which("groff"):
         leave_out(manual_is_whole, "groff isn't installed, which reports faults of the page")
         return

@@ -1,4 +1,4 @@
-"""The lines that README.md and the program's help give a reader to paste: bash runs each of them, and it has to do what it is for."""
+"""The lines that README.md, docs/OPERATING.md and the program's help give a reader to paste: bash runs each of them, and it has to do what it is for."""
 import concurrent.futures
 import contextlib
 import os
@@ -13,10 +13,11 @@ import types
 from limits import has_ipv6
 from pasting import ADDRESS, HERE, PREFIX, Door, Running, joined, kind_of, lacking, mounts, pointed, ports, programs, urls
 from peers import ALLOCATOR, LISTENS, Camera, Peer, Player, leave_out, serving, until
+from readme import OPERATING, README
 
-README = pathlib.Path(__file__).resolve().parent.parent.parent / "README.md"
+TOP = pathlib.Path(__file__).resolve().parent.parent.parent
 
-# How the lines of README that aren't run begin, and why they aren't.
+# How the lines of the pages that aren't run begin, and why they aren't.
 NOT_RUN = {
     ".ci/run": "it is what runs this",
     "tools/package": "it needs Debian's tools",
@@ -47,15 +48,15 @@ TIMEOUT = 124
 STATUS = re.compile(r"RTSP/1\.0 (\d{3})\b")
 
 
-def text_of_readme():
-    """README without its drawings."""
-    return re.sub(r"^```text\n.*?^```$", "", README.read_text(encoding="utf-8"), flags=re.M | re.S)
+def text_of(page):
+    """A page without its drawings and files, which are in fences."""
+    return re.sub(r"^```text\n.*?^```$", "", (TOP / page).read_text(encoding="utf-8"), flags=re.M | re.S)
 
 
-def of_readme():
-    """The command lines of README's code blocks, which are indented by four spaces, and the commands that it has the unit run."""
-    units = re.findall(r"(?m)^ExecStart=/usr/bin/vasklun (.+)$", README.read_text(encoding="utf-8"))
-    pasted = joined("\n".join(it[4:] if it.startswith("    ") else "" for it in text_of_readme().splitlines()))
+def of_page(page):
+    """The command lines of a page's code blocks, which are indented by four spaces, and the commands that it has the unit run."""
+    units = re.findall(r"(?m)^ExecStart=/usr/bin/vasklun (.+)$", (TOP / page).read_text(encoding="utf-8"))
+    pasted = joined("\n".join(it[4:] if it.startswith("    ") else "" for it in text_of(page).splitlines()))
     return pasted + [f"./relay {words}" for words in units]
 
 
@@ -269,15 +270,16 @@ class Room:
 
 
 def lines_paste(program):
-    """Each line of README and of the help does what it is for: it serves, publishes, plays or asks. Those that need what this system
+    """Each line of the pages and of the help does what it is for: it serves, publishes, plays or asks. Those that need what this system
     doesn't have are left out."""
-    readme = of_readme()
-    if "```" in text_of_readme():
-        yield "README has lines in a fence, which aren't seen: indent them by four spaces"
+    pasted = [line for page in (README, OPERATING) for line in of_page(page)]
+    for page in (README, OPERATING):
+        if "```" in text_of(page):
+            yield f"{page} has lines in a fence, which aren't seen: indent them by four spaces"
     for begins in NOT_RUN:
-        if not any(line.startswith(begins) for line in readme):
-            yield f"no line of README begins with {begins!r}, which isn't run since {NOT_RUN[begins]}"
-    lines = [line for line in dict.fromkeys([*readme, *of_help(program)]) if not line.startswith(tuple(NOT_RUN))]
+        if not any(line.startswith(begins) for line in pasted):
+            yield f"no line of the pages begins with {begins!r}, which isn't run since {NOT_RUN[begins]}"
+    lines = [line for line in dict.fromkeys([*pasted, *of_help(program)]) if not line.startswith(tuple(NOT_RUN))]
     wrong = list(faults(lines))
     yield from (f"{short(line)}: {what}" for line, what in wrong)
     with contextlib.ExitStack() as ends, concurrent.futures.ThreadPoolExecutor(max(1, len(lines))) as pool:

@@ -2,6 +2,9 @@
 import collections
 import re
 
+# The page that a reader needs first, and the page for operators.
+README, OPERATING = "README.md", "docs/OPERATING.md"
+
 # A part of a page: the titles of its chapter (`##`) and of its section (`##` or `###`), its kind and its text. The kinds are `title`,
 # `paragraph`, `item` (of a list), `head` and `row` (of a table) and `code` (a line of it).
 Part = collections.namedtuple("Part", "chapter section kind text")
@@ -72,6 +75,16 @@ def cells(row):
 def table(text, title):
     """Returns the rows of the tables of a chapter, without their heads."""
     return [cells(part.text) for part in parts(text) if part.chapter == title and part.kind == "row"]
+
+
+def anchors(text):
+    """Returns the anchors of a page's titles, as GitHub makes them. Of two titles with one anchor the second has `-1` after it."""
+    found, counted = set(), collections.Counter()
+    for part in (part for part in parts(text) if part.kind == "title"):
+        anchor = re.sub(r"[^\w -]", "", part.text.lower()).replace(" ", "-")
+        found.add(f"{anchor}-{counted[anchor]}" if counted[anchor] else anchor)
+        counted[anchor] += 1
+    return found
 
 
 def spans(text):

@@ -1,4 +1,4 @@
-"""The kinds of lines that the sources write to standard error, and whether README's table has them."""
+"""The kinds of lines that the sources write to standard error, and whether the table of docs/OPERATING.md has them."""
 import pathlib
 import re
 
@@ -25,13 +25,13 @@ LEVELS = {"warn": "WARN ", "info": "INFO ", "error": "ERROR", "debug": "DEBUG", 
 # A line of the script that runs the program. It has the script's name, which is this one in the package.
 SCRIPT, SCRIPTED, SCRIPT_PATH = "vasklun: ", re.compile(r'\becho "\$\{0##\*/\}: ([^"]*)" >&2'), TOP / "dist" / "run.sh"
 
-# What a line of README's table begins with.
+# What a line of the table begins with.
 BEGIN = re.compile(rf"\[[A-Z]+ +[\w:]+\] |{NAMED}|{SCRIPT}")
 
-# Lines of `talk` and `steps`, which README's table doesn't have.
+# Lines of `talk` and `steps`, which the table doesn't have.
 OF_TESTS = {"bad word", "bad line {number}", "stream fault {number}", "read failed", "write failed", "{fault}"}
 
-# What is written in place of a value: the sources of its words. One text of each source has to be in README's table as a line, and each
+# What is written in place of a value: the sources of its words. One text of each source has to be in the table as a line, and each
 # of the others too, or in its chapter by its words.
 VALUES = {
     ("relay_server::server", "{end}"): ("relay_accounts/src/ending.rt",),
@@ -44,7 +44,7 @@ VALUES = {
 # The sources whose texts have to be in the chapter by their words in any case, and a text of theirs that no line has.
 REASONS, NO_REASON = "relay_accounts/src/ending.rt", "done"
 
-# Lines that have no words of their own: what README calls them.
+# Lines that have no words of their own: what the table calls them.
 WORDLESS = {
     ("relay_main::serve", "{addr}: {error}"): "ADDR: ..",
     ("relay_main::serve", "{addr}: {error}: ADDRESS:PORT is asked for, as 127.0.0.1:8554, or 0.0.0.0:8554 for all addresses"): "ADDR: ..",
@@ -56,7 +56,7 @@ PART, IN_PLACE = "{part}: ", "{role} of {name}: "
 # In a pattern: a value without blanks, and any text, also none.
 ONE, ANY = "\1", "\2"
 
-# How many letters a line of README and one of the sources have in common, at least.
+# How many letters a line of the table and one of the sources have in common, at least.
 LETTERS = 4
 
 
@@ -128,13 +128,13 @@ def fixed_words(text):
 
 
 def unwritten(words):
-    """Whether no source writes words that README has for a value."""
+    """Whether no source writes words that the chapter has for a value."""
     texts = [text for sources in VALUES.values() for path in sources for text in words_of(path)]
     return not any(run in words or words in run for text in texts for run in fixed_words(text) if len(run) >= LETTERS)
 
 
 class Table:
-    """README's table of lines, and its chapter. `said` has of each line its beginning, its pattern, and whether that is a whole one and no
+    """The table of lines of docs/OPERATING.md, and its chapter. `said` has of each line its beginning, its pattern, and whether that is a whole one and no
     line's end; `words` has what the chapter's other tables begin with."""
 
     def __init__(self, text):

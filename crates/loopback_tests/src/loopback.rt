@@ -4,7 +4,8 @@ use log::Log;
 use pacing::Back;
 use packet_ring::Pass;
 use relay_server::{
-    Accepts, Access, Gate, Options, RingMaker, Seat, SharedBook, Stopping, run_server,
+    Accepts, Access, Gate, Maker, Options, Reports, RingMaker, Seat, SharedBook, Stopping,
+    run_server,
 };
 use session_lock::Book;
 use session_words::FixedWord;
@@ -308,8 +309,13 @@ where
             Ok(stopping) => stopping,
             Err(_) => return Err(AllocError),
         };
+        let reports = match options.report {
+            Some(_) => Some(Arc::new(alloc, Reports::new(alloc, maker.keep(), true)?)?),
+            None => None,
+        };
         run_server(
             served, alloc, &listener, options, maker, book, WORD, gate, moments, stopping, access,
+            reports,
         )
     })
     .expect(rt, "a thread")

@@ -52,13 +52,13 @@ impl NamedSums {
     {
         self.recorded = self.recorded.saturating_sub(1);
         self.ended = ends;
-        self.sums.add_mount(came);
+        self.sums = self.sums.with_mount(came);
     }
 
     /// A player of a mount of the name has left, with this account.
     pub(crate) fn leave(&mut self, account: SeatAccount)
         ensures { self.new ≡ left account self.old }
     {
-        self.sums.add_player(account);
+        self.sums = self.sums.with_player(account);
     }
 }

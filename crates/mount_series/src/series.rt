@@ -129,7 +129,7 @@ impl MountSeries {
         ensures totals { self.new.totals ≡ with_mount self.old.totals came.now }
         ensures ends { self.new.ends ≡ capped (self.old.ends + 1) }
     {
-        self.totals.add_mount(came);
+        self.totals = self.totals.with_mount(came);
         let before = self.ends;
         self.ends = before.saturating_add(1);
         if let Some(place) = place_of(self.named.as_slice(), name) {
@@ -145,7 +145,7 @@ impl MountSeries {
         ensures totals { self.new.totals ≡ with_player self.old.totals account }
         ensures ends { self.new.ends ≡ self.old.ends }
     {
-        self.totals.add_player(account);
+        self.totals = self.totals.with_player(account);
         if let Some(place) = place_of(self.named.as_slice(), name) {
             self.named[place].leave(account);
         }

@@ -4,7 +4,7 @@ ghost use Rattle.mount_series.specs.Sums.{IsAccountFrom, IsTallyFrom, both_accou
 
 use relay_accounts::{MountTally, SeatAccount};
 
-/// What came to mounts that have ended, and what became of the packets of players that have left. A count that would exceed 2^64 - 1
+/// What came to mounts, and what became of the packets of their players. A count that would exceed 2^64 - 1
 /// stays at 2^64 - 1.
 #[derive(Clone, Copy, Debug, PartialEq, Eq, Drop)]
 pub struct MountSums {
@@ -28,20 +28,26 @@ impl MountSums {
         }
     }
 
-    /// Adds what came to a mount that has ended.
-    pub fn add_mount(&mut self, came: &MountTally)
-        ensures added { self.new ≡ with_mount self.old came.now }
-        ensures grows { IsTallyFrom self.old.came self.new.came }
+    /// Returns these sums and what came to one more mount.
+    pub fn with_mount(self, came: &MountTally) -> MountSums
+        ensures added { result ≡ with_mount self came.now }
+        ensures grows { IsTallyFrom self.came result.came }
     {
-        self.came = both_tallies(self.came, *came);
+        MountSums {
+            came: both_tallies(self.came, *came),
+            players: self.players,
+        }
     }
 
-    /// Adds the account of a player that has left.
-    pub fn add_player(&mut self, account: SeatAccount)
-        ensures added { self.new ≡ with_player self.old account }
-        ensures grows { IsAccountFrom self.old.players self.new.players }
+    /// Returns these sums and the account of one more player.
+    pub fn with_player(self, account: SeatAccount) -> MountSums
+        ensures added { result ≡ with_player self account }
+        ensures grows { IsAccountFrom self.players result.players }
     {
-        self.players = both_accounts(self.players, account);
+        MountSums {
+            came: self.came,
+            players: both_accounts(self.players, account),
+        }
     }
 }
 

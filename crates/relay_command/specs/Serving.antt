@@ -47,7 +47,7 @@ HasRoomToSend (buffer.Bytes bytes) = 16384 ≤ bytes
 -- A server that is asked for has its numbers in their ranges, and no writers beside players that send themselves. The ring of a
 -- pass keeps 1 to 4,095 packets.
 abbrev pub IsServedInRange : Asked → Type 0
-IsServedInRange (asks.Serve addr settings origins) = IsInRange settings × SendsItself settings × HasRoomToSend settings.send_buffer
+IsServedInRange (asks.Serve endpoints settings origins) = IsInRange settings × SendsItself settings × HasRoomToSend settings.send_buffer
 IsServedInRange (asks.Talk word) = ⊤
 IsServedInRange (asks.Steps stopped) = ⊤
 IsServedInRange (asks.Pass passing) = (1 ≤ passing.keep) × (passing.keep ≤ 4095)

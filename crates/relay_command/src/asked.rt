@@ -9,7 +9,7 @@ ghost use Rattle.relay_command.specs.Stopping.{IsStopped, IsNoActor};
 
 use crate::channels::read_channels;
 use crate::commands::{command, pass_command, serve_command, steps_command};
-use crate::settings::{Origins, Passing, SendBuffer, Settings, number};
+use crate::settings::{Endpoints, Origins, Passing, SendBuffer, Settings, number};
 use crate::task::{Task, task_named};
 use clap::error::ErrorKind;
 use clap::{ArgMatches, Error};
@@ -27,8 +27,8 @@ pub enum Asked {
     Talk(Option<String>),
     /// A ring's schedule is run, after which this actor stops, if one does.
     Steps(Option<Actor>),
-    /// Connections are served at this address, with these settings, from these networks.
-    Serve(String, Settings, Origins),
+    /// Connections are served at these addresses, with these settings, from these networks.
+    Serve(Endpoints, Settings, Origins),
     /// A publisher's stream is passed through a ring to a player.
     Pass(Passing),
     /// No command, which the parser lets no line be.
@@ -58,7 +58,7 @@ fn asked_of(alloc: Global, matches: &ArgMatches) -> Result<Asked, Error>
             Ok(Asked::Steps(stopped))
         }
         Some(Task::Serve) => {
-            let addr = text_of(alloc, of_command, "addr")?.unwrap_or(String::new(alloc));
+            let endpoints = endpoints_of(alloc, of_command)?;
             let settings = Settings::of(of_command);
             if settings.is_direct && settings.writers.is_some_and(|count| count != 0) {
                 return Err(direct_by_writers(alloc)?);
@@ -67,7 +67,7 @@ fn asked_of(alloc: Global, matches: &ArgMatches) -> Result<Asked, Error>
                 return Err(short_send_buffer(alloc)?);
             }
             let origins = origins_of(alloc, of_command)?;
-            Ok(Asked::Serve(addr, settings, origins))
+            Ok(Asked::Serve(endpoints, settings, origins))
         }
         Some(Task::Pass) => Ok(Asked::Pass(passing_of(alloc, of_command)?)),
         None => Ok(Asked::Nothing),
@@ -112,6 +112,15 @@ fn text_of(alloc: Global, matches: &ArgMatches, name: &str) -> Result<Option<Str
         Some(text) => Ok(Some(String::from_str(alloc, text)?)),
         None => Ok(None),
     }
+}
+
+/// Returns the addresses at which a server listens.
+fn endpoints_of(alloc: Global, matches: &ArgMatches) -> Result<Endpoints, AllocError> {
+    Ok(Endpoints {
+        rtsp: text_of(alloc, matches, "addr")?.unwrap_or(String::new(alloc)),
+        http: text_of(alloc, matches, "http")?,
+        http_players: matches.get_flag("http-players"),
+    })
 }
 
 /// Returns the networks from which peers may publish and play, and those without limits for an address.

@@ -3,8 +3,8 @@ use crate::serve_options;
 use clap::{Arg, Command};
 use std::alloc::{AllocError, Global};
 
-/// The version of the program.
-const VERSION: &str = "0.1.0";
+/// The version of the program, as `relay --version` prints it.
+pub const VERSION: &str = "0.1.0";
 
 /// A server for clients of the same machine, as a line for the shell.
 const EXAMPLE: &str = "Example: a server for clients on this machine
@@ -131,6 +131,8 @@ pub(crate) fn serve_command<'a>(alloc: Global) -> Result<Command<'a>, AllocError
         .arg(serve_options::send_buffer(alloc))?
         .arg(serve_options::verbose(alloc))?
         .arg(serve_options::report(alloc))?
+        .arg(serve_options::http(alloc))?
+        .arg(serve_options::http_players(alloc)?)?
         .arg(serve_options::until_eof(alloc))?
         .arg(serve_options::accept(alloc))
 }

@@ -9,5 +9,6 @@ mod settings;
 mod task;
 
 pub use asked::{Asked, read_words};
-pub use settings::{Origins, Passing, SendBuffer, Settings};
+pub use commands::VERSION;
+pub use settings::{Endpoints, Origins, Passing, SendBuffer, Settings};
 pub use task::{Task, exit_code, task_named};

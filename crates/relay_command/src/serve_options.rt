@@ -198,6 +198,20 @@ pub(crate) fn report<'a>(alloc: Global) -> Arg<'a> {
         )
 }
 
+pub(crate) fn http<'a>(alloc: Global) -> Arg<'a> {
+    Arg::new(alloc, "http").long("http").value_name("ADDR").help(
+        "Serve metrics for Prometheus and status pages at this address{n}and port, as 127.0.0.1:9554, without a password [default: none]",
+    )
+}
+
+pub(crate) fn http_players<'a>(alloc: Global) -> Result<Arg<'a>, AllocError> {
+    Arg::new(alloc, "http-players")
+        .long("http-players")
+        .action(ArgAction::SetTrue)
+        .help("Add each player's own counts to the metrics of --http, by mount and{n}seat")
+        .requires_arg("http")
+}
+
 pub(crate) fn until_eof<'a>(alloc: Global) -> Arg<'a> {
     Arg::new(alloc, "until-eof")
         .long("until-eof")

@@ -59,6 +59,17 @@ pub struct Settings {
     pub until_eof: bool,
 }
 
+/// The addresses at which a server listens, as texts of an address and a port.
+#[derive(Debug, Drop)]
+pub struct Endpoints {
+    /// Where publishers and players connect.
+    pub rtsp: String,
+    /// Where status pages are served; `None` for nowhere.
+    pub http: Option<String>,
+    /// Whether the metrics have samples for each player. Then `http` is an address.
+    pub http_players: bool,
+}
+
 /// The networks from which peers may publish and play: `None` is everywhere, or for `exempt` nowhere.
 #[derive(Debug, Drop)]
 pub struct Origins {

@@ -1,5 +1,5 @@
 -- How many lines of each address were logged in a second. Moments are milliseconds.
-use Rattle.std.specs.Prelude.{◌≡◌, ◌≢◌, ◌↔◌, ◌/◌, ℕ, Bool, List, slice_get, slice_set, All, Option, IsSomeAnd, IsTrue}
+use Rattle.std.specs.Prelude.{◌≡◌, ◌≢◌, ◌↔◌, ◌/◌, ◌<◌, ℕ, Bool, true, List, [], ◌∷◌, ◌++◌, length, slice_get, slice_set, All, Option, None, IfSome, IsSomeAnd, IsTrue}
 use Rattle.std.specs.List.{position}
 use Rattle.networks.specs.declared.address.Address.{Address}
 use Rattle.networks.specs.Peers.{is_same}
@@ -35,3 +35,17 @@ pub record Tells (old new : Rates) (rate : LineRate) (now : ℕ) (told : Bool) (
   pub allowed : IsTrue told ↔ MayTell rate now
   pub told_more : IsTrue told → new ≡ counted (told_once_more rate now)
   pub same : (IsTrue told → ⊥) → new ≡ old
+
+-- A line of this address is logged exactly if its rate allows one at this moment, or if it has a place of its own from now on, or else
+-- if the rate of the others allows one. Then it is counted there. Else all stays as it was.
+pub record TellsAddress (old new : Rates) (address : Address) (now : ℕ) (told : Bool) : Type 0 where
+  pub known : IfSome (place_in address old.known) (λ place. IsSomeAnd (slice_get old.known place) (λ known. IsTrue told ↔ MayTell known.rate now))
+  pub counted : IfSome (place_in address old.known) (λ place. IsTrue told → IsSomeAnd (slice_get old.known place) (λ known.
+      new ≡ record old { known = slice_set old.known place (record known { rate = told_once_more known.rate now }) }))
+  pub same : (IsTrue told → ⊥) → new ≡ old
+  pub added : place_in address old.known ≡ None → length old.known < 256
+      → (told ≡ true) × (new ≡ record old { known = old.known ++ once_told address now ∷ [] })
+  pub taken : place_in address old.known ≡ None → length old.known ≡ 256 → (AreBusy old.known (now / 1000) → ⊥)
+      → (told ≡ true) × TakesPlace old new address now
+  pub others : place_in address old.known ≡ None → length old.known ≡ 256 → AreBusy old.known (now / 1000)
+      → Tells old new old.others now told (λ rate. record old { others = rate })

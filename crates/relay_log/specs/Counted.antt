@@ -5,7 +5,7 @@ use Rattle.relay_log.specs.declared.refusal_row.RefusalRow.{RefusalRow}
 use Rattle.relay_log.specs.declared.refusal_row.RefusalRow.TheVariants as rows
 use Rattle.relay_log.specs.declared.refusing.state.State.{State}
 use Rattle.relay_log.specs.declared.tally.Tally.{Tally}
-use Rattle.relay_log.specs.Places.{place_of_refusal}
+use Rattle.relay_log.specs.Places.{IsKindAt, place_of_refusal}
 use Rattle.relay_log.specs.Refusals.{IsDueCount, TellsFirst, due_of, is_kept}
 use Rattle.relay_log.specs.Tallies.{IsDue, IsToldFirst, due_at, earliest}
 
@@ -46,9 +46,10 @@ reported_at state now = if state.is_closed then 2 ^ 64 - 1 else now
 abbrev pub without_old : State → (now : ℕ) → State
 without_old state now = record state { requests = filter (is_kept now) state.requests }
 
--- The first kind of ends that is due has this count, and then counts as written.
-pub record TellsEnds (old new : State) (now count : ℕ) : Type 0 where
+-- The first kind of ends that is due is this one and has this count, and then counts as written.
+pub record TellsEnds (old new : State) (now : ℕ) (kind : List ℕ) (count : ℕ) : Type 0 where
   pub place : ℕ
+  pub is_kind : IsKindAt place kind
   pub told : IsToldFirst old.unlogged new.unlogged now place count
   pub same : new ≡ record (without_old old now) { unlogged = new.unlogged }
 
@@ -58,7 +59,7 @@ TellsRow old new now (rows.Peers why count) =
     IsSomeAnd (place_of_refusal why) (λ place. IsToldFirst old.tallies new.tallies now place count) × (new ≡ record old { tallies = new.tallies })
 TellsRow old new now (rows.Requests line) =
     TellsFirst (filter (is_kept now) old.requests) new.requests now line × (new ≡ record old { requests = new.requests })
-TellsRow old new now (rows.Ends kind count) = TellsEnds old new now count
+TellsRow old new now (rows.Ends kind count) = TellsEnds old new now kind.now count
 TellsRow old new now (rows.Accounts count) =
     IsDue old.unlogged_accounts now × (count ≡ old.unlogged_accounts.count)
     × (new ≡ record (without_old old now) { unlogged_accounts = record { count = 0; told = Some now } })

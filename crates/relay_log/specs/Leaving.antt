@@ -1,5 +1,6 @@
 -- Mounts and players of reports that end and leave.
-use Rattle.std.specs.Prelude.{ℕ, Bool, List, count_by, nat_eq, not, ◌&&◌, Option, is_some}
+use Rattle.relay_accounts.specs.declared.seat_account.SeatAccount.{SeatAccount}
+use Rattle.std.specs.Prelude.{ℕ, ◌-◌, Bool, List, count_by, nat_eq, not, ◌&&◌, Option, is_some}
 use Rattle.std.specs.List.{position}
 use Rattle.relay_log.specs.declared.reports.reported_mount.Mount.{Mount}
 use Rattle.relay_log.specs.declared.reports.reported_player.Player.{Player}
@@ -19,3 +20,11 @@ plays_on mount player = nat_eq player.mount mount && not (is_some player.left)
 -- how many of these players have
 abbrev pub players_of : (mount : ℕ) → List Player → ℕ
 players_of mount players = count_by (plays_on mount) players
+
+-- what is known of a seat's account when the seat is left: what isn't sent then may still be
+abbrev pub at_its_end : SeatAccount → SeatAccount
+at_its_end account = record account { unsent = 0 }
+
+-- what a seat's account has beside that, if so many packets were sent when the seat was left
+abbrev pub rest_of : (sent : ℕ) → SeatAccount → SeatAccount
+rest_of sent account = record { sent = account.sent - sent; skipped = 0; lost = 0; unsent = account.unsent }

@@ -1,5 +1,6 @@
 //! The kinds of ends of connections that aren't logged one by one if too many come.
-ghost use Rattle.std.specs.Prelude.{◌<◌, IfSome};
+ghost use Rattle.std.specs.Prelude.{◌≡◌, ◌<◌, IfSome};
+ghost use Rattle.relay_log.specs.Places.{place_of_end};
 
 use relay_accounts::ConnectionEnd;
 
@@ -20,7 +21,8 @@ pub(crate) const ENDS: [&str; 11] = [
 
 /// The place of an end among them. `None` for a good one.
 pub(crate) fn place_of(end: ConnectionEnd) -> Option<usize>
-    ensures { IfSome result (λ place. place < 11) }
+    ensures place { result ≡ place_of_end end }
+    ensures within { IfSome result (λ place. place < 11) }
 {
     match end {
         ConnectionEnd::Done => None,

@@ -1,25 +1,28 @@
-//! The reports of mounts and players while they go on.
+//! The mounts and players of a server while they go on: for reports, and for whoever asks for a snapshot.
 mod report_list;
 mod reported_mount;
 mod reported_player;
 mod told;
 
 use crate::lines::Lines;
+use mount_series::MountSeries;
+use relay_accounts::SeatAccount;
 use report_list::List;
 use reported_mount::Mount;
 pub(crate) use reported_mount::ReportedMount;
 use reported_player::Player;
 pub(crate) use reported_player::ReportedSeat;
-use status::PlayerTold;
+use status::Snapshot;
 use std::alloc::{AllocError, Global};
 use std::sync::{Condvar, CondvarTimeouts, Mutex, Wait};
 use std::time::{Clock, Duration};
 
-/// The mounts that are recorded and the players that have a seat, and what was reported of them. One thread reports each
-/// mount, and each player that lost packets, at regular times.
+/// The mounts that are recorded and the players that have a seat, what was reported of them, and the sums of those that have ended.
+/// One thread reports each mount, and each player that lost packets, at regular times.
 ///
-/// Its lock is held for a change of its lists, or for one report. Meanwhile a report queues its lines, and reads each mount's
-/// tally; no other lock is taken.
+/// Its lock is held for a change of its lists, for one report or for one snapshot. Meanwhile a report queues its lines, and each
+/// mount's tally is read; no other lock is taken. A mount's or a player's figures move to the sums under this lock, so that a snapshot
+/// has each packet once.
 pub struct Reports {
     alloc: Global,
     /// How many packets a ring keeps.
@@ -40,19 +43,22 @@ impl Drop for Reports {
 }
 
 impl Reports {
-    /// The reports of a server that records no mount. Each ring keeps `keep` packets.
-    pub fn new(alloc: Global, keep: u64) -> Reports {
+    /// The reports of a server that records no mount. Each ring keeps `keep` packets. If lines are logged at regular times, what has
+    /// ended waits for the next of them. The only error is out of memory.
+    pub fn new(alloc: Global, keep: u64, is_told: bool) -> Result<Reports, AllocError> {
         let list = List {
             mounts: Vec::new(alloc),
             players: Vec::new(alloc),
+            series: MountSeries::new(alloc)?,
+            is_told,
             is_closed: false,
         };
-        Reports {
+        Ok(Reports {
             alloc,
             keep,
             list: Mutex::new(list),
             closed: Condvar::new(),
-        }
+        })
     }
 
     /// A connection's mount is recorded.
@@ -63,7 +69,8 @@ impl Reports {
         conn: u64,
         mount: ReportedMount<'_>,
     ) -> Result<(), AllocError> {
-        let mount = Mount::new(alloc, conn, mount)?;
+        let began = mount.signal.last_packet(rt);
+        let mount = Mount::new(alloc, conn, began, mount)?;
         self.list.lock(rt).add_mount(mount)
     }
 
@@ -72,21 +79,38 @@ impl Reports {
         self.list.lock(rt).end_mount(rt, conn);
     }
 
-    /// A connection plays from this seat.
+    /// A connection plays from this seat, which it took at this moment, in milliseconds.
     pub(crate) fn player_begins(
         &self,
         rt: &impl Wait,
         alloc: Global,
         conn: u64,
+        now: u64,
         seat: ReportedSeat<'_>,
     ) -> Result<(), AllocError> {
-        let player = Player::new(alloc, conn, seat)?;
+        let player = Player::new(alloc, conn, now, seat)?;
         self.list.lock(rt).add_player(player)
     }
 
-    /// A connection has left its seat, after it was sent and lost this many packets.
-    pub(crate) fn player_leaves(&self, rt: &impl Wait, conn: u64, left: PlayerTold) {
-        self.list.lock(rt).leave(conn, left);
+    /// A connection has left its seat. What of this account isn't sent yet may still be.
+    pub(crate) fn player_leaves(&self, rt: &impl Wait, conn: u64, account: &SeatAccount) {
+        self.list.lock(rt).leave(conn, account);
+    }
+
+    /// The account of a seat of a mount of this name is closed, of which so many packets were sent when it was left.
+    pub(crate) fn seat_is_settled(
+        &self,
+        rt: &impl Wait,
+        name: &[u8],
+        sent: u64,
+        account: &SeatAccount,
+    ) {
+        self.list.lock(rt).settle(name, sent, account);
+    }
+
+    /// Returns the figures of each mount and each player at this moment, in milliseconds. The only error is out of memory.
+    pub fn snapshot(&self, rt: &impl Wait, now: u64) -> Result<Snapshot, AllocError> {
+        self.list.lock(rt).snapshot(rt, self.alloc, self.keep, now)
     }
 
     /// Waits until `distance` has passed, or they are closed. Returns whether they are closed.

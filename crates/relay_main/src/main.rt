@@ -3,7 +3,12 @@
 
 ghost use Rattle.std.specs.Prelude.{◌≤◌};
 
+mod addresses;
+mod process;
+mod send_buffers;
 mod serve;
+mod server_pages;
+mod status_pages;
 pub mod task;
 
 use interleaved::{Reading, Writing};
@@ -28,8 +33,8 @@ fn main(rt: HostRuntime) -> anyhow::Result<ExitCode> {
         Ok(Asked::Talk(text)) => talk_on_standard_streams(&rt, text.as_deref()),
         Ok(Asked::Steps(stopped)) => steps_on_standard_streams(&rt, stopped),
         Ok(Asked::Pass(passing)) => pass_on_standard_streams(&rt, &passing),
-        Ok(Asked::Serve(addr, settings, origins)) => {
-            match serve(rt, alloc, &addr, settings, origins, rt.stdin()) {
+        Ok(Asked::Serve(endpoints, settings, origins)) => {
+            match serve(rt, alloc, &endpoints, settings, origins, rt.stdin()) {
                 Ok(()) => Ok(exit_code(0)),
                 Err(line) => Ok(fails(&rt, FAILED, line)),
             }

@@ -1,29 +1,34 @@
 //! The command `relay serve`.
-ghost use Rattle.std.specs.Prelude.{◌≡◌};
+ghost use Rattle.std.specs.Prelude.{◌≡◌, ◌↔◌, ◌⊎◌, IfOk, IsSome};
 ghost use Rattle.relay_command.specs.Serving.{IsInRange};
 ghost use Rattle.relay_main.specs.Served.{milliseconds_of, told_to};
 
-use log::{Log, error, warn};
+use crate::addresses::log_no_listener;
+use crate::send_buffers::{bound_send_buffers, warn_of_buffers};
+use crate::status_pages::{bind_pages, start_pages};
+use log::{Log, warn};
 use rand::make_rng;
 use rand::rngs::StdRng;
-use relay_command::{Origins, SendBuffer, Settings};
+use relay_command::{Endpoints, Origins, SendBuffer, Settings};
 use relay_server::{
-    Access, ClockMoments, OpenGate, Options, RingMaker, Stopping, limit_peers, run_server,
-    set_send_buffer, shared_book, stop_listening,
+    Access, ClockMoments, Maker, OpenGate, Options, Reports, RingMaker, Stopping, limit_peers,
+    run_server, set_send_buffer, shared_book, stop_listening,
 };
 use session_words::{DrawnWords, NoWords};
 use std::alloc::{AllocError, Global};
 use std::collections::hash_map::RandomState;
+use std::fs::File;
 use std::io::{Eprint, ErrorKind, Read};
 use std::net::{Net, TcpListener, TcpStream};
 use std::random::RandomSource;
+use std::rt::Files;
 use std::sync::{Arc, Wait};
 use std::thread::Threads;
 use std::time::Clock;
 use std::{io, thread};
 
 /// The line on standard error of a server that can't go on.
-const CANNOT_LISTEN: &str = "relay: cannot listen";
+pub(crate) const CANNOT_LISTEN: &str = "relay: cannot listen";
 
 const OUT_OF_MEMORY: &str = "relay: out of memory";
 
@@ -83,50 +88,6 @@ fn in_milliseconds(seconds: Option<u64>) -> Option<u64>
     }
 }
 
-/// The send buffer of a connection if no other is asked for, in bytes: a burst of a camera's key frame fits in it.
-const SEND_BUFFER: u32 = 524_288;
-
-/// Bounds the send buffer of each connection that the listener accepts. The default is set if the system grants all of it: with
-/// less a burst loses more than with what the system does by itself. Returns how many bytes the system grants, if these are fewer.
-fn bound_send_buffers<R>(rt: &R, listener: &TcpListener, buffer: SendBuffer) -> Option<u32>
-where
-    R: Net<Listener = TcpListener, Stream = TcpStream>,
-{
-    match buffer {
-        SendBuffer::System => None,
-        SendBuffer::Bytes(bytes) => fewer_than(listener, bytes),
-        SendBuffer::Default => {
-            // Of another listener, since what was set once isn't taken back.
-            let Ok(other) = TcpListener::bind(rt, "127.0.0.1:0") else {
-                return fewer_than(listener, SEND_BUFFER);
-            };
-            match fewer_than(&other, SEND_BUFFER) {
-                Some(granted) => Some(granted),
-                None => fewer_than(listener, SEND_BUFFER),
-            }
-        }
-    }
-}
-
-/// Sets a listener's send buffer. Returns how many bytes the system grants, if these are fewer.
-fn fewer_than(listener: &TcpListener, bytes: u32) -> Option<u32> {
-    let granted = set_send_buffer(listener, bytes).unwrap_or(0);
-    (granted < bytes).then_some(granted)
-}
-
-/// Warns that send buffers aren't what was asked for, or aren't bounded.
-fn warn_of_buffers<R: Log>(rt: &R, buffer: SendBuffer, granted: u32) {
-    match buffer {
-        SendBuffer::System => {}
-        SendBuffer::Bytes(bytes) => {
-            warn!(rt; "send buffers have {granted} bytes, fewer than the {bytes} asked for: net.core.wmem_max is too small")
-        }
-        SendBuffer::Default => {
-            warn!(rt; "send buffers are the system's own, since it grants {granted} bytes, fewer than {SEND_BUFFER}: net.core.wmem_max is too small")
-        }
-    }
-}
-
 /// What peers may do by their addresses, as the command line says.
 fn access_of(settings: Settings, origins: Origins) -> Access {
     Access {
@@ -141,31 +102,6 @@ fn access_of(settings: Settings, origins: Origins) -> Access {
 /// Warns that the system has no limit for peers that acknowledge nothing.
 fn warn_of_peers<R: Log>(rt: &R) {
     warn!(rt; "the system disconnects no peer that acknowledges nothing: such a player is disconnected once its send buffer has been full for 20 s, such a publisher when its session expires")
-}
-
-/// Logs why nothing can be bound to an address, and if the text has no form of one what is asked for.
-fn log_no_listener<R: Log>(rt: &R, addr: &str, error: io::Error) {
-    if is_address(addr) {
-        error!(rt; "{addr}: {error}");
-    } else {
-        error!(rt; "{addr}: {error}: ADDRESS:PORT is asked for, as 127.0.0.1:8554, or 0.0.0.0:8554 for all addresses");
-    }
-}
-
-/// Whether a text has the form of a host and a port.
-fn is_address(text: &str) -> bool {
-    match text.rsplit_once(':') {
-        Some((host, port)) => is_host(host) && port.parse::<u16>().is_ok(),
-        None => false,
-    }
-}
-
-/// Whether a text has the form of a name, of an IPv4 address or of an IPv6 address in brackets (RFC 3986, 3.2.2).
-fn is_host(text: &str) -> bool {
-    match text.strip_prefix('[') {
-        Some(rest) => rest.ends_with(']'),
-        None => !text.is_empty() && !text.contains(':') && !text.contains('/') && text != "*",
-    }
 }
 
 /// Starts a thread that reads this input to its end, and then has the server stop.
@@ -201,11 +137,73 @@ fn read_to_end<I: Read + Drop>(mut input: I) {
     }
 }
 
+/// What goes on in a server, if lines or status pages tell of it. Each ring keeps `keep` packets.
+fn reports_of(
+    alloc: Global,
+    endpoints: &Endpoints,
+    settings: Settings,
+    keep: u64,
+) -> Result<Option<Arc<Reports, Global>>, AllocError>
+    ensures { IfOk result (λ reports. IsSome reports ↔ (IsSome settings.report ⊎ IsSome endpoints.now.http)) }
+{
+    let is_told = settings.report.is_some();
+    if !is_told && endpoints.http.is_none() {
+        return Ok(None);
+    }
+    let reports = Reports::new(alloc, keep, is_told)?;
+    Ok(Some(Arc::new(alloc, reports)?))
+}
+
+/// Listens for publishers and players. Logs why it can't.
+fn bind_server<R>(rt: &R, addr: &str) -> Result<TcpListener, &'static str>
+where
+    R: Log + Net<Listener = TcpListener, Stream = TcpStream>,
+{
+    match TcpListener::bind(rt, addr) {
+        Ok(listener) => Ok(listener),
+        Err(error) => {
+            log_no_listener(rt, addr, error);
+            Err(CANNOT_LISTEN)
+        }
+    }
+}
+
+/// What a server draws: how the book hashes, and the generator of its sessions' words.
+fn draw(rt: &impl RandomSource) -> Result<(RandomState, StdRng), &'static str> {
+    let Ok(hasher) = RandomState::new(rt) else {
+        return Err(NoWords::NoRandomSource.line());
+    };
+    let drawn: io::Result<StdRng> = make_rng(rt);
+    match drawn {
+        Ok(rng) => Ok((hasher, rng)),
+        Err(_) => Err(NoWords::NoRandomSource.line()),
+    }
+}
+
+/// Says that the server listens, and warns of what the system doesn't grant.
+fn tell_started<R: Log + Eprint>(
+    rt: &R,
+    listener: &TcpListener,
+    buffer: SendBuffer,
+    granted: Option<u32>,
+    is_limited: bool,
+) {
+    if let Ok(bound) = listener.local_addr() {
+        let _ = eprintln!(rt; "relay: listening on {bound}");
+    }
+    if let Some(granted) = granted {
+        warn_of_buffers(rt, buffer, granted);
+    }
+    if !is_limited {
+        warn_of_peers(rt);
+    }
+}
+
 /// Listens and serves, if the settings say so until the end of an input. Returns the line that says why it can't go on.
 pub fn serve<R, I>(
     rt: R,
     alloc: Global,
-    addr: &str,
+    endpoints: &Endpoints,
     settings: Settings,
     origins: Origins,
     input: I,
@@ -217,6 +215,7 @@ where
         + Clock
         + Log
         + Eprint
+        + Files<File = File>
         + RandomSource
         + Net<Listener = TcpListener, Stream = TcpStream>
         + Copy
@@ -225,46 +224,34 @@ where
         + 'static,
     requires ranges { IsInRange settings }
 {
-    let listener = match TcpListener::bind(&rt, addr) {
-        Ok(listener) => listener,
-        Err(error) => {
-            log_no_listener(&rt, addr, error);
-            return Err(CANNOT_LISTEN);
-        }
-    };
-    let Ok(listener) = Arc::new(alloc, listener) else {
-        return Err(OUT_OF_MEMORY);
-    };
+    let listener = bind_server(&rt, &endpoints.rtsp)?;
+    let pages = bind_pages(&rt, alloc, endpoints)?;
+    let listener = in_memory(Arc::new(alloc, listener))?;
     let granted = bound_send_buffers(&rt, &listener, settings.send_buffer);
     let is_limited = limit_peers(&listener).is_ok();
-    let Ok(stopping) = Arc::new(alloc, Stopping::new()) else {
-        return Err(OUT_OF_MEMORY);
-    };
-    if settings.until_eof && stop_at_end(rt, input, &listener, &stopping).is_err() {
-        return Err(OUT_OF_MEMORY);
+    let stopping = in_memory(Arc::new(alloc, Stopping::new()))?;
+    if settings.until_eof {
+        in_memory(stop_at_end(rt, input, &listener, &stopping))?;
     }
-    let Ok(hasher) = RandomState::new(&rt) else {
-        return Err(NoWords::NoRandomSource.line());
-    };
-    let drawn: io::Result<StdRng> = make_rng(&rt);
-    let Ok(rng) = drawn else {
-        return Err(NoWords::NoRandomSource.line());
-    };
+    let (hasher, rng) = draw(&rt)?;
     let maker = RingMaker::new(settings.keep, settings.seats, settings.packet_bytes);
-    let Ok(book) = shared_book(alloc, settings.seats, hasher) else {
-        return Err(OUT_OF_MEMORY);
-    };
+    let book = in_memory(shared_book(alloc, settings.seats, hasher))?;
     let options = options_of(settings, one_a_processor(&rt), is_limited);
-    if let Ok(bound) = listener.local_addr() {
-        let _ = eprintln!(rt; "relay: listening on {bound}");
-    }
-    if let Some(granted) = granted {
-        warn_of_buffers(&rt, settings.send_buffer, granted);
-    }
-    if !is_limited {
-        warn_of_peers(&rt);
-    }
-    match run_server(
+    let reports = in_memory(reports_of(alloc, endpoints, settings, maker.keep()))?;
+    tell_started(&rt, &listener, settings.send_buffer, granted, is_limited);
+    let moments = ClockMoments::new(rt);
+    let shows_players = endpoints.http_players;
+    let status = start_pages(
+        rt,
+        alloc,
+        pages,
+        &reports,
+        settings.seats,
+        shows_players,
+        moments,
+    );
+    let status = in_memory(status)?;
+    let served = run_server(
         rt,
         alloc,
         &*listener,
@@ -273,11 +260,18 @@ where
         book,
         DrawnWords(rng),
         OpenGate,
-        ClockMoments::new(rt),
+        moments,
         stopping,
         access_of(settings, origins),
-    ) {
-        Ok(()) => Ok(()),
-        Err(_) => Err(OUT_OF_MEMORY),
+        reports,
+    );
+    if let Some(status) = status {
+        status.end(&rt);
     }
+    in_memory(served)
+}
+
+/// Returns what memory was found for, or else the line of a server for which there is none.
+fn in_memory<T, E: Drop>(made: Result<T, E>) -> Result<T, &'static str> {
+    made.map_err(|_| OUT_OF_MEMORY)
 }

@@ -2,3 +2,4 @@ mod Following
 mod Ordering
 mod Reaching
 mod Stepping
+mod EachTrack

@@ -1,5 +1,5 @@
 -- The counts of a track.
-use Rattle.std.specs.Prelude.{ℕ, ◌-◌, ◌^◌, min, Option, Some, None}
+use Rattle.std.specs.Prelude.{ℕ, ◌+◌, ◌-◌, ◌^◌, min, Option, Some, None}
 use Rattle.sequence_counts.specs.declared.counts.Numbers.{Numbers}
 
 -- the highest packet since the last RECORD, if there is one, and the three counts
@@ -35,4 +35,13 @@ counted_since counts earlier = record counts {
   missing = counts.missing - earlier.missing;
   late = counts.late - earlier.late;
   restarts = counts.restarts - earlier.restarts;
+}
+
+-- what was counted of two tracks, and no highest packet
+abbrev pub both_counts : (one other : Counts) → Counts
+both_counts one other = record {
+  highest = None;
+  missing = capped (one.missing + other.missing);
+  late = capped (one.late + other.late);
+  restarts = capped (one.restarts + other.restarts);
 }

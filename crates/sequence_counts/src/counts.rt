@@ -1,6 +1,6 @@
 //! The missing and the late packets of a track, and how often its numbering began anew.
 ghost use Rattle.std.specs.Prelude.{◌≡◌, ◌+◌, ◌∷◌, ◌++◌, [], List, None};
-ghost use Rattle.sequence_counts.specs.Counts.{capped, counted_since, nothing_counted, with_highest};
+ghost use Rattle.sequence_counts.specs.Counts.{both_counts, capped, counted_since, nothing_counted, with_highest};
 ghost use Rattle.sequence_counts.specs.Counting.{AreCountsOf, Event, Packet, Recorded};
 
 use std::marker::Model;
@@ -134,6 +134,18 @@ impl SequenceCounts {
             missing: self.missing.saturating_sub(earlier.missing),
             late: self.late.saturating_sub(earlier.late),
             restarts: self.restarts.saturating_sub(earlier.restarts),
+        }
+    }
+
+    /// Returns what was counted of two tracks, with no highest packet.
+    pub fn plus(&self, other: &SequenceCounts) -> SequenceCounts
+        ensures { result ≡ both_counts self.now other.now }
+    {
+        SequenceCounts {
+            highest: None,
+            missing: self.missing.saturating_add(other.missing),
+            late: self.late.saturating_add(other.late),
+            restarts: self.restarts.saturating_add(other.restarts),
         }
     }
 }

@@ -4,6 +4,8 @@
 mod counts;
 mod header;
 pub mod laws;
+mod tracks;
 
 pub use counts::SequenceCounts;
 pub use header::rtp_numbers;
+pub use tracks::TrackCounts;

@@ -1,5 +1,6 @@
 //! The figures of a mount.
 ghost use Rattle.std.specs.Prelude.{◌≡◌};
+ghost use Rattle.status.specs.Names.{goes_on_as};
 ghost use Rattle.status.specs.Silences.{silent_for};
 
 use base_syntax::Bytes;
@@ -19,6 +20,19 @@ pub struct MountStatus {
     pub tally: MountTally,
     /// How many milliseconds ago its last packet came, or its first RECORD if no packet came.
     pub silence: u64,
+    /// How many milliseconds ago its first RECORD was.
+    pub age: u64,
+    /// Whether it has ended since its last line.
+    pub has_ended: bool,
+}
+
+impl MountStatus {
+    /// Returns whether it is recorded under this name.
+    pub fn goes_on_as(&self, name: &[u8]) -> bool
+        ensures { result ≡ goes_on_as name.now self.now }
+    {
+        !self.has_ended && self.name.as_slice() == name
+    }
 }
 
 /// The line that reports what came to a mount since its last report.

@@ -1,7 +1,9 @@
 //! The figures of a player.
 ghost use Rattle.std.specs.Prelude.{◌≡◌, ◌-◌, ◌<◌, ◌↔◌, IsTrue};
+ghost use Rattle.status.specs.Names.{account_so_far, plays_from};
 
 use base_syntax::Bytes;
+use relay_accounts::SeatAccount;
 use std::fmt;
 use std::net::SocketAddr;
 
@@ -14,10 +16,16 @@ pub struct PlayerStatus {
     pub seat: usize,
     /// How many its socket took.
     pub sent: u64,
+    /// How many are of tracks that it didn't set up.
+    pub skipped: u64,
     /// How many it has lost at least.
     pub lost: u64,
     /// How many were published and aren't taken for it yet.
     pub behind: u64,
+    /// How many milliseconds ago it took its seat.
+    pub age: u64,
+    /// Whether it has left its seat since its last line.
+    pub has_left: bool,
     /// What it was sent and lost since the last line that reported it.
     pub since: PlayerTold,
 }
@@ -62,6 +70,25 @@ impl PlayerStatus {
         PlayerTold {
             sent: self.sent,
             lost: self.lost,
+        }
+    }
+
+    /// Returns whether it has a seat of a mount of this name.
+    pub fn plays_from(&self, name: &[u8]) -> bool
+        ensures { result ≡ plays_from name.now self.now }
+    {
+        !self.has_left && self.mount.as_slice() == name
+    }
+
+    /// Returns what has become of its packets so far. What isn't taken for it yet is in no count.
+    pub fn account(&self) -> SeatAccount
+        ensures { result ≡ account_so_far self.now }
+    {
+        SeatAccount {
+            sent: self.sent,
+            skipped: self.skipped,
+            lost: self.lost,
+            unsent: 0,
         }
     }
 

@@ -1,15 +1,24 @@
 //! The mounts and players of a server at one moment.
-ghost use Rattle.std.specs.Prelude.{◌≡◌, []};
+ghost use Rattle.std.specs.Prelude.{◌≡◌, [], count_by, filter, not};
+ghost use Rattle.mount_series.specs.Sums.{nothing};
+ghost use Rattle.status.specs.Names.{behind_of, goes_on_as, plays_from, sums_of, sums_of_all, with_mounts, with_players};
 
 use crate::mount_status::MountStatus;
 use crate::player_status::PlayerStatus;
+use mount_series::{MountSums, NamedSums};
 use std::alloc::Global;
 
 /// The mounts that are recorded, in the order in which they came, and the players that have a seat, in the order in which the
-/// next report tells of them, each with its figures. Those that have ended since the last snapshot are among them.
+/// next report tells of them, each with its figures. Those that have ended since the last report are among them, and are marked.
+///
+/// Beside them are the sums of mounts that have ended and of players that have left, by the name of the mount.
 pub struct Snapshot {
     pub mounts: Vec<MountStatus>,
     pub players: Vec<PlayerStatus>,
+    /// The names of mounts that are recorded and of the last to end, each once, with what has ended.
+    pub named: Vec<NamedSums>,
+    /// What has ended, of all names that there ever were.
+    pub ended: MountSums,
 }
 
 impl Drop for Snapshot {
@@ -17,6 +26,8 @@ impl Drop for Snapshot {
         let Snapshot {
             mounts: _,
             players: _,
+            named: _,
+            ended: _,
         } = self;
     }
 }
@@ -26,10 +37,92 @@ impl Snapshot {
     pub fn new(alloc: Global) -> Snapshot
         ensures mounts { result.mounts.items ≡ [] }
         ensures players { result.players.items ≡ [] }
+        ensures named { result.named.items ≡ [] }
+        ensures ended { result.ended ≡ nothing }
     {
         Snapshot {
             mounts: Vec::new(alloc),
             players: Vec::new(alloc),
+            named: Vec::new(alloc),
+            ended: MountSums::nothing(),
         }
     }
+
+    /// Returns what became of the packets of a name's mounts and players, of those that have ended and of those that go on: each is
+    /// counted once.
+    pub fn sums_of(&self, named: &NamedSums) -> MountSums
+        ensures { result ≡ sums_of self.now named.now }
+    {
+        let name = named.name.as_slice();
+        let came = with_mounts_of(named.sums, self.mounts.as_slice(), name);
+        with_players_of(came, self.players.as_slice(), name)
+    }
+
+    /// Returns what became of the packets of all mounts and players that there ever were: each is counted once.
+    pub fn sums(&self) -> MountSums
+        ensures { result ≡ sums_of_all self.now }
+    {
+        let came = with_live_mounts(self.ended, self.mounts.as_slice());
+        with_seated_players(came, self.players.as_slice())
+    }
+
+    /// Returns how many players have a seat of a mount of this name.
+    pub fn players_of(&self, name: &[u8]) -> usize
+        ensures { result ≡ count_by (plays_from name.now) self.now.players.items }
+    {
+        self.players
+            .iter()
+            .filter(|player| player.plays_from(name))
+            .count()
+    }
+
+    /// Returns how many packets the player of a mount of this name is behind that is furthest behind. 0 if there is none.
+    pub fn behind_of(&self, name: &[u8]) -> u64
+        ensures { result ≡ behind_of name.now self.now.players.items }
+    {
+        self.players
+            .iter()
+            .filter(|player| player.plays_from(name))
+            .fold(0, |most, player| player.behind.max(most))
+    }
+}
+
+/// Returns the sums with what has come to the mounts that are recorded under this name.
+fn with_mounts_of(sums: MountSums, mounts: &[MountStatus], name: &[u8]) -> MountSums
+    ensures { result ≡ with_mounts sums (filter (goes_on_as name.now) mounts.now) }
+{
+    mounts
+        .iter()
+        .filter(|mount| mount.goes_on_as(name))
+        .fold(sums, |sums, mount| sums.with_mount(&mount.tally))
+}
+
+/// Returns the sums with what has become of the packets of the players that have a seat of a mount of this name.
+fn with_players_of(sums: MountSums, players: &[PlayerStatus], name: &[u8]) -> MountSums
+    ensures { result ≡ with_players sums (filter (plays_from name.now) players.now) }
+{
+    players
+        .iter()
+        .filter(|player| player.plays_from(name))
+        .fold(sums, |sums, player| sums.with_player(player.account()))
+}
+
+/// Returns the sums with what has come to the mounts that are recorded.
+fn with_live_mounts(sums: MountSums, mounts: &[MountStatus]) -> MountSums
+    ensures { result ≡ with_mounts sums (filter (λ mount. not mount.has_ended) mounts.now) }
+{
+    mounts
+        .iter()
+        .filter(|mount| !mount.has_ended)
+        .fold(sums, |sums, mount| sums.with_mount(&mount.tally))
+}
+
+/// Returns the sums with what has become of the packets of the players that have a seat.
+fn with_seated_players(sums: MountSums, players: &[PlayerStatus]) -> MountSums
+    ensures { result ≡ with_players sums (filter (λ player. not player.has_left) players.now) }
+{
+    players
+        .iter()
+        .filter(|player| !player.has_left)
+        .fold(sums, |sums, player| sums.with_player(player.account()))
 }

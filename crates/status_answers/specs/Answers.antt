@@ -15,6 +15,7 @@ use Rattle.status_answers.specs.declared.asked.Asked.{Asked}
 use Rattle.status_answers.specs.declared.asked.Asked.TheVariants as asks
 use Rattle.status_answers.specs.declared.answers.Answers.{Answers}
 use Rattle.status_answers.specs.Pages.{asked_for, content_type_of}
+use Rattle.status_answers.specs.Policies.{loads_nothing}
 
 -- fields, and behind them those of each answer: nobody keeps it (9111, 5.2.2.5), nobody guesses its type, and the connection ends with
 -- it (9112, 9.6)
@@ -40,9 +41,13 @@ pub record Says (now status : ℕ) (own : List Header) (body : List ℕ) (respon
   pub fields : AddsDated now (with_common own) (fields_of response)
   pub content : response.body.items ≡ body
 
--- the type of a body that isn't a page
-abbrev pub plain : Header
-plain = (codes "content-type", codes "text/plain; charset=utf-8")
+-- the type of a body, and what a browser may load and run for it
+abbrev pub typed : (kind policy : List ℕ) → List Header
+typed kind policy = (codes "content-type", kind) ∷ (codes "content-security-policy", policy) ∷ []
+
+-- the same of a body that isn't a page
+abbrev pub plain : List Header
+plain = typed (codes "text/plain; charset=utf-8") loads_nothing
 
 -- a page that says that the server works, or that it doesn't (15.6.4)
 abbrev pub status_of : (is_well : Bool) → ℕ
@@ -52,11 +57,11 @@ status_of is_well = if is_well then 200 else 503
 abbrev pub Answered : {P : Type 0} → (P → Page → Text → Type 0) → Answers P → Asked → Response → Type 0
 Answered shows answers (asks.Page page) response =
     (text : Text) × shows answers.pages page text
-    × Says answers.moment (status_of text.is_well) ((codes "content-type", content_type_of page) ∷ []) text.body response
+    × Says answers.moment (status_of text.is_well) (typed (content_type_of page) text.policy.now) text.body response
 Answered shows answers asks.NoPage response =
-    Says answers.moment 404 (plain ∷ []) (codes "there is no such page\n") response
+    Says answers.moment 404 plain (codes "there is no such page\n") response
 Answered shows answers asks.OtherMethod response =
-    Says answers.moment 405 ((codes "allow", codes "GET, HEAD") ∷ plain ∷ []) (codes "a page is asked for by GET or HEAD\n") response
+    Says answers.moment 405 ((codes "allow", codes "GET, HEAD") ∷ plain) (codes "a page is asked for by GET or HEAD\n") response
 
 -- what a request is answered, which changes nothing
 abbrev pub IsAnswer : {P : Type 0} → (P → Page → Text → Type 0) → Answers P → Request (List ℕ) → Response → Answers P → Type 0

@@ -1,10 +1,11 @@
 //! The answers to requests.
-ghost use Rattle.std.specs.Prelude.{◌≡◌, ◌≤◌, ◌++◌, ◌∷◌, [], OnOk, IfOk, IfSome, IfNone};
+ghost use Rattle.std.specs.Prelude.{◌≡◌, ◌≤◌, ◌++◌, ◌∷◌, [], IsTrue, OnOk, IfOk, IfSome, IfNone};
+ghost use Rattle.http_header.specs.FieldValue.{is_visible_text};
 ghost use Rattle.http_server.specs.Response.{fields_of};
-ghost use Rattle.status_answers.specs.Answers.{AddsDated, IsDateAt, plain, status_of, with_common};
+ghost use Rattle.status_answers.specs.Answers.{AddsDated, IsDateAt, plain, status_of, typed, with_common};
 
 use crate::asked::Asked;
-use crate::page::{Page, Pages};
+use crate::page::{LOADS_NOTHING, Page, Pages};
 use bytes::{BufMut, Bytes};
 use http::{HeaderValue, Request, StatusCode, header};
 use http_server::{Response, Service};
@@ -68,10 +69,9 @@ impl<P: Pages> Answers<P> {
         requires { IsBlank response.old }
         ensures { OnOk result (Answered P.shows self.now (asks.Page page) response.new) }
     {
-        let kind = HeaderValue::from_static(page.content_type());
-        response.add_header(header::CONTENT_TYPE, kind)?;
-        put_common(self.alloc, self.moment, response)?;
         let text = self.pages.text(page)?;
+        put_typed(response, page.content_type(), text.policy)?;
+        put_common(self.alloc, self.moment, response)?;
         response.status = status_of(text.is_well);
         response.body.push(text.body)
     }
@@ -90,13 +90,30 @@ fn status_of(is_well: bool) -> StatusCode
 
 /// Puts a text that isn't a page into a response.
 fn put_plain(response: &mut Response, text: &'static [u8]) -> Result<(), AllocError>
-    ensures fields { OnOk result (fields_of response.new ≡ fields_of response.old ++ plain ∷ []) }
+    ensures fields { OnOk result (fields_of response.new ≡ fields_of response.old ++ plain) }
     ensures body { OnOk result (response.new.body.items ≡ response.old.body.items ++ text.now) }
     ensures status { response.new.status ≡ response.old.status }
 {
-    let kind = HeaderValue::from_static("text/plain; charset=utf-8");
-    response.add_header(header::CONTENT_TYPE, kind)?;
+    put_typed(response, "text/plain; charset=utf-8", LOADS_NOTHING)?;
     response.body.push(Bytes::from_static(text))
+}
+
+/// Puts the type of a text into a response, and what a browser may load and run for it.
+fn put_typed(
+    response: &mut Response,
+    kind: &'static str,
+    policy: &'static str,
+) -> Result<(), AllocError>
+    requires kind { IsTrue (is_visible_text kind.now) }
+    requires policy { IsTrue (is_visible_text policy.now) }
+    ensures fields { OnOk result (fields_of response.new ≡ fields_of response.old ++ typed kind.now policy.now) }
+    ensures body { response.new.body ≡ response.old.body }
+    ensures status { response.new.status ≡ response.old.status }
+{
+    let kind = HeaderValue::from_static(kind);
+    response.add_header(header::CONTENT_TYPE, kind)?;
+    let policy = HeaderValue::from_static(policy);
+    response.add_header(header::CONTENT_SECURITY_POLICY, policy)
 }
 
 /// Puts the fields of each answer behind its own, and the moment: so many seconds since the beginning of 1970.

@@ -8,4 +8,4 @@ mod page;
 
 pub use answers::Answers;
 pub use asked::Asked;
-pub use page::{Page, Pages, Text};
+pub use page::{LOADS_NOTHING, Page, Pages, Text};

@@ -1,6 +1,8 @@
 //! The pages of a status listener.
-ghost use Rattle.std.specs.Prelude.{◌≡◌};
+ghost use Rattle.std.specs.Prelude.{◌≡◌, codes, true, IsTrue};
+ghost use Rattle.http_header.specs.FieldValue.{is_visible_text};
 ghost use Rattle.status_answers.specs.Pages.{content_type_of};
+ghost use Rattle.status_answers.specs.Policies.{loads_nothing};
 
 use bytes::Bytes;
 use std::alloc::AllocError;
@@ -14,7 +16,7 @@ pub enum Page {
     Metrics,
     /// `/status.json`: for scripts, and for the page of `/`.
     Figures,
-    /// `/health`: whether the server's threads go on.
+    /// `/health`: that the status pages are served.
     Health,
 }
 
@@ -24,6 +26,37 @@ pub struct Text {
     /// Whether the server says that it works: if not, the answer is 503.
     pub is_well: bool,
     pub body: Bytes,
+    /// What a browser may load and run for it, and show it in: the value of `Content-Security-Policy` (CSP Level 3, 3.1).
+    pub policy: &'static str,
+    ghost is_a_value: { IsTrue (is_visible_text policy.now) },
+}
+
+/// The policy of a text for which a browser loads and runs nothing, and which no other page shows in a frame.
+pub const LOADS_NOTHING: &str = "default-src 'none'; frame-ancestors 'none'";
+
+impl Text {
+    /// Returns the text of a server that works, for which a browser loads nothing.
+    pub fn plain(body: Bytes) -> Text
+        ensures is_well { result.is_well ≡ true }
+        ensures body { result.body ≡ body }
+        ensures policy { result.policy.now ≡ loads_nothing }
+    {
+        Text::with_policy(body, LOADS_NOTHING)
+    }
+
+    /// Returns the text of a server that works, with its own policy, which is visible ASCII and blanks.
+    pub fn with_policy(body: Bytes, policy: &'static str) -> Text
+        requires { IsTrue (is_visible_text policy.now) }
+        ensures is_well { result.is_well ≡ true }
+        ensures body { result.body ≡ body }
+        ensures policy { result.policy.now ≡ policy.now }
+    {
+        Text {
+            is_well: true,
+            body,
+            policy,
+        }
+    }
 }
 
 /// What has the text of each page.

@@ -18,11 +18,12 @@ use std::alloc::{AllocError, Global};
 use std::sync::{Arc, Mutex, Wait};
 use transport_header::{MOST_TRACKS, Point};
 
-/// A player's position: how many packets it was sent, how many were reported lost to it, and the number of the next one.
+/// A player's position: how many packets it was sent and skipped, how many were reported lost to it, and the number of the next one.
 #[derive(Clone, Copy, Drop)]
 pub(crate) struct Stand {
     pub(crate) cursor: u64,
     pub(crate) sent: u64,
+    pub(crate) skipped: u64,
     pub(crate) lost: u64,
 }
 
@@ -109,19 +110,30 @@ impl MountSignal {
     /// A player is at this position, and may have more to take.
     pub(crate) fn reach(&self, rt: &impl Wait, seat: usize, stand: Stand, known: &mut KnownLevel) {
         self.pace.reach(rt, seat, stand.cursor, known);
-        self.tallies.set_player(seat, stand.sent, stand.lost);
+        self.tell(seat, stand);
     }
 
     /// A player is at this position, and had nothing more to take.
     pub(crate) fn level(&self, rt: &impl Wait, seat: usize, stand: Stand, known: &mut KnownLevel) {
         self.pace.level(rt, seat, stand.cursor, known);
-        self.tallies.set_player(seat, stand.sent, stand.lost);
+        self.tell(seat, stand);
     }
 
     /// A player is at this position, and nothing more comes.
     pub(crate) fn stand(&self, seat: usize, stand: Stand) {
         self.pace.stand(seat, stand.cursor);
-        self.tallies.set_player(seat, stand.sent, stand.lost);
+        self.tell(seat, stand);
+    }
+
+    /// The figures of the player in a seat are those of this position.
+    fn tell(&self, seat: usize, stand: Stand) {
+        let Stand {
+            cursor: _,
+            sent,
+            skipped,
+            lost,
+        } = stand;
+        self.tallies.set_player(seat, sent, skipped, lost);
     }
 
     /// Counts a frame of the publisher with `bytes` bytes of data that came at this moment, in milliseconds, and met this fate.
@@ -161,6 +173,7 @@ impl MountSignal {
         let cursor = self.pace.cursor(seat);
         PlayerFigures {
             sent: self.tallies.sent(seat),
+            skipped: self.tallies.skipped(seat),
             lost: lost_so_far(lost, cursor, published, keep.saturating_add(TAKES)),
             behind: published.saturating_sub(cursor),
         }

@@ -35,10 +35,11 @@ struct Came {
     is_shortened: bool,
 }
 
-/// What the player in a seat was sent and lost.
+/// What became of the packets of the player in a seat.
 #[derive(Drop)]
 struct PlayerTally {
     sent: AtomicU64,
+    skipped: AtomicU64,
     lost: AtomicU64,
 }
 
@@ -49,6 +50,7 @@ impl Tallies {
         for _ in 0..seats {
             players.push(PlayerTally {
                 sent: AtomicU64::new(0),
+                skipped: AtomicU64::new(0),
                 lost: AtomicU64::new(0),
             })?;
         }
@@ -112,10 +114,11 @@ impl Tallies {
         (start, is_first)
     }
 
-    /// Sets how many packets the player in a seat was sent, and how many were reported lost to it, in total.
-    pub(crate) fn set_player(&self, seat: usize, sent: u64, lost: u64) {
+    /// Sets how many packets the player in a seat was sent, how many it skipped, and how many were reported lost to it, in total.
+    pub(crate) fn set_player(&self, seat: usize, sent: u64, skipped: u64, lost: u64) {
         if let Some(player) = self.players.get(seat) {
             player.sent.store(sent, Ordering::SeqCst);
+            player.skipped.store(skipped, Ordering::SeqCst);
             player.lost.store(lost, Ordering::SeqCst);
         }
     }
@@ -124,6 +127,14 @@ impl Tallies {
     pub(crate) fn sent(&self, seat: usize) -> u64 {
         match self.players.get(seat) {
             Some(player) => player.sent.load(Ordering::SeqCst),
+            None => 0,
+        }
+    }
+
+    /// Returns how many packets the player in a seat skipped, since their tracks aren't set up.
+    pub(crate) fn skipped(&self, seat: usize) -> u64 {
+        match self.players.get(seat) {
+            Some(player) => player.skipped.load(Ordering::SeqCst),
             None => 0,
         }
     }

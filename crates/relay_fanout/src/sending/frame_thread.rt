@@ -15,7 +15,7 @@ use crate::sending::way::Way;
 use cursor::Lend;
 use interleaved::Sink;
 use player::OutStop;
-use relay_accounts::{FrameEnd, Handover};
+use relay_accounts::{FrameEnd, HandedOver, Handover};
 use std::alloc::Global;
 use std::sync::{Arc, Wait};
 use std::time::{Clock, Duration};
@@ -143,11 +143,13 @@ impl<T: Lend + Leave + Drop, W: Sink + Drop, H: HangUp + Drop> SendSide<T, W, H>
 
 /// Returns the position of a player after a batch. All frames before the batch were taken, and the batch too unless a write failed.
 fn stand_of<T: Lend>(tap: &T, handover: &Handover) -> Stand
-    ensures { result ≡ record { cursor = cursor_of (T.account tap.now); sent = (handed_by handover.now 0).sent; lost = (T.account tap.now).lost } }
+    ensures { result ≡ record { cursor = cursor_of (T.account tap.now); sent = (handed_by handover.now 0).sent; skipped = (handed_by handover.now 0).skipped; lost = (T.account tap.now).lost } }
 {
+    let HandedOver { sent, skipped } = handover.handed(0);
     Stand {
         cursor: tap.cursor(),
-        sent: handover.handed(0).sent,
+        sent,
+        skipped,
         lost: tap.account().lost,
     }
 }

@@ -17,6 +17,7 @@ use crate::sending::writing_side::WritingSide;
 use cursor::Tap;
 use interleaved::{Failed, TrySink};
 use player::OutStop;
+use relay_accounts::HandedOver;
 use std::sync::Wait;
 use waking::{Answer, Course, Failure, Flushed, Next};
 
@@ -117,8 +118,13 @@ impl WriterPlayer {
         if sink.try_flush().is_err() {
             return held.answered(Answer::Failed(Failure::WriteFailed));
         }
-        let sent = self.handover.handed(sink.inner().taken()).sent;
-        let stand = Stand { cursor, sent, lost };
+        let HandedOver { sent, skipped } = self.handover.handed(sink.inner().taken());
+        let stand = Stand {
+            cursor,
+            sent,
+            skipped,
+            lost,
+        };
         match stop {
             OutStop::Done => {
                 self.signal.reach(rt, self.seat, stand, &mut self.known);

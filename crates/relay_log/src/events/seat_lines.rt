@@ -5,7 +5,6 @@ use log::{info, warn};
 use pacing::Start;
 use relay_accounts::{Part, SeatAccount};
 use relay_fanout::MountSignal;
-use status::PlayerTold;
 use std::alloc::Global;
 use std::sync::{Arc, Wait};
 use std::time::Clock;
@@ -14,7 +13,7 @@ use std::time::Clock;
 const TARGET: &str = "relay_server::events";
 
 impl<R: Wait + Clock> Events<R> {
-    /// The connection, which has this part in the mount of this number, plays from this seat of it.
+    /// The connection, which has this part in the mount of this number, plays from this seat of it since this moment, in milliseconds.
     pub fn plays(
         &self,
         rt: &R,
@@ -23,6 +22,7 @@ impl<R: Wait + Clock> Events<R> {
         part: &Option<Part>,
         seat: usize,
         signal: &Arc<MountSignal, Global>,
+        now: u64,
     ) {
         let Some(teller) = &self.teller else {
             return;
@@ -41,7 +41,10 @@ impl<R: Wait + Clock> Events<R> {
                 seat,
                 signal,
             };
-            if reports.player_begins(rt, alloc, teller.conn, seat).is_err() {
+            if reports
+                .player_begins(rt, alloc, teller.conn, now, seat)
+                .is_err()
+            {
                 teller.lines.miss();
             }
         }
@@ -69,19 +72,25 @@ impl<R: Wait + Clock> Events<R> {
             return;
         };
         if let Some(reports) = &teller.reports {
-            let figures = PlayerTold {
-                sent: account.sent,
-                lost: account.lost,
-            };
-            reports.player_leaves(rt, teller.conn, figures);
+            reports.player_leaves(rt, teller.conn, account);
         }
     }
 
-    /// The connection has left this seat with this account.
-    pub fn leaves(&self, part: &Option<Part>, seat: usize, account: &SeatAccount) {
+    /// The connection has left this seat with this account, of which so many packets were sent when it gave the seat up.
+    pub fn leaves(
+        &self,
+        rt: &R,
+        part: &Option<Part>,
+        seat: usize,
+        sent: u64,
+        account: &SeatAccount,
+    ) {
         let Some(teller) = &self.teller else {
             return;
         };
+        if let (Some(reports), Some(part)) = (&teller.reports, part) {
+            reports.seat_is_settled(rt, part.name.as_slice(), sent, account);
+        }
         let peer = teller.peer;
         match part {
             Some(part) if teller.is_verbose => {

@@ -1,13 +1,13 @@
 //! What was refused and left out since that was last reported, as a value.
 //!
 //! Each change returns what has to be told to the thread that writes the rows, so none is held back.
-ghost use Rattle.std.specs.Prelude.{◌≡◌, ◌+◌, ◌-◌, ◌^◌, ◌≤◌, ◌<◌, ◌↔◌, true, None, Some, IfOk, IfSome, IfNone, IsSome, IsSomeAnd, IsTrue, slice_get};
+ghost use Rattle.std.specs.Prelude.{◌≡◌, ◌+◌, ◌-◌, ◌^◌, ◌≤◌, ◌<◌, ◌↔◌, false, true, None, Some, IfOk, IfSome, IfNone, IsSome, IsSomeAnd, IsTrue, slice_get};
 ghost use Rattle.relay_accounts.specs.Capped.{capped};
 ghost use Rattle.rtsp_message.specs.declared.status.Status.TheVariants as statuses;
 ghost use Rattle.relay_log.specs.declared.due.Due.TheVariants as dues;
 ghost use Rattle.relay_log.specs.declared.subject.Subject.TheVariants as subjects;
 ghost use Rattle.relay_log.specs.declared.refusing.state.MayReport.TheVariants.{Counted, Logged};
-ghost use Rattle.relay_log.specs.AddressRates.{place_in};
+ghost use Rattle.relay_log.specs.AddressRates.{TellsAddress, place_in};
 ghost use Rattle.relay_log.specs.Counted.{CountsAt, IsEmpty, NothingDue, TellsRow, first_due_of_all, reported_at, without_old};
 ghost use Rattle.relay_log.specs.Nexts.{IfRow};
 ghost use Rattle.relay_log.specs.Refusals.{Counts};
@@ -166,6 +166,8 @@ impl State {
     pub(super) fn report_end(&mut self, place: usize, address: Address, now: u64) -> MayReport
         requires { place < 11 }
         ensures known { IfSome (place_in address self.old.rates.known) (λ at. IsSomeAnd (slice_get self.old.rates.known at) (λ known. result ≡ Logged ↔ MayTell known.rate now)) }
+        ensures told { result ≡ Logged → TellsAddress self.old.rates self.new.rates address now true }
+        ensures left_out { (result ≡ Logged → ⊥) → TellsAddress self.old.rates self.new.rates address now false }
         ensures logged { result ≡ Logged → self.new.unlogged ≡ self.old.unlogged }
         ensures same { self.new ≡ record self.old { rates = self.new.rates; unlogged = self.new.unlogged } }
         ensures counted { (result ≡ Logged → ⊥) → CountsAt self.old.unlogged self.new.unlogged place }

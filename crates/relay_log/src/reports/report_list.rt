@@ -1,13 +1,17 @@
 //! What reports know of mounts and players, and the lines of a report.
-ghost use Rattle.std.specs.Prelude.{◌≡◌, ◌↔◌, ◌<◌, ◌∷◌, [], ◌++◌, IsTrue, OnOk, OnErr};
-ghost use Rattle.relay_log.specs.Leaving.{players_of, recorded_in, seated_in};
+ghost use Rattle.std.specs.Prelude.{◌≡◌, ◌↔◌, ◌<◌, ◌∷◌, [], ◌++◌, IsTrue, None, IfOk, IfSome, OnOk, OnErr};
+ghost use Rattle.mount_series.specs.Sums.{with_player};
+ghost use Rattle.relay_log.specs.Leaving.{at_its_end, players_of, recorded_in, rest_of, seated_in};
 
 use crate::limits::REPORT_LINES;
 use crate::lines::Lines;
 use crate::reports::reported_mount::Mount;
 use crate::reports::reported_player::Player;
 use crate::reports::told::{Told, turn};
+use base_syntax::Bytes;
 use log::info;
+use mount_series::{MountSeries, NamedSums};
+use relay_accounts::SeatAccount;
 use status::{MountLine, PlayerLine, PlayerTold, Snapshot};
 use std::alloc::{AllocError, Global};
 use std::sync::Wait;
@@ -16,10 +20,13 @@ use std::time::Clock;
 /// The source that lines are logged with.
 const TARGET: &str = "relay_server::reports";
 
-/// The mounts and the players that are to be reported.
+/// The mounts and the players that go on or are to be reported, and the sums of those that have ended.
 pub(super) struct List {
     pub(super) mounts: Vec<Mount>,
     pub(super) players: Vec<Player>,
+    pub(super) series: MountSeries,
+    /// Whether reports are logged.
+    pub(super) is_told: bool,
     pub(super) is_closed: bool,
 }
 
@@ -28,20 +35,24 @@ impl Drop for List {
         let List {
             mounts: _,
             players: _,
+            series: _,
+            is_told: _,
             is_closed: _,
         } = self;
     }
 }
 
 impl List {
-    /// Adds a mount at the end. The only error is out of memory.
+    /// Adds a mount at the end. The only error is out of memory. What comes to a mount whose name has no sums is in the totals alone.
     pub(super) fn add_mount(&mut self, mount: Mount) -> Result<(), AllocError>
         ensures added { OnOk result (self.new.mounts.items ≡ self.old.mounts.items ++ mount ∷ []) }
         ensures err { OnErr result (self.new.mounts.items ≡ self.old.mounts.items) }
         ensures players { self.new.players ≡ self.old.players }
         ensures is_closed { self.new.is_closed ≡ self.old.is_closed }
     {
-        self.mounts.push(mount)?;
+        self.mounts.reserve(1)?;
+        let _ = self.series.begin(mount.name.as_slice());
+        self.mounts.push_reserved(mount);
         Ok(())
     }
 
@@ -50,14 +61,15 @@ impl List {
         ensures added { OnOk result (self.new.players.items ≡ self.old.players.items ++ player ∷ []) }
         ensures err { OnErr result (self.new.players.items ≡ self.old.players.items) }
         ensures mounts { self.new.mounts ≡ self.old.mounts }
+        ensures series { self.new.series ≡ self.old.series }
         ensures is_closed { self.new.is_closed ≡ self.old.is_closed }
     {
         self.players.push(player)?;
         Ok(())
     }
 
-    /// Ends a mount. It stays in the list until it is reported, if packets came since its last report and fewer than 100 others
-    /// wait.
+    /// Ends a mount: what came to it is in the sums of its name. It stays in the list until it is reported, if packets came since its
+    /// last report and fewer than 100 others wait.
     pub(super) fn end_mount(&mut self, rt: &impl Wait, conn: u64)
         ensures players { self.new.players ≡ self.old.players }
     {
@@ -66,7 +78,9 @@ impl List {
         };
         let ended = self.mounts.iter().filter(|mount| mount.has_ended).count();
         let mount = &mut self.mounts[place];
-        let has_news = !mount.signal.tally(rt).since(&mount.told).is_nothing();
+        let came = mount.signal.tally(rt);
+        self.series.end(mount.name.as_slice(), &came);
+        let has_news = self.is_told && !came.since(&mount.told).is_nothing();
         if may_wait(has_news, ended) {
             mount.has_ended = true;
         } else {
@@ -74,10 +88,12 @@ impl List {
         }
     }
 
-    /// A player leaves. It stays in the list until it is reported, if it has lost packets since its last report and fewer than 100
-    /// others wait.
-    pub(super) fn leave(&mut self, conn: u64, left: PlayerTold)
+    /// A player leaves: this account, but for what isn't sent, is in the sums of its mount's name. It stays in the list until it is
+    /// reported, if it has lost packets since its last report and fewer than 100 others wait.
+    pub(super) fn leave(&mut self, conn: u64, account: &SeatAccount)
         ensures mounts { self.new.mounts ≡ self.old.mounts }
+        ensures totals { IfSome (seated_in conn self.old.players.items) (λ place. self.new.series.totals ≡ with_player self.old.series.totals (at_its_end account.now)) }
+        ensures none { seated_in conn self.old.players.items ≡ None → self.new ≡ self.old }
     {
         let Some(place) = seated_at(self.players.as_slice(), conn) else {
             return;
@@ -88,17 +104,33 @@ impl List {
             .filter(|player| player.left.is_some())
             .count();
         let player = &mut self.players[place];
-        let has_lost = left.lost > player.told.lost;
+        self.series
+            .leave(player.name.as_slice(), at_its_end(account));
+        let has_lost = self.is_told && account.lost > player.told.lost;
         if may_wait(has_lost, gone) {
-            player.left = Some(left);
+            player.left = Some(PlayerTold {
+                sent: account.sent,
+                lost: account.lost,
+            });
         } else {
             self.players.remove(place);
         }
     }
 
-    /// Returns the figures of each mount and each player at this moment, in the order of the lists.
+    /// The account of a seat of a mount of this name is closed, of which so many packets were sent when it was left: the rest of it is
+    /// in the sums, too.
+    pub(super) fn settle(&mut self, name: &[u8], sent: u64, account: &SeatAccount)
+        ensures totals { self.new.series.totals ≡ with_player self.old.series.totals (rest_of sent account.now) }
+        ensures mounts { self.new.mounts ≡ self.old.mounts }
+        ensures players { self.new.players ≡ self.old.players }
+    {
+        self.series.leave(name, rest_of(sent, account));
+    }
+
+    /// Returns the figures of each mount and each player at this moment, in the order of the lists, and the sums of those that have
+    /// ended.
     pub(super) fn snapshot(
-        &self,
+        &mut self,
         rt: &impl Wait,
         alloc: Global,
         keep: u64,
@@ -111,9 +143,13 @@ impl List {
                 .mounts
                 .push(mount.status(rt, alloc, players, now)?)?;
         }
-        for player in &self.players {
-            snapshot.players.push(player.status(rt, alloc, keep)?)?;
+        for player in &mut self.players {
+            snapshot.players.push(player.status(rt, alloc, keep, now)?)?;
         }
+        for named in self.series.named() {
+            snapshot.named.push(copy_of(alloc, named)?)?;
+        }
+        snapshot.ended = self.series.totals();
         Ok(snapshot)
     }
 
@@ -170,6 +206,40 @@ impl List {
                 .left
                 .is_some_and(|left| left.lost <= player.told.lost)
         });
+    }
+}
+
+/// Returns a copy of the sums of a name. The only error is out of memory.
+fn copy_of(alloc: Global, named: &NamedSums) -> Result<NamedSums, AllocError>
+    ensures { IfOk result (λ copied. copied ≡ named.now) }
+{
+    Ok(NamedSums {
+        name: Bytes::from_slice(alloc, named.name.as_slice())?,
+        recorded: named.recorded,
+        ended: named.ended,
+        sums: named.sums,
+    })
+}
+
+/// Returns what is known of a seat's account when the seat is left: what isn't sent then may still be.
+fn at_its_end(account: &SeatAccount) -> SeatAccount
+    ensures { result ≡ at_its_end account.now }
+{
+    SeatAccount {
+        unsent: 0,
+        ..*account
+    }
+}
+
+/// Returns what a seat's account has beside what was known when the seat was left, of which so many packets were sent.
+fn rest_of(sent: u64, account: &SeatAccount) -> SeatAccount
+    ensures { result ≡ rest_of sent account.now }
+{
+    SeatAccount {
+        sent: account.sent.saturating_sub(sent),
+        skipped: 0,
+        lost: 0,
+        unsent: account.unsent,
     }
 }
 

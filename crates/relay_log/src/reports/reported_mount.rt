@@ -1,5 +1,6 @@
 //! The mounts of reports.
 ghost use Rattle.std.specs.Prelude.{◌≡◌, ◌<◌, false, IfOk, IfNone, IfSome, IsSome};
+ghost use Rattle.std.specs.Arc.{arc_value};
 ghost use Rattle.relay_accounts.specs.Reporting.{nothing_published};
 
 use crate::reports::told::Told;
@@ -28,6 +29,8 @@ pub(super) struct Mount {
     pub(super) publisher: SocketAddr,
     pub(super) signal: Arc<MountSignal, Global>,
     pub(super) told: MountTally,
+    /// When it was first recorded, in milliseconds.
+    pub(super) began: u64,
     pub(super) has_ended: bool,
 }
 
@@ -40,23 +43,27 @@ impl Drop for Mount {
             publisher: _,
             signal: _,
             told: _,
+            began: _,
             has_ended: _,
         } = self;
     }
 }
 
 impl Mount {
-    /// A connection's mount, of which nothing was reported.
+    /// A connection's mount, which is recorded from this moment on, in milliseconds, and of which nothing was reported.
     pub(super) fn new(
         alloc: Global,
         conn: u64,
+        began: u64,
         mount: ReportedMount<'_>,
     ) -> Result<Mount, AllocError>
         ensures conn { IfOk result (λ made. made.conn ≡ conn) }
         ensures number { IfOk result (λ made. made.number ≡ mount.entry.number) }
         ensures name { IfOk result (λ made. made.name ≡ mount.entry.name.now) }
         ensures publisher { IfOk result (λ made. made.publisher ≡ mount.entry.publisher) }
+        ensures signal { IfOk result (λ made. arc_value made.signal ≡ arc_value mount.entry.signal.now) }
         ensures nothing_told { IfOk result (λ made. made.told ≡ nothing_published) }
+        ensures began { IfOk result (λ made. made.began ≡ began) }
         ensures goes_on { IfOk result (λ made. made.has_ended ≡ false) }
     {
         let name = Bytes::from_slice(alloc, mount.name)?;
@@ -68,6 +75,7 @@ impl Mount {
             publisher: mount.publisher,
             signal,
             told: MountTally::new(),
+            began,
             has_ended: false,
         })
     }
@@ -86,6 +94,8 @@ impl Mount {
             players,
             tally: self.signal.tally(rt),
             silence: now.saturating_sub(self.signal.last_packet(rt)),
+            age: now.saturating_sub(self.began),
+            has_ended: self.has_ended,
         })
     }
 

@@ -16,6 +16,8 @@ pub(super) struct LeftSeat {
     seat: usize,
     left: Left,
     handover: Handover,
+    /// How many packets were sent when it was left.
+    sent: u64,
 }
 
 /// A seat's player was taken off the reports. Nothing else makes it, so that the seat goes back to the book, where another player
@@ -46,6 +48,7 @@ where
             seat,
             left,
             handover,
+            sent: account.sent,
         });
         if !waits {
             self.settle_seat();
@@ -60,6 +63,7 @@ where
                 seat,
                 left,
                 handover,
+                sent,
             },
         ) = self.left.take()
         else {
@@ -68,7 +72,8 @@ where
         let taken = self.player.writing.taken(&self.rt);
         let account = SeatAccount::of(&left, handover.handed(taken), self.shared.maker.keep());
         self.counts.add_out(&account);
-        self.events.leaves(&self.part, seat, &account);
+        self.events
+            .leaves(&self.rt, &self.part, seat, sent, &account);
     }
 
     /// A session begins, in which the connection has this part. It has an account of its own.

@@ -104,8 +104,8 @@ where
         let tap = self.shared.maker.attach(pass, back);
         let attached = signal.attached(seat, tap);
         self.player.put(&self.rt, attached);
-        self.events
-            .plays(&self.rt, self.alloc, mount, &self.part, seat, &signal);
+        let now = self.clock.watch().heard.now();
+        self.events.plays(&self.rt, self.alloc, mount, &self.part, seat, &signal, now);
         self.frames = Some(SeatHold::new(mount, seat, signal));
     }
 

@@ -36,7 +36,8 @@ pub(super) type SocketWriters = Writers<Subscriber, Writing<Socket>, Socket>;
 /// Serves connections of a listener: each is read by a thread of its own, and may do what `access` gives its address. Returns once
 /// `options.accept` connections were accepted and have ended; or after a stop, once `accept` fails: then all sockets are shut down,
 /// and what became of each connection is logged as far as lines are read within two seconds; else never. Returns an error if there
-/// is no memory or no thread for what all connections share. The book and the maker are of one number of seats; if they aren't,
+/// is no memory or no thread for what all connections share. `reports` has what goes on, for lines and for snapshots; without it
+/// no lines are reported, whatever the options say. The book and the maker are of one number of seats; if they aren't,
 /// each ANNOUNCE is answered 503. Sessions expire by these moments, of which each connection has its own copy.
 pub fn run_server<R, L, V, G, N>(
     rt: R,
@@ -50,6 +51,7 @@ pub fn run_server<R, L, V, G, N>(
     moments: N,
     stopping: Arc<Stopping, Global>,
     access: Access,
+    reports: Option<Arc<Reports, Global>>,
 ) -> Result<(), AllocError>
 where
     R: Threads + Wait + Clock + Log + Eprint + Copy + Send + Sync + 'static,
@@ -62,7 +64,9 @@ where
     let maker = maker.going_back(options.back).lending(options.is_direct);
     let shared = Shared::new(alloc, maker, book, words, gate, after_end)?;
     let shared = Arc::new(alloc, shared)?;
-    let server = Server::new(rt, alloc, shared, options, moments, stopping, access)?;
+    let server = Server::new(
+        rt, alloc, shared, options, moments, stopping, access, reports,
+    )?;
     let helpers = Helpers::start(rt, alloc, &server, options)?;
     accept_all(rt, alloc, listener, options, &server);
     server.stopping.wait(&rt);
@@ -126,12 +130,12 @@ impl<R: Wait + Clock + Copy, V: Drop, G: Drop, N: Copy> Server<R, V, G, N> {
         moments: N,
         stopping: Arc<Stopping, Global>,
         access: Access,
+        reports: Option<Arc<Reports, Global>>,
     ) -> Result<Server<R, V, G, N>, AllocError> {
         let lines = Arc::new(alloc, Lines::new(rt, alloc)?)?;
         let refusing = Arc::new(alloc, Refusing::new(&rt, alloc)?)?;
         let refused = RefusedPeers::new(alloc, Arc::try_clone(&refusing)?)?;
         let writers = writers_of(alloc, &shared, options)?;
-        let reports = reports_of(alloc, &shared, options)?;
         Ok(Server {
             shared,
             writers,
@@ -184,19 +188,4 @@ fn writers_of<V, G>(
     };
     let writers = Writers::new(alloc, options.writers, wake_signal, waits)?;
     Ok(Some(Arc::new(alloc, writers)?))
-}
-
-/// The reports that the options ask for, which aren't written yet.
-fn reports_of<V, G>(
-    alloc: Global,
-    shared: &RingShared<V, G>,
-    options: Options,
-) -> Result<Option<Arc<Reports, Global>>, AllocError>
-    ensures { IfOk result (λ reports. IsSome reports ↔ IsSome options.report) }
-{
-    if options.report.is_none() {
-        return Ok(None);
-    }
-    let reports = Reports::new(alloc, shared.maker.keep());
-    Ok(Some(Arc::new(alloc, reports)?))
 }

@@ -220,7 +220,9 @@ fn a_server_does_what_its_line_says(rt: HostRuntime) -> Result<(), Fail> {
 }
 
 /// Lines of `serve` that are refused: no address, two of them, a number that is out of its range or none.
-const REFUSED: [&str; 48] = [
+const REFUSED: [&str; 50] = [
+    "relay serve a --http",
+    "relay serve a --http-players",
     "relay serve a --silent 0",
     "relay serve a --silent 86401",
     "relay serve a --per-address 0",
@@ -275,6 +277,27 @@ const REFUSED: [&str; 48] = [
 fn a_line_out_of_range_is_refused(rt: HostRuntime) -> Result<(), Fail> {
     for line in &REFUSED {
         expect(&rt, line, settings(rt.alloc(), line)?.is_none());
+    }
+    Ok(())
+}
+
+/// Lines of `serve`, with the address of the status pages, and whether their metrics have samples for each player.
+const ENDPOINTS: [(&str, Option<&str>, bool); 3] = [
+    ("relay serve a", None, false),
+    ("relay serve a --http b", Some("b"), false),
+    ("relay serve a --http-players --http b", Some("b"), true),
+];
+
+#[test]
+fn a_line_has_the_addresses_to_listen_at(rt: HostRuntime) -> Result<(), Fail> {
+    for (line, http, has_players) in &ENDPOINTS {
+        let Ok(Asked::Serve(endpoints, _, _)) = asked(rt.alloc(), line)? else {
+            expect(&rt, line, false);
+            return Ok(());
+        };
+        expect(&rt, line, endpoints.rtsp.as_str() == "a");
+        expect(&rt, line, endpoints.http.as_deref() == *http);
+        expect(&rt, line, endpoints.http_players == *has_players);
     }
     Ok(())
 }

@@ -74,6 +74,10 @@ Options:
                                 requests
       --report <SECONDS>        Log every SECONDS what each mount received and what each player
                                 lost (1 to 86400) [default: off]
+      --http <ADDR>             Serve metrics for Prometheus and status pages at this address
+                                and port, as 127.0.0.1:9554, without a password [default: none]
+      --http-players            Add each player's own counts to the metrics of --http, by mount and
+                                seat
       --until-eof               End when standard input ends, and first log what each
                                 connection lost and, with --report, a last report
       --accept <N>              End after N connections were accepted and have ended

@@ -1,0 +1,40 @@
+-- What is before a value.
+use Rattle.std.specs.Prelude.{ℕ, List, codes}
+use Rattle.status_json.specs.declared.key.Key.{Key}
+use Rattle.status_json.specs.declared.key.Key.TheVariants as keys
+
+-- the name of a member, with the brace or the comma before it
+unfoldable pub key_text : Key → List ℕ
+key_text keys.Published = codes "{\"published\":"
+key_text keys.Pinned = codes ",\"pinned\":"
+key_text keys.TooLong = codes ",\"too_long\":"
+key_text keys.BadRtp = codes ",\"bad_rtp\":"
+key_text keys.UnknownChannel = codes ",\"unknown_channel\":"
+key_text keys.NoMemory = codes ",\"no_memory\":"
+key_text keys.FirstSent = codes "{\"sent\":"
+key_text keys.Sent = codes ",\"sent\":"
+key_text keys.Skipped = codes ",\"skipped\":"
+key_text keys.Lost = codes ",\"lost\":"
+key_text keys.Unsent = codes ",\"unsent\":"
+key_text keys.Name = codes "{\"name\":"
+key_text keys.Live = codes ",\"live\":"
+key_text keys.Players = codes ",\"players\":"
+key_text keys.FirstPackets = codes "{\"packets\":"
+key_text keys.Packets = codes ",\"packets\":"
+key_text keys.BytesIn = codes ",\"bytes_in\":"
+key_text keys.SlowedMs = codes ",\"slowed_ms\":"
+key_text keys.PlayerPackets = codes ",\"player_packets\":"
+key_text keys.BehindMax = codes ",\"behind_max\":"
+key_text keys.Publisher = codes ",\"publisher\":"
+key_text keys.AgeMs = codes ",\"age_ms\":"
+key_text keys.SilenceMs = codes ",\"silence_ms\":"
+key_text keys.Mount = codes "{\"mount\":"
+key_text keys.Seat = codes ",\"seat\":"
+key_text keys.Peer = codes ",\"peer\":"
+key_text keys.Behind = codes ",\"behind\":"
+key_text keys.Mounts = codes "{\"mounts\":"
+key_text keys.Recorded = codes ",\"recorded\":"
+key_text keys.Totals = codes ",\"totals\":"
+key_text keys.Item = codes ","
+key_text keys.FirstItem = codes "["
+key_text keys.Quote = codes "\""

@@ -1,0 +1,134 @@
+-- The text of `/status.json`.
+use Rattle.std.specs.Prelude.{ℕ, Bool, not, nat_lt, List, [], ◌∷◌, ◌++◌, codes, count_by, decimal, filter, map}
+use Rattle.relay_accounts.specs.declared.mount_tally.MountTally.{MountTally}
+use Rattle.relay_accounts.specs.declared.seat_account.SeatAccount.{SeatAccount}
+use Rattle.mount_series.specs.declared.sums.MountSums.{MountSums}
+use Rattle.mount_series.specs.declared.named_sums.NamedSums.{NamedSums}
+use Rattle.status.specs.declared.mount_status.MountStatus.{MountStatus}
+use Rattle.status.specs.declared.player_status.PlayerStatus.{PlayerStatus}
+use Rattle.status.specs.declared.snapshot.Snapshot.{Snapshot}
+use Rattle.status.specs.Names.{behind_of, plays_from, sums_of, sums_of_all}
+use Rattle.status_json.specs.declared.key.Key.TheVariants as keys
+use Rattle.status_json.specs.Json.{addr_text, keyed, list_text, string_text, truth_text}
+
+-- what became of the frames that came to mounts
+unfoldable pub came_front : MountTally → List ℕ
+came_front came =
+    keyed keys.Published (decimal came.packets)
+    ++ keyed keys.Pinned (decimal came.pinned)
+    ++ keyed keys.TooLong (decimal came.oversize)
+
+unfoldable pub came_back : MountTally → List ℕ
+came_back came =
+    keyed keys.BadRtp (decimal came.bad_rtp)
+    ++ keyed keys.UnknownChannel (decimal came.unknown_channel)
+    ++ keyed keys.NoMemory (decimal came.unkept)
+    ++ codes "}"
+
+abbrev pub came_text : MountTally → List ℕ
+came_text came = came_front came ++ came_back came
+
+-- what became of the packets for players
+unfoldable pub account_text : SeatAccount → List ℕ
+account_text players =
+    keyed keys.FirstSent (decimal players.sent)
+    ++ keyed keys.Skipped (decimal players.skipped)
+    ++ keyed keys.Lost (decimal players.lost)
+    ++ keyed keys.Unsent (decimal players.unsent)
+    ++ codes "}"
+
+-- the figures of a name
+pub record Figures : Type 0 where
+  pub name : List ℕ
+  pub is_live : Bool
+  pub players : ℕ
+  pub sums : MountSums
+  pub behind : ℕ
+
+unfoldable pub figures_in : Snapshot → NamedSums → Figures
+figures_in snapshot named = record {
+  name = named.name;
+  is_live = nat_lt 0 named.recorded;
+  players = count_by (plays_from named.name) snapshot.players.items;
+  sums = sums_of snapshot named;
+  behind = behind_of named.name snapshot.players.items;
+}
+
+unfoldable pub figures_front : Figures → List ℕ
+figures_front f =
+    keyed keys.Name (string_text f.name)
+    ++ keyed keys.Live (truth_text f.is_live)
+    ++ keyed keys.Players (decimal f.players)
+
+unfoldable pub figures_in_text : Figures → List ℕ
+figures_in_text f =
+    keyed keys.Packets (came_text f.sums.came)
+    ++ keyed keys.BytesIn (decimal f.sums.came.bytes)
+    ++ keyed keys.SlowedMs (decimal f.sums.came.slowed)
+
+unfoldable pub figures_out_text : Figures → List ℕ
+figures_out_text f =
+    keyed keys.PlayerPackets (account_text f.sums.players)
+    ++ keyed keys.BehindMax (decimal f.behind)
+    ++ codes "}"
+
+abbrev pub figures_text : Figures → List ℕ
+figures_text f = figures_front f ++ (figures_in_text f ++ figures_out_text f)
+
+-- a mount that is recorded
+unfoldable pub recorded_front : MountStatus → List ℕ
+recorded_front mount =
+    keyed keys.Name (string_text mount.name)
+    ++ keyed keys.Publisher (addr_text mount.publisher)
+
+unfoldable pub recorded_back : MountStatus → List ℕ
+recorded_back mount =
+    keyed keys.AgeMs (decimal mount.age)
+    ++ keyed keys.SilenceMs (decimal mount.silence)
+    ++ keyed keys.Players (decimal mount.players)
+    ++ codes "}"
+
+abbrev pub recorded_text : MountStatus → List ℕ
+recorded_text mount = recorded_front mount ++ recorded_back mount
+
+-- a player that has a seat
+unfoldable pub player_front : PlayerStatus → List ℕ
+player_front player =
+    keyed keys.Mount (string_text player.mount)
+    ++ keyed keys.Seat (decimal player.seat)
+    ++ keyed keys.Peer (addr_text player.peer)
+    ++ keyed keys.AgeMs (decimal player.age)
+
+unfoldable pub player_back : PlayerStatus → List ℕ
+player_back player =
+    keyed keys.Sent (decimal player.sent)
+    ++ keyed keys.Skipped (decimal player.skipped)
+    ++ keyed keys.Lost (decimal player.lost)
+    ++ keyed keys.Behind (decimal player.behind)
+    ++ codes "}"
+
+abbrev pub player_text : PlayerStatus → List ℕ
+player_text player = player_front player ++ player_back player
+
+-- the sums of all names
+unfoldable pub totals_text : MountSums → List ℕ
+totals_text sums =
+    keyed keys.FirstPackets (came_text sums.came)
+    ++ keyed keys.PlayerPackets (account_text sums.players)
+    ++ codes "}"
+
+-- the mounts that are recorded, and the players that have a seat
+abbrev pub recorded_in : Snapshot → List MountStatus
+recorded_in snapshot = filter (λ mount. not mount.has_ended) snapshot.mounts.items
+
+abbrev pub seated_in : Snapshot → List PlayerStatus
+seated_in snapshot = filter (λ player. not player.has_left) snapshot.players.items
+
+-- all of it
+unfoldable pub status_text : Snapshot → List ℕ
+status_text snapshot =
+    keyed keys.Mounts (list_text figures_text (map (figures_in snapshot) snapshot.named.items))
+    ++ keyed keys.Recorded (list_text recorded_text (recorded_in snapshot))
+    ++ keyed keys.Players (list_text player_text (seated_in snapshot))
+    ++ keyed keys.Totals (totals_text (sums_of_all snapshot))
+    ++ codes "}"

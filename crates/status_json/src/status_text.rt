@@ -1,0 +1,43 @@
+//! The text of `/status.json`.
+ghost use Rattle.std.specs.Prelude.{◌≡◌, ◌++◌, length, take, OnOk, OnErr};
+ghost use Rattle.status_json.specs.Status.{status_text};
+
+use crate::counts::write_totals;
+use crate::key::Key;
+use crate::lists::write_list;
+use crate::objects::{mount_rows, name_rows, player_rows};
+use status::Snapshot;
+use std::alloc::AllocError;
+
+/// Appends the text, or a part of it if memory is refused.
+#[tactic(auto, unfolding(crate::specs::Status::status_text))]
+fn write_status(out: &mut Vec<u8>, snapshot: &Snapshot) -> Result<(), AllocError>
+    ensures text { OnOk result (out.new.items ≡ out.old.items ++ status_text snapshot.now) }
+    ensures kept { OnErr result (take (length out.old.items) out.new.items ≡ out.old.items) }
+{
+    let alloc = *out.allocator();
+    let names = name_rows(alloc, snapshot)?;
+    let mounts = mount_rows(alloc, snapshot)?;
+    let players = player_rows(alloc, snapshot)?;
+    write_list(out, Key::Mounts, names.as_slice())?;
+    write_list(out, Key::Recorded, mounts.as_slice())?;
+    write_list(out, Key::Players, players.as_slice())?;
+    write_totals(out, Key::Totals, &snapshot.sums())?;
+    out.extend_from_slice(b"}")
+}
+
+/// Appends the figures of a server as one object of JSON: each name of a mount with its sums, each mount that is recorded, each player
+/// that has a seat, and the sums of all names.
+///
+/// The only error is out of memory. After it, `out` is as before.
+pub fn put_status(out: &mut Vec<u8>, snapshot: &Snapshot) -> Result<(), AllocError>
+    ensures ok { OnOk result (out.new.items ≡ out.old.items ++ status_text snapshot.now) }
+    ensures err { OnErr result (out.new.items ≡ out.old.items) }
+{
+    let before = out.len();
+    let written = write_status(out, snapshot);
+    if written.is_err() {
+        out.truncate(before);
+    }
+    written
+}

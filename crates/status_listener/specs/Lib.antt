@@ -1,0 +1,4 @@
+pub mod Accepting
+pub mod Peer
+pub mod Phase
+pub mod Visits

@@ -1,0 +1,17 @@
+-- The figures of each name of a snapshot.
+use Rattle.std.specs.Prelude.{count_by, nat_lt}
+use Rattle.mount_series.specs.declared.named_sums.NamedSums.{NamedSums}
+use Rattle.status.specs.declared.snapshot.Snapshot.{Snapshot}
+use Rattle.status.specs.Names.{behind_of, plays_from, sums_of}
+use Rattle.status_texts.specs.Name.{Figures}
+
+-- what ended of the name with what goes on, whether a mount of it is recorded, how many players have a seat of one,
+-- and how many packets the last of these is behind
+unfoldable pub figures_of : Snapshot → NamedSums → Figures
+figures_of snapshot named = record {
+  name = named.name;
+  sums = sums_of snapshot named;
+  is_live = nat_lt 0 named.recorded;
+  players = count_by (plays_from named.name) snapshot.players.items;
+  behind = behind_of named.name snapshot.players.items;
+}

@@ -1,0 +1,9 @@
+pub mod Families
+pub mod Figures
+pub mod Heads
+pub mod Metrics
+pub mod Name
+pub mod Numbers
+pub mod Players
+pub mod Process
+pub mod Seat
