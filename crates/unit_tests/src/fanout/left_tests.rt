@@ -8,10 +8,13 @@ use std::thread::Threads;
 use std::time::{Clock, Duration};
 
 /// How many milliseconds a write takes to a player that then leaves: fewer than a publisher waits at least for one that stays.
-const WRITE: u64 = 4;
+const WRITE: u64 = 2;
 
 /// How many milliseconds a publisher waits at most for it: it looks after half of the 20 milliseconds that it may wait.
-const SOON: u64 = 8;
+const SOON: u64 = 9;
+
+/// How many bursts come after a player that left: none of them may wait, on whatever machine.
+const BURSTS: u32 = 5;
 
 impl<R> Stage<R>
 where
@@ -48,7 +51,7 @@ fn a_player_that_leaves_is_waited_for_no_longer(rt: HostRuntime) {
     assert!(rt;
         (0..TRIES).any(|_| {
             let waited = waited_for_one_that_leaves(rt, alloc);
-            waited > 0 && waited < SOON
+            waited > 0 && waited <= SOON
         })
     );
 }
@@ -70,7 +73,7 @@ where
 fn a_player_that_left_is_not_waited_for(rt: HostRuntime) {
     let alloc = rt.alloc();
     for by_writer in [false, true] {
-        for _ in 0..TRIES {
+        for _ in 0..BURSTS {
             assert!(rt; waited_for_one_that_left(rt, alloc, by_writer) == 0);
         }
     }
