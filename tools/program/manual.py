@@ -13,7 +13,7 @@ from written import common, fixed_words, forms_of, kinds, pattern, text_of, unwr
 ALERTS = re.compile(r"(?m)^    journalctl .* grep -E '([^']+)'$")
 
 # The counts of an account, and the reasons for which connections are refused.
-COUNTS, REFUSALS = "relay_accounts/src/counts.rt", "relay_log/src/refusal.rt"
+COUNTS, REFUSALS = "relay_accounts/src/counts.rt", "server_counts/src/refusal.rt"
 
 # The page's table of symptoms, and its column of the lines that the program writes then.
 SYMPTOMS, SYMPTOM_LINE = "If something is wrong", "Line in the log"

@@ -39,7 +39,8 @@ LISTENS = re.compile(r"relay: listening on .*:(\d+)$")
 MOUNT_REPORT = re.compile(
     r"\[INFO  relay_server::reports\] mount (?P<mount>\S+): publisher (?P<publisher>\S+), players (?P<players>\d+), "
     r"packets (?P<packets>\d+), bytes (?P<bytes>\d+), pinned (?P<pinned>\d+), too long (?P<long>\d+), bad RTP (?P<bad>\d+), "
-    r"unknown channel (?P<unknown>\d+), no memory (?P<unkept>\d+)(?:, slowed (?P<slowed>\d+) ms)?(?:, silent (?P<silent>\d+) s)?"
+    r"unknown channel (?P<unknown>\d+), no memory (?P<unkept>\d+)(?:, slowed (?P<slowed>\d+) ms)?"
+    r"(?:, missing (?P<missing>\d+))?(?:, silent (?P<silent>\d+) s)?"
 )
 
 PLAYER_REPORT = re.compile(
@@ -161,7 +162,7 @@ def ends_told(server, name):
 
 
 def mounts_reported(lines):
-    """The lines of reports about mounts, as numbers by their words. `slowed` is 0 if it isn't told, and so is `silent`."""
+    """The lines of reports about mounts, as numbers by their words. `slowed`, `missing` and `silent` are 0 if they aren't told."""
     found = [it.groupdict("0") for it in map(MOUNT_REPORT.fullmatch, lines) if it]
     return [{word: it if word in ("mount", "publisher") else int(it) for word, it in row.items()} for row in found]
 

@@ -84,10 +84,11 @@ def seats_of(values):
 
 
 def samples_of(player):
-    """The samples of a player in seat 0 that was sent 40 packets."""
+    """The samples of a player in seat 0 that was sent 40 packets of 12 bytes."""
     labels = 'mount="cam",seat="0"'
     counts = {f'vasklun_seat_packets_total{{{labels},result="{name}"}}': count for name, count in (("sent", 40), ("skipped", 0), ("lost", 0))}
-    return {**counts, f"vasklun_seat_behind_packets{{{labels}}}": 0, f'vasklun_player_info{{{labels},peer="{player.name()}"}}': 1}
+    of_seat = {f"vasklun_seat_bytes_total{{{labels}}}": 40 * 12, f"vasklun_seat_behind_packets{{{labels}}}": 0}
+    return {**counts, **of_seat, f'vasklun_player_info{{{labels},peer="{player.name()}"}}': 1}
 
 
 def players_have_samples(program, *options):

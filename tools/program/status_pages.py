@@ -11,7 +11,7 @@ import socket
 import subprocess
 import time
 
-from peers import GATHER, IN, OUT, Camera, serving, until
+from peers import GATHER, IN, OUT, Camera, serving, until, wanted
 
 # The line of a server that serves status pages on a port.
 SERVES = re.compile(r"relay: status pages on http://127\.0\.0\.1:(\d+)/")
@@ -150,6 +150,42 @@ def names_are_escaped(program):
                     yield f"{name} is shown as {names}"
 
 
+# A description whose words would be HTML, a quote, a control character and no UTF-8; and its tracks as they are shown, in their order.
+DESCRIPTION = b"""v=0\r
+m=<img/src=x/onerror=alert(1)> 0 RTP/AVP "\x1b\xff\r
+a=control:streamid=0\r
+m=audio 0 RTP/AVP 97 98\r
+m=""" + b"v" * 65 + b" 0 RTP/AVP " + b"9" * 65 + b"\r\n"
+SHOWN = ("<img/src=x/onerror=alert(1)>", '"\x1b\ufffd'), ("audio", "97"), ("v" * 64, "9" * 64)
+
+
+class Described(Camera):
+    """Records into a mount of that description."""
+
+    def announce(self, url):
+        self.url = url
+        wanted(self.ask("ANNOUNCE", self.url, body=DESCRIPTION))
+        self.set_up(f"{self.url}/streamid=0", "interleaved=0-1;mode=record")
+
+
+def described(port):
+    """The tracks of each mount that is recorded, as `/status.json` has them."""
+    recorded = json.loads(answer(port, "/status.json")[2])["recorded"]
+    return {it["name"]: tuple((track["media"], track["format"]) for track in it["tracks"]) for it in recorded}
+
+
+def tracks_are_shown(program):
+    """The media and the first format of each track are texts of JSON, whatever bytes they have, while the mount is recorded."""
+    with pages_of(program) as (server, port), Camera(server, "plain"):
+        with Described(server):
+            due = {"plain": (("video", "96"),), "cam": SHOWN}
+            if not until(5, lambda: described(port) == due):
+                yield f"{described(port)} are shown, and not {due}"
+        del due["cam"]
+        if not until(5, lambda: described(port) == due):
+            yield f"after the end {described(port)} are shown, and not {due}"
+
+
 # A row of docs/METRICS.md, and the line of the format that has the same.
 DESCRIBED = re.compile(r"^\| `((?:vasklun|process)_\w+)` \| (counter|gauge) \|", re.M)
 
@@ -196,14 +232,17 @@ def process_is_shown(program):
             yield f"it answers, and runs for no more than {ran} s"
 
 
-RESULT = re.compile(r"^\| `(?!result`)(\w+)` \| [A-Z]", re.M)
+RESULT = re.compile(r"^\| `(?!result`|reason`)(\w+)` \| [A-Z]", re.M)
+
+# The samples of the server by a result or a reason.
+BY_RESULT = re.compile(r'^vasklun_(?:(?:player_)?packets_total\{result|connections_refused_total\{reason)="(\w+)"\}', re.M)
 
 
 def results_are_described(program):
-    """docs/METRICS.md has each result, and no other."""
+    """docs/METRICS.md has each result and reason, and no other."""
     page = METRICS.read_text()
     with pages_of(program) as (_, port):
-        served = re.findall(r'^vasklun_(?:player_)?packets_total\{result="(\w+)"\}', answer(port, "/metrics")[2].decode(), re.M)
+        served = BY_RESULT.findall(answer(port, "/metrics")[2].decode())
     if served != RESULT.findall(page):
         yield f"served {served}, described {RESULT.findall(page)}"
 
@@ -234,4 +273,4 @@ def address_in_use(program):
                 yield f"{addr}: {ran.returncode} {lines}"
 
 
-PARTS = [(part, ()) for part in (pages_are_answered, what_is_no_request_is_refused, names_are_escaped, metrics_are_described, results_are_described, process_is_shown, page_runs_its_own_alone, address_in_use)]
+PARTS = [(part, ()) for part in (pages_are_answered, what_is_no_request_is_refused, names_are_escaped, tracks_are_shown, metrics_are_described, results_are_described, process_is_shown, page_runs_its_own_alone, address_in_use)]

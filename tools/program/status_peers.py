@@ -1,4 +1,5 @@
 """Whom the port of a server's status pages lets wait, and what a peer can make it hold."""
+import collections
 import contextlib
 import email.utils
 import os
@@ -9,8 +10,12 @@ import socket
 import subprocess
 import time
 
-from peers import Camera
+from peers import Camera, Player
 from status_pages import PROMPT, SILENT, answer, pages_of, said
+
+# How many strangers come, in how many turns.
+STRANGERS, TURNS = 1_000, 100
+
 
 def silent_peers_wait_alone(program):
     """A page comes in time beside 200 peers that ask for nothing, of which each gives way to a new one."""
@@ -22,6 +27,28 @@ def silent_peers_wait_alone(program):
             yield f"the page comes after {time.monotonic() - begun:.1f} s"
         if server.descriptors() > 100:
             yield f"{server.descriptors()} descriptors are open"
+
+
+def strangers_hurt_no_stream(program):
+    """Beside 1,000 silent connections to the pages, each in place of one before it, 50 players get each packet of a camera, and each
+    scrape is answered in time."""
+    with pages_of(program) as (server, port), contextlib.ExitStack() as held, Camera(server) as camera:
+        players = [held.enter_context(Player(server)) for _ in range(50)]
+        strangers = collections.deque()
+        for turn in range(TURNS):
+            for _ in range(STRANGERS // TURNS):
+                strangers.append(held.enter_context(socket.create_connection(("127.0.0.1", port), timeout=30)))
+                if len(strangers) > 200:
+                    strangers.popleft().close()
+            camera.publish(range(turn * 5, turn * 5 + 5), 200)
+            if turn % 10 == 0:
+                begun = time.monotonic()
+                if answer(port, "/metrics")[0] != 200 or time.monotonic() - begun > PROMPT:
+                    yield f"a scrape takes {time.monotonic() - begun:.1f} s"
+            time.sleep(0.05)
+        for place, player in enumerate(players):
+            if player.numbers(5 * TURNS) != list(range(5 * TURNS)):
+                yield f"player {place} has lost packets"
 
 
 def dripping_peer_is_closed(program):
@@ -142,4 +169,4 @@ def cpu(pid):
     return (int(fields[11]) + int(fields[12])) / os.sysconf("SC_CLK_TCK")
 
 
-PARTS = [(part, ()) for part in (silent_peers_wait_alone, dripping_peer_is_closed, answers_end, rest_is_bounded, accepts_again, pages_end_with_the_server, slow_readers_hold_little, finished_peers_give_way)]
+PARTS = [(part, ()) for part in (silent_peers_wait_alone, strangers_hurt_no_stream, dripping_peer_is_closed, answers_end, rest_is_bounded, accepts_again, pages_end_with_the_server, slow_readers_hold_little, finished_peers_give_way)]

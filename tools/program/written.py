@@ -36,7 +36,7 @@ OF_TESTS = {"bad word", "bad line {number}", "stream fault {number}", "read fail
 VALUES = {
     ("relay_server::server", "{end}"): ("relay_accounts/src/ending.rt",),
     ("relay_server::events", "{counts}"): ("relay_accounts/src/counts.rt",),
-    ("relay_server::refusing", "{why}"): ("relay_log/src/refusal.rt",),
+    ("relay_server::refusing", "{why}"): ("server_counts/src/refusal.rt",),
     ("relay_server::refusing", "{line}"): ("relay_log/src/refused_line.rt",),
     ("relay_server::reports", "{line}"): ("status/src/mount_status.rt", "status/src/player_status.rt"),
 }

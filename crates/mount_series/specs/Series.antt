@@ -29,15 +29,16 @@ place_of name named = position (is_of name) named
 
 -- the sums of a name of which one mount is recorded, and nothing has ended yet
 abbrev pub begun : (name : List ℕ) → NamedSums
-begun name = record { name = name; recorded = 1; ended = 0; sums = nothing }
+begun name = record { name = name; recorded = 1; ended = 0; last = 0; sums = nothing }
 
 -- one more mount of the name is recorded
 abbrev pub one_more : NamedSums → NamedSums
 one_more sums = record sums { recorded = capped (sums.recorded + 1) }
 
--- a mount of the name has ended, to which this came; so many of the server had ended before it
-abbrev pub ended : (came : MountTally) → (ends : ℕ) → NamedSums → NamedSums
-ended came ends sums = record sums { recorded = sums.recorded - 1; ended = ends; sums = with_mount sums.sums came }
+-- A mount of the name has ended, to which this came. `ends` mounts of the server had ended before it, and its last packet came at this
+-- moment.
+abbrev pub ended : (came : MountTally) → (ends last : ℕ) → NamedSums → NamedSums
+ended came ends last sums = record sums { recorded = sums.recorded - 1; ended = ends; last = last; sums = with_mount sums.sums came }
 
 -- a player of a mount of the name has left, with this account
 abbrev pub left : (account : SeatAccount) → NamedSums → NamedSums

@@ -15,6 +15,9 @@ pub struct NamedSums {
     pub recorded: u64,
     /// How many mounts of the server had ended when its last one did.
     pub ended: u64,
+    /// When the last packet came to its mounts that have ended, in milliseconds of the server's clock; of one to which none came, its
+    /// first RECORD.
+    pub last: u64,
     /// What came to its mounts that have ended, and what became of the packets of players that have left them.
     pub sums: MountSums,
 }
@@ -35,6 +38,7 @@ impl NamedSums {
             name,
             recorded: 1,
             ended: 0,
+            last: 0,
             sums: MountSums::nothing(),
         }
     }
@@ -46,12 +50,14 @@ impl NamedSums {
         self.recorded = self.recorded.saturating_add(1);
     }
 
-    /// A mount of the name has ended, to which this came; so many of the server had ended before it.
-    pub(crate) fn end(&mut self, came: &MountTally, ends: u64)
-        ensures { self.new ≡ ended came.now ends self.old }
+    /// A mount of the name has ended, to which this came. `ends` mounts of the server had ended before it, and its last packet came
+    /// at the moment `last`.
+    pub(crate) fn end(&mut self, came: &MountTally, ends: u64, last: u64)
+        ensures { self.new ≡ ended came.now ends last self.old }
     {
         self.recorded = self.recorded.saturating_sub(1);
         self.ended = ends;
+        self.last = last;
         self.sums = self.sums.with_mount(came);
     }
 

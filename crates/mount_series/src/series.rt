@@ -1,5 +1,5 @@
 //! The sums of each name.
-ghost use Rattle.std.specs.Prelude.{◌≡◌, ◌<◌, ◌≤◌, ◌+◌, ◌++◌, ◌∷◌, [], None, Some, length, slice_get, slice_set, take, All, AllPairs, IfOk, IfSome, IfNone, IsSomeAnd, OnOk, OnErr};
+ghost use Rattle.std.specs.Prelude.{◌≡◌, ◌<◌, ◌≤◌, ◌+◌, ◌++◌, ◌∷◌, [], None, Some, length, slice_get, slice_set, take, All, AllPairs, IfErr, IfOk, IfSome, IfNone, IsSomeAnd, OnOk, OnErr};
 ghost use Rattle.relay_accounts.specs.Capped.{capped};
 ghost use Rattle.mount_series.specs.Sums.{nothing, with_mount, with_player};
 ghost use Rattle.mount_series.specs.Series.{HaveOtherNames, IsFirstEnded, IsInPlaceOfFirstEnded, IsRecorded, Series, begun, ended, left, one_more, place_of};
@@ -14,9 +14,14 @@ use std::marker::Model;
 /// For how many names sums are kept.
 pub const MOST_NAMES: usize = 256;
 
-/// A name has no sums of its own: there is no memory for it, or mounts of 256 other names are recorded.
+/// Why a name has no sums of its own.
 #[derive(Clone, Copy, Debug, PartialEq, Eq, Drop)]
-pub struct NoPlace;
+pub enum NoPlace {
+    /// There is no memory for it.
+    OutOfMemory,
+    /// Mounts of 256 other names are recorded.
+    AllRecorded,
+}
 
 /// The sums of at most 256 names of mounts: of those that are recorded, and of the last to end. The totals are of all names that there
 /// ever were.
@@ -88,6 +93,7 @@ impl MountSeries {
         ensures added { OnOk result (place_of name.now self.old.named ≡ None → length self.old.named < 256 → self.new.named ≡ self.old.named ++ begun name.now ∷ []) }
         ensures replaced { OnOk result (place_of name.now self.old.named ≡ None → length self.old.named ≡ 256 → IsInPlaceOfFirstEnded self.old.named self.new.named (begun name.now)) }
         ensures refused { OnErr result (self.new ≡ self.old) }
+        ensures full { IfErr result (λ why. why ≡ NoPlace.AllRecorded → (length self.old.named ≡ 256) × All IsRecorded self.old.named) }
         ensures totals { self.new.totals ≡ self.old.totals }
         ensures ends { self.new.ends ≡ self.old.ends }
     {
@@ -107,24 +113,25 @@ impl MountSeries {
         ensures added { OnOk result (length self.old.named < 256 → self.new.named ≡ self.old.named ++ begun name.now ∷ []) }
         ensures replaced { OnOk result (length self.old.named ≡ 256 → IsInPlaceOfFirstEnded self.old.named self.new.named (begun name.now)) }
         ensures refused { OnErr result (self.new ≡ self.old) }
+        ensures full { IfErr result (λ why. why ≡ NoPlace.AllRecorded → (length self.old.named ≡ 256) × All IsRecorded self.old.named) }
         ensures totals { self.new.totals ≡ self.old.totals }
         ensures ends { self.new.ends ≡ self.old.ends }
     {
-        let name = Bytes::from_slice(self.alloc, name).map_err(|_| NoPlace)?;
+        let name = Bytes::from_slice(self.alloc, name).map_err(|_| NoPlace::OutOfMemory)?;
         let begun = NamedSums::begun(name);
         if self.named.len() < MOST_NAMES {
             self.named.push_reserved(begun);
             return Ok(());
         }
-        let place = first_ended(self.named.as_slice()).ok_or(NoPlace)?;
+        let place = first_ended(self.named.as_slice()).ok_or(NoPlace::AllRecorded)?;
         self.named[place] = begun;
         Ok(())
     }
 
-    /// A mount of this name has ended, to which this came.
+    /// A mount of this name has ended, to which this came. Its last packet came at the moment `last`.
     #[tactic(auto, using(crate::proofs::Naming::kept))]
-    pub fn end(&mut self, name: &[u8], came: &MountTally)
-        ensures known { IfSome (place_of name.now self.old.named) (λ place. IsSomeAnd (slice_get self.old.named place) (λ sums. self.new.named ≡ slice_set self.old.named place (ended came.now self.old.ends sums))) }
+    pub fn end(&mut self, name: &[u8], came: &MountTally, last: u64)
+        ensures known { IfSome (place_of name.now self.old.named) (λ place. IsSomeAnd (slice_get self.old.named place) (λ sums. self.new.named ≡ slice_set self.old.named place (ended came.now self.old.ends last sums))) }
         ensures unknown { place_of name.now self.old.named ≡ None → self.new.named ≡ self.old.named }
         ensures totals { self.new.totals ≡ with_mount self.old.totals came.now }
         ensures ends { self.new.ends ≡ capped (self.old.ends + 1) }
@@ -133,7 +140,7 @@ impl MountSeries {
         let before = self.ends;
         self.ends = before.saturating_add(1);
         if let Some(place) = place_of(self.named.as_slice(), name) {
-            self.named[place].end(came, before);
+            self.named[place].end(came, before, last);
         }
     }
 

@@ -24,6 +24,7 @@ impl MountSums {
                 skipped: 0,
                 lost: 0,
                 unsent: 0,
+                bytes: 0,
             },
         }
     }
@@ -65,6 +66,7 @@ fn both_tallies(a: MountTally, b: MountTally) -> MountTally
         unknown_channel: a.unknown_channel.saturating_add(b.unknown_channel),
         unkept: a.unkept.saturating_add(b.unkept),
         slowed: a.slowed.saturating_add(b.slowed),
+        tracks: a.tracks.plus(&b.tracks),
     }
 }
 
@@ -78,5 +80,6 @@ fn both_accounts(a: SeatAccount, b: SeatAccount) -> SeatAccount
         skipped: a.skipped.saturating_add(b.skipped),
         lost: a.lost.saturating_add(b.lost),
         unsent: a.unsent.saturating_add(b.unsent),
+        bytes: a.bytes.saturating_add(b.bytes),
     }
 }

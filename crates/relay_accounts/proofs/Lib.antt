@@ -1,1 +1,2 @@
 mod Dropping
+mod Summing

@@ -22,6 +22,7 @@ nothing_counted = record {
   lost = 0;
   unsent = 0;
   slowed = 0;
+  missing = 0;
 }
 
 -- how many frames came while the connection recorded
@@ -64,6 +65,7 @@ account_of left handed keep = record {
   skipped = skipped_of left handed;
   lost = capped (left.lost + (left.left - keep));
   unsent = capped (left.taken - skipped_of left handed - sent_of left handed + min left.left keep);
+  bytes = handed.bytes;
 }
 
 -- the counts with the account of a seat that was left
@@ -84,6 +86,10 @@ lost_by_now lost cursor published keep = capped (lost + (published - cursor - ke
 abbrev pub with_wait : Counts → (milliseconds : ℕ) → Counts
 with_wait counts milliseconds = record counts { slowed = capped (counts.slowed + milliseconds) }
 
+-- the counts with this number of packets that were missing when they came
+abbrev pub with_missing : Counts → (packets : ℕ) → Counts
+with_missing counts packets = record counts { missing = capped (counts.missing + packets) }
+
 -- what was counted between two moments of one connection
 abbrev pub counted_since : (counts earlier : Counts) → Counts
 counted_since counts earlier = record {
@@ -99,6 +105,7 @@ counted_since counts earlier = record {
   lost = counts.lost - earlier.lost;
   unsent = counts.unsent - earlier.unsent;
   slowed = counts.slowed - earlier.slowed;
+  missing = counts.missing - earlier.missing;
 }
 
 -- how many packets of a mount were lost or refused

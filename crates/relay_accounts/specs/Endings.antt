@@ -1,5 +1,5 @@
 -- How a connection ends.
-use Rattle.std.specs.Prelude.{Bool, true, false, Option, Some, None}
+use Rattle.std.specs.Prelude.{Bool, true, false, Option, Some}
 use Rattle.rtsp_message.specs.declared.fault.Fault.{Fault}
 use Rattle.rtsp_message.specs.declared.fault.Fault.TheVariants as faults
 use Rattle.rtsp_message.specs.declared.status.Status.{Status}

@@ -1,7 +1,8 @@
 -- What is reported of a mount while it goes on.
-use Rattle.std.specs.Prelude.{ℕ, ◌+◌, ◌-◌}
+use Rattle.std.specs.Prelude.{ℕ, ◌+◌, ◌-◌, None, replicate}
 use Rattle.publisher.specs.declared.fate.Fate.{Fate}
 use Rattle.publisher.specs.declared.fate.Fate.TheVariants as fate
+use Rattle.sequence_counts.specs.Tracks.{tracks_since}
 use Rattle.relay_accounts.specs.declared.mount_tally.MountTally.{MountTally}
 use Rattle.relay_accounts.specs.Capped.{capped}
 
@@ -16,6 +17,7 @@ nothing_published = record {
   unknown_channel = 0;
   unkept = 0;
   slowed = 0;
+  tracks = replicate 16 None;
 }
 
 -- how many frames came to a mount
@@ -43,4 +45,5 @@ published_since tally earlier = record {
   unknown_channel = tally.unknown_channel - earlier.unknown_channel;
   unkept = tally.unkept - earlier.unkept;
   slowed = tally.slowed - earlier.slowed;
+  tracks = tracks_since tally.tracks earlier.tracks;
 }

@@ -1,7 +1,7 @@
 //! What became of the packets of a connection.
 ghost use Rattle.std.specs.Prelude.{◌≡◌, ◌+◌, ◌^◌, ◌<◌, ◌≤◌, ◌↔◌, IsTrue};
 ghost use Rattle.publisher.specs.Fates.{total};
-ghost use Rattle.relay_accounts.specs.Counting.{accounted, came_in, counted_since, losses, nothing_counted, with_account, with_report, with_strangers, with_wait};
+ghost use Rattle.relay_accounts.specs.Counting.{accounted, came_in, counted_since, losses, nothing_counted, with_account, with_missing, with_report, with_strangers, with_wait};
 
 use crate::seat_account::SeatAccount;
 use publisher::InReport;
@@ -39,6 +39,8 @@ pub struct Counts {
     pub unsent: u64,
     /// For how many milliseconds in total the published packets waited for players.
     pub slowed: u64,
+    /// Packets that were missing when they came, by their sequence numbers: lost before this server.
+    pub missing: u64,
 }
 
 impl Counts {
@@ -59,6 +61,7 @@ impl Counts {
             lost: 0,
             unsent: 0,
             slowed: 0,
+            missing: 0,
         }
     }
 
@@ -104,6 +107,13 @@ impl Counts {
         self.slowed = self.slowed.saturating_add(milliseconds);
     }
 
+    /// Adds packets that were missing when they came.
+    pub fn add_missing(&mut self, packets: u64)
+        ensures { self.new ≡ with_missing self.old packets }
+    {
+        self.missing = self.missing.saturating_add(packets);
+    }
+
     /// Ends the session: returns its counts, and resets them.
     pub fn end(&mut self) -> Counts
         ensures all { result ≡ self.old }
@@ -129,6 +139,7 @@ impl Counts {
             lost: self.lost.saturating_sub(earlier.lost),
             unsent: self.unsent.saturating_sub(earlier.unsent),
             slowed: self.slowed.saturating_sub(earlier.slowed),
+            missing: self.missing.saturating_sub(earlier.missing),
         }
     }
 
@@ -151,6 +162,9 @@ impl fmt::Display for Counts {
         self.write_out(f)?;
         if self.slowed > 0 {
             write!(f, ", slowed {} ms", self.slowed)?;
+        }
+        if self.missing > 0 {
+            write!(f, ", missing {}", self.missing)?;
         }
         Ok(())
     }

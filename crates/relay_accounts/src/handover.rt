@@ -1,7 +1,7 @@
 //! Frames on their way from a ring to the system.
-ghost use Rattle.std.specs.Prelude.{◌≡◌, ◌+◌, ◌<◌, ◌≤◌, [], ◌∷◌, ◌++◌, length, count_by, nat_le};
+ghost use Rattle.std.specs.Prelude.{◌≡◌, ◌+◌, ◌<◌, ◌≤◌, [], ◌∷◌, ◌++◌, length, count_by, filter, fold};
 ghost use Rattle.relay_accounts.specs.Capped.{capped};
-ghost use Rattle.relay_accounts.specs.Handing.{handed_by};
+ghost use Rattle.relay_accounts.specs.Handing.{handed_by, is_sent, with_bytes_of};
 
 use std::marker::Model;
 
@@ -15,6 +15,26 @@ pub struct HandedOver {
     pub sent: u64,
     /// They are of tracks that aren't set up.
     pub skipped: u64,
+    /// How many bytes the packets in `sent` have, without the four bytes before each in its frame.
+    pub bytes: u64,
+}
+
+/// A frame that waits in its connection's buffer.
+#[derive(Clone, Copy, Debug, PartialEq, Eq, Drop)]
+pub(crate) struct WaitingFrame {
+    /// The place after its last byte.
+    end: u64,
+    /// How many bytes its packet has.
+    bytes: u64,
+}
+
+impl WaitingFrame {
+    /// Returns whether the system has taken its last byte, if it has taken the bytes before this place.
+    fn is_sent(&self, taken: u64) -> bool
+        ensures { result ≡ is_sent taken self.now }
+    {
+        self.end <= taken
+    }
 }
 
 /// The frames of a seat, of which the last sixteen may wait in their connection's buffer: a frame is sent once the system has
@@ -24,8 +44,10 @@ pub struct Handover {
     /// How many frames the system took before those that wait.
     sent: u64,
     skipped: u64,
-    /// The place after the last byte of each frame that waits, at the front.
-    ends: [u64; MOST],
+    /// How many bytes the packets of the frames have that are in `sent`.
+    bytes: u64,
+    /// The frames that wait, at the front.
+    frames: [WaitingFrame; MOST],
     count: usize,
 }
 
@@ -35,7 +57,7 @@ impl Model for Handover {
 
     ghost Value = { Handing };
 
-    ghost view = { λ h. record { sent = h.sent; skipped = h.skipped; waiting = take h.count h.ends } };
+    ghost view = { λ h. record { sent = h.sent; skipped = h.skipped; bytes = h.bytes; waiting = take h.count h.frames } };
 
     ghost invariant = { λ h. h.count ≤ 16 };
 }
@@ -43,12 +65,13 @@ impl Model for Handover {
 impl Handover {
     /// No packet was taken yet.
     pub fn new() -> Handover
-        ensures { result ≡ record { sent = 0; skipped = 0; waiting = [] } }
+        ensures { result ≡ record { sent = 0; skipped = 0; bytes = 0; waiting = [] } }
     {
         Handover {
             sent: 0,
             skipped: 0,
-            ends: [0; MOST],
+            bytes: 0,
+            frames: [WaitingFrame { end: 0, bytes: 0 }; MOST],
             count: 0,
         }
     }
@@ -62,20 +85,21 @@ impl Handover {
 
     /// The system has taken all frames that waited.
     pub fn pass(&mut self)
-        ensures { self.new ≡ record self.old { sent = capped (self.old.sent + length self.old.waiting); waiting = [] } }
+        ensures { self.new ≡ record self.old { sent = capped (self.old.sent + length self.old.waiting); bytes = with_bytes_of self.old.bytes self.old.waiting; waiting = [] } }
     {
         self.sent = self.sent.saturating_add(self.count as u64);
+        self.bytes = with_bytes_of(self.bytes, &self.frames[..self.count]);
         self.count = 0;
     }
 
-    /// Adds a frame that waits after the others; its last byte is before this place. If sixteen wait already, it isn't added
-    /// and never counts as sent.
-    pub fn put(&mut self, end: u64)
-        ensures kept { length self.old.waiting < 16 → self.new ≡ record self.old { waiting = self.old.waiting ++ end ∷ [] } }
+    /// Adds a frame that waits after the others; its last byte is before this place, and its packet has `bytes` bytes. If sixteen
+    /// wait already, it isn't added and never counts as sent.
+    pub fn put(&mut self, end: u64, bytes: u64)
+        ensures kept { length self.old.waiting < 16 → self.new ≡ record self.old { waiting = self.old.waiting ++ record { end = end; bytes = bytes } ∷ [] } }
         ensures full { 16 ≤ length self.old.waiting → self.new ≡ self.old }
     {
         if self.count < MOST {
-            self.ends[self.count] = end;
+            self.frames[self.count] = WaitingFrame { end, bytes };
             self.count += 1;
         }
     }
@@ -84,25 +108,37 @@ impl Handover {
     pub fn handed(&self, taken: u64) -> HandedOver
         ensures { result ≡ handed_by self.now taken }
     {
+        let waiting = &self.frames[..self.count];
         HandedOver {
-            sent: self
-                .sent
-                .saturating_add(passed(&self.ends[..self.count], taken)),
+            sent: self.sent.saturating_add(passed(waiting, taken)),
             skipped: self.skipped,
+            bytes: with_bytes_passed(self.bytes, waiting, taken),
         }
     }
 }
 
-/// How many of these frames end before this place.
-fn passed(ends: &[u64], taken: u64) -> u64
-    requires { length ends.now ≤ 16 }
-    ensures { result ≡ count_by (λ end. nat_le end taken) ends.now }
+/// Returns how many of these frames end before this place.
+fn passed(frames: &[WaitingFrame], taken: u64) -> u64
+    ensures { result ≡ count_by (is_sent taken) frames.now }
 {
-    let mut count = 0;
-    for end in ends.iter() {
-        if *end <= taken {
-            count += 1;
-        }
-    }
-    count
+    frames.iter().filter(|frame| frame.is_sent(taken)).count() as u64
+}
+
+/// Returns these bytes and those of the packets of these frames.
+fn with_bytes_of(bytes: u64, frames: &[WaitingFrame]) -> u64
+    ensures { result ≡ with_bytes_of bytes frames.now }
+{
+    frames
+        .iter()
+        .fold(bytes, |bytes, frame| bytes.saturating_add(frame.bytes))
+}
+
+/// Returns these bytes and those of the packets of the frames that end before this place.
+fn with_bytes_passed(bytes: u64, frames: &[WaitingFrame], taken: u64) -> u64
+    ensures { result ≡ fold (λ sum frame. capped (sum + frame.bytes)) bytes (filter (is_sent taken) frames.now) }
+{
+    frames
+        .iter()
+        .filter(|frame| frame.is_sent(taken))
+        .fold(bytes, |bytes, frame| bytes.saturating_add(frame.bytes))
 }

@@ -3,6 +3,7 @@ ghost use Rattle.std.specs.Prelude.{◌≡◌, ◌↔◌, IsTrue};
 ghost use Rattle.relay_accounts.specs.Reporting.{came_to_mount, nothing_published, published_since, with_fate};
 
 use publisher::Fate;
+use sequence_counts::TrackCounts;
 use std::fmt;
 
 /// What became of the frames that came to a mount while its publisher recorded. A count that would exceed 2^64 - 1 stays at
@@ -25,6 +26,9 @@ pub struct MountTally {
     pub unkept: u64,
     /// For how many milliseconds packets waited for players.
     pub slowed: u64,
+    /// By track: the packets that were missing when they came, by their sequence numbers, those that were late, and how often the
+    /// numbering began anew.
+    pub tracks: TrackCounts,
 }
 
 impl MountTally {
@@ -41,6 +45,7 @@ impl MountTally {
             unknown_channel: 0,
             unkept: 0,
             slowed: 0,
+            tracks: TrackCounts::new(),
         }
     }
 
@@ -74,6 +79,7 @@ impl MountTally {
             unknown_channel: self.unknown_channel.saturating_sub(earlier.unknown_channel),
             unkept: self.unkept.saturating_sub(earlier.unkept),
             slowed: self.slowed.saturating_sub(earlier.slowed),
+            tracks: self.tracks.since(&earlier.tracks),
         }
     }
 
@@ -106,6 +112,9 @@ impl fmt::Display for MountTally {
         if self.slowed > 0 {
             write!(f, ", slowed {} ms", self.slowed)?;
         }
-        Ok(())
+        match self.tracks.total().missing() {
+            0 => Ok(()),
+            missing => write!(f, ", missing {missing}"),
+        }
     }
 }

@@ -17,6 +17,8 @@ pub struct SeatAccount {
     pub lost: u64,
     /// The ring still kept them when the seat was left, or they were taken from it and not handed to the system.
     pub unsent: u64,
+    /// How many bytes the packets in `sent` have.
+    pub bytes: u64,
 }
 
 impl SeatAccount {
@@ -35,6 +37,7 @@ impl SeatAccount {
             skipped,
             lost: left.lost.saturating_add(left.left.saturating_sub(keep)),
             unsent: held.saturating_add(left.left.min(keep)),
+            bytes: handed.bytes,
         }
     }
 }
@@ -54,6 +57,7 @@ pub fn lost_so_far(lost: u64, cursor: u64, published: u64, keep: u64) -> u64
         HandedOver {
             sent: 0,
             skipped: 0,
+            bytes: 0,
         },
         keep,
     )
@@ -67,6 +71,7 @@ impl fmt::Display for SeatAccount {
             skipped,
             lost,
             unsent,
+            bytes: _,
         } = self;
         write!(
             f,

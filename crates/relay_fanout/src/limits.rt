@@ -15,6 +15,9 @@ pub(crate) const TAKES: u64 = 16;
 /// How many bytes of frames are gathered for one write, if there are that many.
 pub(crate) const GATHERED: usize = 32 * 1024;
 
+/// How many writers a server has at most.
+pub(crate) const MOST_WRITERS: usize = 64;
+
 /// The shortest wait for players, in microseconds. In less time, even a player that keeps up may not take all.
 pub(crate) const LEAST_WAIT: u64 = 1_000;
 

@@ -1,11 +1,12 @@
 -- What was refused and left out, by kinds, and what of it is due. Moments are milliseconds.
 use Rattle.std.specs.Prelude.{◌≡◌, ℕ, ◌+◌, ◌-◌, ◌^◌, false, List, [], ◌∷◌, filter, map, replicate, slice_get, slice_set, All, Option, None, Some, IsSomeAnd, if◌then◌else◌}
 use Rattle.relay_accounts.specs.Capped.{capped}
+use Rattle.server_counts.specs.Refusals.{place_of_refusal}
 use Rattle.relay_log.specs.declared.refusal_row.RefusalRow.{RefusalRow}
 use Rattle.relay_log.specs.declared.refusal_row.RefusalRow.TheVariants as rows
 use Rattle.relay_log.specs.declared.refusing.state.State.{State}
 use Rattle.relay_log.specs.declared.tally.Tally.{Tally}
-use Rattle.relay_log.specs.Places.{IsKindAt, place_of_refusal}
+use Rattle.relay_log.specs.Places.{IsKindAt}
 use Rattle.relay_log.specs.Refusals.{IsDueCount, TellsFirst, due_of, is_kept}
 use Rattle.relay_log.specs.Tallies.{IsDue, IsToldFirst, due_at, earliest}
 

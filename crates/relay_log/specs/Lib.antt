@@ -13,5 +13,7 @@ pub mod Places
 pub mod Rates
 pub mod Refusals
 pub mod Requests
+pub mod Shown
+pub mod ShownTracks
 pub mod Tallies
 pub mod Tracks

@@ -15,6 +15,7 @@ no_line = record { second = 0; count = 0 }
 pub record IsNew {R : Type 0} (events : Events R) (told_to : Option (Teller R)) : Type 0 where
   pub teller : events.teller ≡ told_to
   pub mount : events.mount ≡ None
+  pub tracks : events.tracks ≡ None
   pub accounts : events.accounts ≡ no_line
   pub starts : events.starts ≡ no_line
 

@@ -1,17 +1,7 @@
--- Where refusals and ends are counted.
+-- Where ends of connections are counted.
 use Rattle.std.specs.Prelude.{◌≡◌, ℕ, List, [], ◌∷◌, Option, None, Some, codes, slice_get}
 use Rattle.relay_accounts.specs.declared.ending.ConnectionEnd.{ConnectionEnd}
 use Rattle.relay_accounts.specs.declared.ending.ConnectionEnd.TheVariants as ends
-use Rattle.relay_log.specs.declared.refusal.Refusal.{Refusal}
-use Rattle.relay_log.specs.declared.refusal.Refusal.TheVariants as refusals
-
--- the place at which peers are counted that are refused for this reason: none if they are counted by their addresses
-abbrev pub place_of_refusal : Refusal → Option ℕ
-place_of_refusal refusals.Full = Some 0
-place_of_refusal refusals.OutOfMemory = Some 1
-place_of_refusal refusals.NoThread = Some 2
-place_of_refusal refusals.NotAccepted = Some 3
-place_of_refusal refusals.AddressFull = None
 
 -- the place at which ends of this kind are counted: none if it is a good one
 abbrev pub place_of_end : ConnectionEnd → Option ℕ

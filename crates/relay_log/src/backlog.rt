@@ -105,17 +105,19 @@ impl<T: Drop> Backlog<T> {
         mem::replace(&mut self.missed, 0)
     }
 
-    /// Drops what waits, and counts it with what was missed before.
-    pub fn drop_all(&mut self)
+    /// Drops what waits, and counts it with what was missed before. Returns how many items it drops.
+    pub fn drop_all(&mut self) -> u64
+        ensures dropped { result ≡ length self.old.waiting }
         ensures waiting { self.new.waiting ≡ [] }
         ensures missed { capped self.new.missed ≡ capped (self.old.missed + lost_with self.old.waiting) }
     {
-        let _ = &self.waiting;
+        let dropped = self.waiting.len() as u64;
         for _turn in 0..WAITING_LINES {
             match self.take() {
                 Some(line) => self.miss_all(line.missed.saturating_add(1)),
-                None => return,
+                None => return dropped,
             }
         }
+        dropped
     }
 }

@@ -18,6 +18,7 @@ use base_syntax::Bytes;
 use mount_lines::Announced;
 use mounts::{Uri, UriFault, read_uri};
 use rtsp_message::Request;
+use status::TrackStatus;
 use std::alloc::{AllocError, Global};
 use std::net::SocketAddr;
 use std::sync::Arc;
@@ -30,6 +31,8 @@ pub struct Events<R> {
     teller: Option<Teller<R>>,
     /// The mount that it has announced, until that ends, if lines report it.
     mount: Option<Announced>,
+    /// The tracks of the mount that it has announced, until that is recorded, if reports have mounts.
+    tracks: Option<Vec<TrackStatus>>,
     /// How many accounts of its sessions were logged in a second.
     accounts: LineRate,
     /// How many starts that were shortened.
@@ -41,6 +44,7 @@ impl<R: Drop> Drop for Events<R> {
         let Events {
             teller: _,
             mount: _,
+            tracks: _,
             accounts: _,
             starts: _,
         } = self;
@@ -55,6 +59,7 @@ impl<R> Events<R> {
         Events {
             teller: None,
             mount: None,
+            tracks: None,
             accounts: LineRate::new(),
             starts: LineRate::new(),
         }
@@ -67,6 +72,7 @@ impl<R> Events<R> {
         Events {
             teller: Some(teller),
             mount: None,
+            tracks: None,
             accounts: LineRate::new(),
             starts: LineRate::new(),
         }
@@ -83,6 +89,7 @@ impl<R> Events<R> {
     where
         R: Drop,
     {
+        let counts = Arc::try_clone(lines.counts())?;
         Ok(Events::new(Teller {
             lines: Arc::try_clone(lines)?,
             peer,
@@ -90,7 +97,7 @@ impl<R> Events<R> {
             is_verbose: true,
             reports: None,
             published: Arc::new(alloc, PublishedMounts::new(alloc)?)?,
-            refusing: Arc::new(alloc, Refusing::new(clock, alloc)?)?,
+            refusing: Arc::new(alloc, Refusing::new(clock, alloc, counts)?)?,
         }))
     }
 }

@@ -24,3 +24,6 @@ pub(crate) const REFUSED_KEPT: u64 = 60_000;
 /// The most lines of one report. It is also the most ended mounts, and the most ended players, that wait to be reported; the
 /// others are in their connections' own lines only.
 pub(crate) const REPORT_LINES: usize = 100;
+
+/// How many bytes of a track's media and of its payload format are shown at most.
+pub(crate) const SHOWN_BYTES: usize = 64;

@@ -1,16 +1,19 @@
 //! Lines for standard error, which one thread writes.
 mod state;
 
+ghost use Rattle.std.specs.Prelude.{◌≡◌};
+
 use crate::backlog::Waiting;
 use crate::limits::LAST_LINE;
 use log::kv::Source;
 use log::span::Spans;
 use log::{LevelFilter, Log, Metadata, Record, warn};
-use state::{Next, State};
+use server_counts::ServerCounts;
+use state::{Changed, Next, State};
 use std::alloc::{AllocError, Global};
 use std::fmt::Display;
 use std::io::Eprint;
-use std::sync::{Condvar, CondvarTimeouts, Mutex, Wait};
+use std::sync::{Arc, Condvar, CondvarTimeouts, Mutex, Wait};
 use std::time::{Clock, Duration, Instant};
 
 /// The source that lines are logged with.
@@ -27,6 +30,8 @@ pub struct Lines<R> {
     changed: Condvar,
     /// Notified when a line was taken to be written, once the server stops.
     has_room: Condvar,
+    /// The counts of the server, which have each dropped line.
+    counts: Arc<ServerCounts, Global>,
 }
 
 impl<R: Drop> Drop for Lines<R> {
@@ -37,20 +42,40 @@ impl<R: Drop> Drop for Lines<R> {
             state: _,
             changed: _,
             has_room: _,
+            counts: _,
         } = self;
     }
 }
 
 impl<R: Drop> Lines<R> {
-    /// Nothing waits.
-    pub fn new(rt: R, alloc: Global) -> Result<Lines<R>, AllocError> {
+    /// Nothing waits, of a server that counts here.
+    pub fn new(
+        rt: R,
+        alloc: Global,
+        counts: Arc<ServerCounts, Global>,
+    ) -> Result<Lines<R>, AllocError> {
         Ok(Lines {
             rt,
             alloc,
             state: Mutex::new(State::new(alloc)?),
             changed: Condvar::new(),
             has_room: Condvar::new(),
+            counts,
         })
+    }
+}
+
+impl<R> Lines<R> {
+    /// Returns the counts of the server.
+    pub(crate) fn counts(&self) -> &Arc<ServerCounts, Global>
+        ensures { result.now ≡ self.now.counts }
+    {
+        &self.counts
+    }
+
+    /// Counts the lines that a change dropped, and wakes those that wait for a change.
+    fn note(&self, changed: Changed) {
+        changed.tell(&self.changed, &self.counts);
     }
 }
 
@@ -63,13 +88,13 @@ impl<R: Wait> Lines<R> {
     /// Counts `count` lines as dropped, because the threads that would have logged them haven't ended.
     pub fn miss_all(&self, count: u64) {
         let changed = self.state.lock(&self.rt).miss(count);
-        changed.tell(&self.changed);
+        self.note(changed);
     }
 
     /// No line comes any more: `write_all` ends once all are written.
     pub fn end(&self) {
         let changed = self.state.lock(&self.rt).close();
-        changed.tell(&self.changed);
+        self.note(changed);
     }
 
     /// Waits until there is something to do, and returns it.
@@ -95,7 +120,7 @@ impl<R: Wait + Log + Eprint> Lines<R> {
                 }
                 Next::Missed(missed) => self.tell_missed(missed),
                 Next::End(changed) => {
-                    changed.tell(&self.changed);
+                    self.note(changed);
                     return;
                 }
             }
@@ -132,7 +157,8 @@ impl<R: Wait + Clock> Lines<R> {
         if state.is_written() {
             return;
         }
-        state.drop_all();
+        let changed = state.drop_all();
+        self.note(changed);
         let last = Duration::from_millis(LAST_LINE);
         let _ = self
             .changed
@@ -179,7 +205,7 @@ impl<R: Wait + Clock> Log for Lines<R> {
             Err(_) => state.miss(1),
         };
         drop(state);
-        changed.tell(&self.changed);
+        self.note(changed);
     }
 
     fn flush(&self) {}

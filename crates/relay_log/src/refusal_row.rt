@@ -1,7 +1,7 @@
 //! The lines that report refusals once in a while.
-use crate::refusal::Refusal;
 use crate::refused_line::RefusedLine;
 use log::{Log, warn};
+use server_counts::Refusal;
 
 /// The source that lines are logged with.
 const TARGET: &str = "relay_server::refusing";

@@ -1,22 +1,26 @@
 //! How often peers and requests were refused and lines left out, and when that is reported.
 mod state;
 
+ghost use Rattle.std.specs.Prelude.{◌≡◌};
+ghost use Rattle.std.specs.Arc.{arc_value};
+
 use crate::counted::counted;
 use crate::due::Due;
 use crate::end_kinds::place_of;
 use crate::line_rate::LineRate;
-use crate::refusal::Refusal;
 use crate::subject::Subject;
 use relay_accounts::ConnectionEnd;
 use relay_fanout::SteadyClock;
 use rtsp_message::Status;
+use server_counts::{Refusal, ServerCounts};
 use state::State;
 use std::alloc::{AllocError, Global};
 use std::net::SocketAddr;
-use std::sync::{Condvar, CondvarTimeouts, Mutex, Wait};
+use std::sync::{Arc, Condvar, CondvarTimeouts, Mutex, Wait};
 use std::time::{Clock, Duration};
 
-/// How many peers and requests were refused since that was logged, and how many ends and accounts weren't logged.
+/// How many peers and requests were refused since that was logged, and how many ends and accounts weren't logged. Each refusal is
+/// among the counts of the server, too.
 ///
 /// Any thread counts, and one thread writes the rows. The same thread does what is due at a moment that is set with a refusal. The
 /// lock is held for a change of the list alone, and under it only the clock's is taken, for one reading.
@@ -25,6 +29,7 @@ pub struct Refusing {
     changed: Condvar,
     /// The clock of all moments here.
     clock: Mutex<SteadyClock>,
+    counts: Arc<ServerCounts, Global>,
 }
 
 impl Drop for Refusing {
@@ -33,17 +38,23 @@ impl Drop for Refusing {
             state: _,
             changed: _,
             clock: _,
+            counts: _,
         } = self;
     }
 }
 
 impl Refusing {
-    /// None was refused.
-    pub fn new<R: Clock>(rt: &R, alloc: Global) -> Result<Refusing, AllocError> {
+    /// None was refused, of a server that counts here.
+    pub fn new<R: Clock>(
+        rt: &R,
+        alloc: Global,
+        counts: Arc<ServerCounts, Global>,
+    ) -> Result<Refusing, AllocError> {
         Ok(Refusing {
             state: Mutex::new(State::new(alloc)?),
             changed: Condvar::new(),
             clock: Mutex::new(SteadyClock::new(rt)),
+            counts,
         })
     }
 
@@ -58,14 +69,23 @@ impl Refusing {
         }
     }
 
+    /// Returns the counts of the server.
+    pub fn counts(&self) -> &ServerCounts
+        ensures { result.now ≡ arc_value self.now.counts }
+    {
+        &self.counts
+    }
+
     /// Counts a refusal.
     pub fn count(&self, rt: &impl Wait, why: Refusal) {
+        self.counts.refuse(why);
         let noted = self.state.lock(rt).count(why);
         noted.tell(&self.changed);
     }
 
     /// Counts a peer that was refused and stays until this moment, at which `next` returns.
     pub fn count_peer(&self, rt: &impl Wait, why: Refusal, peer: SocketAddr, until: u64) {
+        self.counts.refuse(why);
         let noted = self.state.lock(rt).count_peer(why, peer, until);
         noted.tell(&self.changed);
     }
@@ -76,7 +96,13 @@ impl Refusing {
         noted.tell(&self.changed);
     }
 
-    /// Counts a request of this peer that was refused with this status, on a mount of this name or on a name that none has.
+    /// Counts a request that was refused with this status, among the counts of the server alone.
+    pub(crate) fn count_status(&self, status: Status) {
+        self.counts.refuse_request(status);
+    }
+
+    /// Counts a request of this peer that was refused with this status, on a mount of this name or on a name that none has, for the
+    /// rows.
     pub(crate) fn count_request(
         &self,
         rt: &impl Wait,

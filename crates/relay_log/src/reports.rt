@@ -1,21 +1,31 @@
 //! The mounts and players of a server while they go on: for reports, and for whoever asks for a snapshot.
+mod figures;
 mod report_list;
 mod reported_mount;
 mod reported_player;
+mod shown;
+mod shown_tracks;
 mod told;
+mod watched;
+
+ghost use Rattle.std.specs.Prelude.{◌≡◌};
 
 use crate::lines::Lines;
 use mount_series::MountSeries;
 use relay_accounts::SeatAccount;
+use relay_fanout::WakeSignal;
 use report_list::List;
 use reported_mount::Mount;
 pub(crate) use reported_mount::ReportedMount;
 use reported_player::Player;
 pub(crate) use reported_player::ReportedSeat;
+use server_counts::{ServerCounts, ThreadLook};
+pub(crate) use shown_tracks::tracks_of;
 use status::Snapshot;
 use std::alloc::{AllocError, Global};
-use std::sync::{Condvar, CondvarTimeouts, Mutex, Wait};
+use std::sync::{Arc, Condvar, CondvarTimeouts, Mutex, Wait};
 use std::time::{Clock, Duration};
+use watched::{Watched, marks_of};
 
 /// The mounts that are recorded and the players that have a seat, what was reported of them, and the sums of those that have ended.
 /// One thread reports each mount, and each player that lost packets, at regular times.
@@ -23,12 +33,17 @@ use std::time::{Clock, Duration};
 /// Its lock is held for a change of its lists, for one report or for one snapshot. Meanwhile a report queues its lines, and each
 /// mount's tally is read; no other lock is taken. A mount's or a player's figures move to the sums under this lock, so that a snapshot
 /// has each packet once.
+///
+/// The lock of the marks' threads is held for a reading of their marks, and no other is taken meanwhile.
 pub struct Reports {
     alloc: Global,
     /// How many packets a ring keeps.
     keep: u64,
     list: Mutex<List>,
     closed: Condvar,
+    counts: Arc<ServerCounts, Global>,
+    /// The threads of the server that leave marks elsewhere, once it has started.
+    watched: Mutex<Option<Watched>>,
 }
 
 impl Drop for Reports {
@@ -38,6 +53,8 @@ impl Drop for Reports {
             keep: _,
             list: _,
             closed: _,
+            counts: _,
+            watched: _,
         } = self;
     }
 }
@@ -58,7 +75,29 @@ impl Reports {
             keep,
             list: Mutex::new(list),
             closed: Condvar::new(),
+            counts: Arc::new(alloc, ServerCounts::new())?,
+            watched: Mutex::new(None),
         })
+    }
+
+    /// Returns the counts of the server, which each snapshot has. Any thread counts there.
+    pub fn counts(&self) -> &Arc<ServerCounts, Global>
+        ensures { result.now ≡ self.now.counts }
+    {
+        &self.counts
+    }
+
+    /// The server has started: its waking thread and this many writers leave their marks here.
+    pub fn watch(&self, rt: &impl Wait, wake_signal: Arc<WakeSignal, Global>, writers: usize) {
+        *self.watched.lock(rt) = Some(Watched {
+            wake_signal,
+            writers,
+        });
+    }
+
+    /// Reads the marks of the threads that serve many. The only error is out of memory.
+    pub fn marks(&self, rt: &impl Wait) -> Result<Vec<ThreadLook>, AllocError> {
+        marks_of(self.alloc, &self.counts, &self.watched.lock(rt))
     }
 
     /// A connection's mount is recorded.
@@ -97,20 +136,24 @@ impl Reports {
         self.list.lock(rt).leave(conn, account);
     }
 
-    /// The account of a seat of a mount of this name is closed, of which so many packets were sent when it was left.
+    /// The account of a seat of a mount of this name is closed. It was `left` when the seat was given up.
     pub(crate) fn seat_is_settled(
         &self,
         rt: &impl Wait,
         name: &[u8],
-        sent: u64,
+        left: &SeatAccount,
         account: &SeatAccount,
     ) {
-        self.list.lock(rt).settle(name, sent, account);
+        self.list.lock(rt).settle(name, left, account);
     }
 
-    /// Returns the figures of each mount and each player at this moment, in milliseconds. The only error is out of memory.
+    /// Returns the figures of the server and of each mount and each player at this moment, in milliseconds. The only error is out of
+    /// memory.
     pub fn snapshot(&self, rt: &impl Wait, now: u64) -> Result<Snapshot, AllocError> {
-        self.list.lock(rt).snapshot(rt, self.alloc, self.keep, now)
+        let server = self.counts.figures();
+        self.list
+            .lock(rt)
+            .snapshot(rt, self.alloc, self.keep, server, now)
     }
 
     /// Waits until `distance` has passed, or they are closed. Returns whether they are closed.
@@ -124,7 +167,7 @@ impl Reports {
     /// Reports at this moment what came since the last report.
     pub fn tell<R: Wait + Clock>(&self, rt: &R, lines: &Lines<R>, now: u64) {
         let mut list = self.list.lock(rt);
-        match list.snapshot(rt, self.alloc, self.keep, now) {
+        match list.snapshot(rt, self.alloc, self.keep, self.counts.figures(), now) {
             Ok(snapshot) => list.tell(lines, &snapshot),
             Err(_) => lines.miss(),
         }

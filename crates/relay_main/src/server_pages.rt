@@ -1,12 +1,14 @@
 //! The texts of a server's status pages.
-ghost use Rattle.std.specs.Prelude.{◌≡◌, ◌-◌, ◌<◌, ◌↔◌, IfOk, IsTrue};
+ghost use Rattle.std.specs.Prelude.{◌≡◌, ◌-◌, ◌<◌, ◌↔◌, Option, IfOk, IsTrue};
+ghost use Rattle.server_counts.specs.declared.thread_mark.ServerThread.{ServerThread};
 ghost use Rattle.status_json.specs.Status.{status_text};
-ghost use Rattle.relay_main.specs.Pages.{HasMetrics, HasStatus, shown_metrics};
+ghost use Rattle.relay_main.specs.Pages.{HasMetrics, HasStatus, IsFirstLate, SaysLate, shown_metrics};
 
 use crate::process::{ProcessFiles, read_process};
 use bytes::Bytes;
 use process_figures::ProcessFigures;
 use relay_server::{ClockMoments, Reports};
+use server_counts::ServerThread;
 use session_state::Moments;
 use status::Snapshot;
 use status_answers::{Page, Pages, Text};
@@ -15,19 +17,39 @@ use status_page::{PAGE, POLICY};
 use status_texts::{ServerFacts, put_metrics, put_player_metrics};
 use std::alloc::{AllocError, Global};
 use std::sync::{Arc, Mutex, Wait};
-use std::time::Clock;
+use std::time::{Clock, SystemTime, UNIX_EPOCH};
+use thread_health::{Health, late_text};
 
 /// How old a snapshot may be that is shown again, in milliseconds: at most four are made in a second, whoever asks.
 const FRESH: u64 = 250;
 
-/// The page of `/health`.
-const ANSWERS: &[u8] = b"the status pages are served\n";
+/// The text of `/health` if no thread is late.
+const WELL: &[u8] = b"well\n";
 
-/// The figures of a server that were shown last.
+/// The figures of a server at a moment.
+struct Look {
+    /// When they were made, in milliseconds of the server's clock.
+    made: u64,
+    /// When they were made, in milliseconds since the beginning of 1970. `None` if that couldn't be read.
+    wall: Option<u64>,
+    snapshot: Snapshot,
+}
+
+impl Drop for Look {
+    fn drop(self) {
+        let Look {
+            made: _,
+            wall: _,
+            snapshot: _,
+        } = self;
+    }
+}
+
+/// The figures of a server that were shown last, and how its threads were seen.
 struct Looks<R> {
     moments: ClockMoments<R>,
-    /// The last snapshot, and when it was made.
-    last: Option<(u64, Snapshot)>,
+    last: Option<Look>,
+    health: Health,
 }
 
 impl<R: Drop> Drop for Looks<R> {
@@ -35,6 +57,7 @@ impl<R: Drop> Drop for Looks<R> {
         let Looks {
             moments: _,
             last: _,
+            health: _,
         } = self;
     }
 }
@@ -77,7 +100,7 @@ impl<R: Wait + Clock> Pages for ServerPages<R> {
             Page::Overview => Ok(Text::with_policy(Bytes::from_static(PAGE.as_bytes()), POLICY)),
             Page::Metrics => Ok(Text::plain(self.metrics()?)),
             Page::Figures => Ok(Text::plain(self.status()?)),
-            Page::Health => Ok(Text::plain(Bytes::from_static(ANSWERS))),
+            Page::Health => self.health(),
         }
     }
 }
@@ -99,6 +122,7 @@ impl<R: Wait + Clock> ServerPages<R> {
         let looks = Looks {
             moments,
             last: None,
+            health: Health::new(alloc),
         };
         ServerPages {
             rt,
@@ -117,10 +141,11 @@ impl<R: Wait + Clock> ServerPages<R> {
     {
         let process = read_process(&self.rt, self.alloc, &self.process);
         let mut looks = self.looks.lock(&self.rt);
-        let snapshot = looks.look(&self.rt, &self.reports)?;
+        let look = looks.look(&self.rt, &self.reports)?;
         metrics_of(
             self.alloc,
-            snapshot,
+            &look.snapshot,
+            look.wall,
             &self.facts,
             &process,
             self.shows_players,
@@ -132,8 +157,31 @@ impl<R: Wait + Clock> ServerPages<R> {
         ensures { IfOk result HasStatus }
     {
         let mut looks = self.looks.lock(&self.rt);
-        let snapshot = looks.look(&self.rt, &self.reports)?;
-        status_of(self.alloc, snapshot)
+        let look = looks.look(&self.rt, &self.reports)?;
+        status_of(self.alloc, &look.snapshot)
+    }
+
+    /// Returns the text of `/health` now. The only error is out of memory.
+    fn health(&self) -> Result<Text, AllocError>
+        ensures { IfOk result (λ text. (late : Option ServerThread) × IsFirstLate late × SaysLate late text) }
+    {
+        let mut looks = self.looks.lock(&self.rt);
+        let late = looks.late(&self.rt, &self.reports)?;
+        health_of(self.alloc, late)
+    }
+}
+
+/// Returns what `/health` says, if this thread is late. The only error is out of memory.
+fn health_of(alloc: Global, late: Option<ServerThread>) -> Result<Text, AllocError>
+    ensures { IfOk result (SaysLate late) }
+{
+    match late {
+        None => Ok(Text::plain(Bytes::from_static(WELL))),
+        Some(thread) => {
+            let mut text = Text::plain(Bytes::from_vec(late_text(alloc, thread)?)?);
+            text.is_well = false;
+            Ok(text)
+        }
     }
 }
 
@@ -141,14 +189,15 @@ impl<R: Wait + Clock> ServerPages<R> {
 fn metrics_of(
     alloc: Global,
     snapshot: &Snapshot,
+    wall: Option<u64>,
     facts: &ServerFacts,
     process: &ProcessFigures,
     shows_players: bool,
 ) -> Result<Bytes, AllocError>
-    ensures { IfOk result (λ bytes. bytes ≡ shown_metrics snapshot.now facts.now process.now shows_players) }
+    ensures { IfOk result (λ bytes. bytes ≡ shown_metrics snapshot.now wall facts.now process.now shows_players) }
 {
     let mut body = Vec::new(alloc);
-    put_metrics(&mut body, snapshot, facts, process)?;
+    put_metrics(&mut body, snapshot, wall, facts, process)?;
     if shows_players {
         put_player_metrics(&mut body, snapshot)?;
     }
@@ -166,14 +215,37 @@ fn status_of(alloc: Global, snapshot: &Snapshot) -> Result<Bytes, AllocError>
 
 impl<R: Wait + Clock> Looks<R> {
     /// Returns the figures of now, or of at most a quarter of a second ago.
-    fn look(&mut self, rt: &R, reports: &Reports) -> Result<&Snapshot, AllocError> {
+    fn look(&mut self, rt: &R, reports: &Reports) -> Result<&Look, AllocError> {
         let now = self.moments.now();
-        let seen = match self.last.take() {
-            Some((made, snapshot)) if is_fresh(made, now) => (made, snapshot),
-            _ => (now, reports.snapshot(rt, now)?),
+        let look = match self.last.take() {
+            Some(look) if is_fresh(look.made, now) => look,
+            _ => Look {
+                made: now,
+                wall: wall_moment(rt),
+                snapshot: reports.snapshot(rt, now)?,
+            },
         };
-        Ok(&self.last.insert(seen).1)
+        Ok(self.last.insert(look))
     }
+
+    /// Looks at the marks of the server's threads. Returns the first thread that is late.
+    fn late(&mut self, rt: &R, reports: &Reports) -> Result<Option<ServerThread>, AllocError>
+        ensures { IfOk result IsFirstLate }
+    {
+        let marks = reports.marks(rt)?;
+        self.health.observe(marks.as_slice(), self.moments.now())
+    }
+}
+
+/// Returns the moment of the wall clock in milliseconds since the beginning of 1970, if it can be read and isn't before that.
+fn wall_moment(rt: &impl Clock) -> Option<u64> {
+    let Ok(now) = SystemTime::now(rt) else {
+        return None;
+    };
+    let Ok(passed) = now.duration_since(UNIX_EPOCH) else {
+        return None;
+    };
+    u64::try_from(passed.as_millis()).ok()
 }
 
 /// Returns whether a snapshot that was made at one moment is shown again at another, both in milliseconds.

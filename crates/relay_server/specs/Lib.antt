@@ -4,4 +4,5 @@ pub mod Endings
 pub mod Leavings
 pub mod QuietTimes
 pub mod Refusals
+pub mod Roles
 pub mod Snapshots

@@ -1,6 +1,6 @@
 -- Why connections are refused.
-use Rattle.relay_log.specs.declared.refusal.Refusal.{Refusal}
-use Rattle.relay_log.specs.declared.refusal.Refusal.TheVariants.{Full, OutOfMemory}
+use Rattle.server_counts.specs.declared.refusal.Refusal.{Refusal}
+use Rattle.server_counts.specs.declared.refusal.Refusal.TheVariants.{Full, OutOfMemory}
 use Rattle.session_state.specs.declared.fault.ConnectFault.{ConnectFault}
 use Rattle.session_state.specs.declared.fault.ConnectFault.TheVariants.{Full as NoPlace, OutOfMemory as NoMemory}
 

@@ -109,6 +109,7 @@ fn each_frame_of_a_connection_is_counted(rt: HostRuntime) {
         lost: 0,
         unsent: 0,
         slowed: 0,
+        missing: 0,
     };
     assert!(rt; served.counts == want && served.counts.has_losses());
     // Its coming, four requests and its hang-up.

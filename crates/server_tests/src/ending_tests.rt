@@ -2,6 +2,7 @@
 use crate::account_tests::{SET_UP, SETUP_OUT, Stall, stalled_line};
 use crate::devices::{Flag, Staged, flag, joined};
 use crate::expiry_tests::{PLAY, camera};
+use crate::lines::no_counts;
 use crate::moments::Dial;
 use crate::rings::{Parting, Rings};
 use crate::serving::{Serving, SharedRings, Watch, book_of};
@@ -53,7 +54,8 @@ fn shared<R: RandomSource + Wait + Abort>(
     let rings = Rings::holding(rt, alloc, parting);
     let after_end = Some(Duration::from_secs(10));
     let book = book_of(rt, alloc, 1, 2);
-    let shared = Shared::new(alloc, rings, book, OneWord, OpenGate, after_end);
+    let counts = no_counts(rt, alloc);
+    let shared = Shared::new(alloc, rings, book, OneWord, OpenGate, after_end, counts);
     Arc::new(alloc, shared.expect(rt, "memory")).expect(rt, "memory")
 }
 

@@ -1,5 +1,6 @@
 //! Connections over devices in memory, for tests.
 use crate::devices::{Flag, Manner, Staged, Written, flag};
+use crate::lines::no_counts;
 use crate::rings::{Owned, Rings};
 use crate::words::OneWord;
 use interleaved::{ListSource, Reading, Sink, Source, Writing};
@@ -48,8 +49,9 @@ pub(crate) fn shared_over<V: Words + Drop>(
     rings: Rings,
     words: V,
 ) -> SharedRings<V> {
-    let shared = Shared::new(alloc, rings, book, words, OpenGate, None).expect(rt, "memory");
-    Arc::new(alloc, shared).expect(rt, "memory")
+    let counts = no_counts(rt, alloc);
+    let shared = Shared::new(alloc, rings, book, words, OpenGate, None, counts);
+    Arc::new(alloc, shared.expect(rt, "memory")).expect(rt, "memory")
 }
 
 /// A line to a peer that takes `room` bytes.

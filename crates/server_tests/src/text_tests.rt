@@ -1,4 +1,5 @@
 //! Texts of ends, refusals and counts, and the lines that report them.
+use crate::lines::no_counts;
 use base_syntax::Bytes;
 use log::sink::Memory;
 use log::warn;
@@ -10,6 +11,7 @@ use std::alloc::Global;
 use std::fmt::Display;
 use std::net::SocketAddr;
 use std::process::Abort;
+use std::sync::Arc;
 use std::time::Duration;
 
 /// Each end, and its text. All but the first are logged as warnings.
@@ -95,6 +97,7 @@ const COUNTS: Counts = Counts {
     lost: 10,
     unsent: 11,
     slowed: 12,
+    missing: 13,
 };
 
 /// Nothing was lost or refused, and nothing waited.
@@ -111,6 +114,7 @@ const LOSSLESS: Counts = Counts {
     lost: 0,
     unsent: 0,
     slowed: 0,
+    missing: 0,
 };
 
 /// The text of counts most of which are 0.
@@ -119,7 +123,7 @@ const UNTOLD: &str =
 
 /// The line that reports the counts.
 const COUNTED: &str =
-    "[INFO  relay_server::events] 10.0.0.1:554: published 1, pinned 2, too long 3, bad RTP 4, unknown channel 5, no memory 6; sent 8, skipped 9, lost 10, unsent 11; strangers 7, slowed 12 ms";
+    "[INFO  relay_server::events] 10.0.0.1:554: published 1, pinned 2, too long 3, bad RTP 4, unknown channel 5, no memory 6; sent 8, skipped 9, lost 10, unsent 11; strangers 7, slowed 12 ms, missing 13";
 
 /// A publisher that lost nothing and was slowed.
 const SLOWED: Counts = Counts {
@@ -135,16 +139,30 @@ const SLOWED: Counts = Counts {
     lost: 0,
     unsent: 0,
     slowed: 12,
+    missing: 0,
 };
 
-/// Counts, and the line that reports them: losses, and a publisher that was slowed.
-const TOLD: [(Counts, Option<&str>); 3] = [
+/// A publisher of whose packets some were lost before they came.
+const MISSING: Counts = Counts {
+    slowed: 0,
+    missing: 12,
+    ..SLOWED
+};
+
+/// Counts, and the line that reports them: losses, a publisher that was slowed, and one whose packets were missing.
+const TOLD: [(Counts, Option<&str>); 4] = [
     (LOSSLESS, None),
     (COUNTS, Some(COUNTED)),
     (
         SLOWED,
         Some(
             "[INFO  relay_server::events] 10.0.0.1:554: published 9, pinned 0, too long 0, bad RTP 0, unknown channel 0, no memory 0; sent 0, skipped 0, lost 0, unsent 0; strangers 0, slowed 12 ms",
+        ),
+    ),
+    (
+        MISSING,
+        Some(
+            "[INFO  relay_server::events] 10.0.0.1:554: published 9, pinned 0, too long 0, bad RTP 0, unknown channel 0, no memory 0; sent 0, skipped 0, lost 0, unsent 0; strangers 0, missing 12",
         ),
     ),
 ];
@@ -218,9 +236,15 @@ fn a_line_of_counts_names_the_mount_and_the_part(rt: HostRuntime) {
 /// More lines than may wait are logged, and no thread writes them.
 #[test]
 fn lines_that_nobody_writes_hold_nobody_up(rt: HostRuntime) {
-    let lines = Lines::new(rt, rt.alloc()).expect(&rt, "memory");
+    let alloc = rt.alloc();
+    let counts = no_counts(&rt, alloc);
+    let counted = Arc::try_clone(&counts).expect(&rt, "a count of its users");
+    let lines = Lines::new(rt, alloc, counted).expect(&rt, "memory");
     for number in 0..3_000u32 {
         warn!(lines; "{number}");
     }
+    // 1,024 lines wait.
+    assert!(rt; counts.figures().lines_dropped == 3_000 - 1_024);
     lines.close(Duration::from_millis(10));
+    assert!(rt; counts.figures().lines_dropped == 3_000);
 }

@@ -1,5 +1,5 @@
 -- What has come to the mounts of a name, and what became of their players' packets.
-use Rattle.std.specs.Prelude.{ℕ, Bool, not, ◌&&◌, List, filter, fold, max}
+use Rattle.std.specs.Prelude.{ℕ, ◌-◌, Bool, not, ◌&&◌, if◌then◌else◌, List, count_by, filter, fold, max, nat_lt}
 use Rattle.std.specs.Str.{bytes_eq}
 use Rattle.relay_accounts.specs.declared.seat_account.SeatAccount.{SeatAccount}
 use Rattle.mount_series.specs.declared.sums.MountSums.{MountSums}
@@ -19,7 +19,7 @@ plays_from name player = not player.has_left && bytes_eq player.mount name
 
 -- what has become of a player's packets so far
 abbrev pub account_so_far : PlayerStatus → SeatAccount
-account_so_far player = record { sent = player.sent; skipped = player.skipped; lost = player.lost; unsent = 0 }
+account_so_far player = record { sent = player.sent; skipped = player.skipped; lost = player.lost; unsent = 0; bytes = player.bytes }
 
 -- the sums with what has come to these mounts
 abbrev pub with_mounts : MountSums → List MountStatus → MountSums
@@ -42,3 +42,14 @@ sums_of_all snapshot =
 -- how many packets the player is behind that is furthest behind, of those that have a seat of a mount of this name
 abbrev pub behind_of : (name : List ℕ) → List PlayerStatus → ℕ
 behind_of name players = fold (λ most player. max player.behind most) 0 (filter (plays_from name) players)
+
+-- the latest moment at which a packet came to one of these mounts; of one to which none came, its first RECORD
+abbrev pub latest : (now : ℕ) → List MountStatus → ℕ
+latest now mounts = fold (λ last mount. max (now - mount.silence) last) 0 mounts
+
+-- when the last packet of a name came: to its mounts that are recorded, or if there are none, to those that have ended
+abbrev pub last_of : Snapshot → NamedSums → ℕ
+last_of snapshot named =
+    if nat_lt 0 (count_by (goes_on_as named.name) snapshot.mounts.items)
+    then latest snapshot.made (filter (goes_on_as named.name) snapshot.mounts.items)
+    else named.last

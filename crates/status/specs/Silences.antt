@@ -1,5 +1,5 @@
 -- When a mount is reported as silent.
-use Rattle.std.specs.Prelude.{ℕ, ◌/◌, ◌<◌, Option, None, Some, nat_lt, if◌then◌else◌}
+use Rattle.std.specs.Prelude.{ℕ, ◌/◌, Option, None, Some, nat_lt, if◌then◌else◌}
 
 -- the whole seconds of a silence, if they are more than two
 abbrev pub silent_for : (milliseconds : ℕ) → Option ℕ

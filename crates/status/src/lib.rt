@@ -5,6 +5,6 @@ mod mount_status;
 mod player_status;
 mod snapshot;
 
-pub use mount_status::{MountLine, MountStatus, silent_seconds};
+pub use mount_status::{MountLine, MountStatus, TrackStatus, silent_seconds};
 pub use player_status::{PlayerLine, PlayerStatus, PlayerTold};
 pub use snapshot::Snapshot;

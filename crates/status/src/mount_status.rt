@@ -8,12 +8,23 @@ use relay_accounts::MountTally;
 use std::fmt;
 use std::net::SocketAddr;
 
+/// A track of a mount's description as it is shown, each text with at most 64 bytes of it. They are any bytes that the publisher chose.
+#[derive(Drop)]
+pub struct TrackStatus {
+    /// What is sent, as `audio` or `video` (RFC 4566, 5.14).
+    pub media: Bytes,
+    /// The first payload format.
+    pub format: Bytes,
+}
+
 /// A mount that is recorded, and its figures.
 #[derive(Drop)]
 pub struct MountStatus {
     pub name: Bytes,
     /// The address of its publisher.
     pub publisher: SocketAddr,
+    /// The tracks of its description, in their order.
+    pub tracks: Vec<TrackStatus>,
     /// How many players have a seat.
     pub players: usize,
     /// What became of the frames that came since it was announced.

@@ -16,6 +16,8 @@ pub struct PlayerStatus {
     pub seat: usize,
     /// How many its socket took.
     pub sent: u64,
+    /// How many bytes the packets have that its socket took.
+    pub bytes: u64,
     /// How many are of tracks that it didn't set up.
     pub skipped: u64,
     /// How many it has lost at least.
@@ -89,6 +91,7 @@ impl PlayerStatus {
             skipped: self.skipped,
             lost: self.lost,
             unsent: 0,
+            bytes: self.bytes,
         }
     }
 

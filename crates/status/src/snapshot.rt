@@ -1,11 +1,12 @@
 //! The mounts and players of a server at one moment.
 ghost use Rattle.std.specs.Prelude.{◌≡◌, [], count_by, filter, not};
 ghost use Rattle.mount_series.specs.Sums.{nothing};
-ghost use Rattle.status.specs.Names.{behind_of, goes_on_as, plays_from, sums_of, sums_of_all, with_mounts, with_players};
+ghost use Rattle.status.specs.Names.{behind_of, goes_on_as, last_of, latest, plays_from, sums_of, sums_of_all, with_mounts, with_players};
 
 use crate::mount_status::MountStatus;
 use crate::player_status::PlayerStatus;
 use mount_series::{MountSums, NamedSums};
+use server_counts::ServerFigures;
 use std::alloc::Global;
 
 /// The mounts that are recorded, in the order in which they came, and the players that have a seat, in the order in which the
@@ -13,38 +14,48 @@ use std::alloc::Global;
 ///
 /// Beside them are the sums of mounts that have ended and of players that have left, by the name of the mount.
 pub struct Snapshot {
+    /// When it was made, in milliseconds of the server's clock.
+    pub made: u64,
     pub mounts: Vec<MountStatus>,
     pub players: Vec<PlayerStatus>,
     /// The names of mounts that are recorded and of the last to end, each once, with what has ended.
     pub named: Vec<NamedSums>,
     /// What has ended, of all names that there ever were.
     pub ended: MountSums,
+    /// What the server counts of connections, sessions and what it refuses.
+    pub server: ServerFigures,
 }
 
 impl Drop for Snapshot {
     fn drop(self) {
         let Snapshot {
+            made: _,
             mounts: _,
             players: _,
             named: _,
             ended: _,
+            server: _,
         } = self;
     }
 }
 
 impl Snapshot {
-    /// The snapshot of a server to which nothing came.
-    pub fn new(alloc: Global) -> Snapshot
+    /// The snapshot of a server with these figures of its own, to which nothing came.
+    pub fn new(alloc: Global, server: ServerFigures) -> Snapshot
+        ensures made { result.made ≡ 0 }
         ensures mounts { result.mounts.items ≡ [] }
         ensures players { result.players.items ≡ [] }
         ensures named { result.named.items ≡ [] }
         ensures ended { result.ended ≡ nothing }
+        ensures server { result.server ≡ server }
     {
         Snapshot {
+            made: 0,
             mounts: Vec::new(alloc),
             players: Vec::new(alloc),
             named: Vec::new(alloc),
             ended: MountSums::nothing(),
+            server,
         }
     }
 
@@ -85,6 +96,34 @@ impl Snapshot {
             .filter(|player| player.plays_from(name))
             .fold(0, |most, player| player.behind.max(most))
     }
+
+    /// Returns when the last packet of a name came, in milliseconds of the server's clock: to its mounts that are recorded, or if
+    /// there are none, to those that have ended. For a mount to which none came this is its first RECORD.
+    pub fn last_of(&self, named: &NamedSums) -> u64
+        ensures { result ≡ last_of self.now named.now }
+    {
+        let name = named.name.as_slice();
+        let going = self
+            .mounts
+            .iter()
+            .filter(|mount| mount.goes_on_as(name))
+            .count();
+        if going > 0 {
+            latest_of(self.mounts.as_slice(), name, self.made)
+        } else {
+            named.last
+        }
+    }
+}
+
+/// Returns the latest moment at which a packet came to a mount that is recorded under this name, and 0 if there is none.
+fn latest_of(mounts: &[MountStatus], name: &[u8], now: u64) -> u64
+    ensures { result ≡ latest now (filter (goes_on_as name.now) mounts.now) }
+{
+    mounts.iter().filter(|mount| mount.goes_on_as(name)).fold(
+        0,
+        |last, mount| now.saturating_sub(mount.silence).max(last),
+    )
 }
 
 /// Returns the sums with what has come to the mounts that are recorded under this name.

@@ -16,7 +16,7 @@ pub enum Page {
     Metrics,
     /// `/status.json`: for scripts, and for the page of `/`.
     Figures,
-    /// `/health`: that the status pages are served.
+    /// `/health`: whether the threads of the server that serve many go on.
     Health,
 }
 

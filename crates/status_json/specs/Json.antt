@@ -48,6 +48,14 @@ abbrev pub list_text : {X : Type 0} → (X → List ℕ) → List X → List ℕ
 list_text text [] = codes "[]"
 list_text text (x ∷ xs) = items_text text x xs
 
+-- members of an object that are a list, in braces
+unfoldable pub some_members_text : {X : Type 0} → (X → List ℕ) → X → List X → List ℕ
+some_members_text text x xs = keyed keys.FirstMember (text x) ++ others_text text xs ++ codes "}"
+
+abbrev pub members_text : {X : Type 0} → (X → List ℕ) → List X → List ℕ
+members_text text [] = codes "{}"
+members_text text (x ∷ xs) = some_members_text text x xs
+
 -- the text of an address, in quotes
 unfoldable pub addr_text : SocketAddr → List ℕ
 addr_text addr = string_text (socket_text addr)

@@ -1,3 +1,5 @@
 pub mod Json
 pub mod Keys
+pub mod Serving
 pub mod Status
+pub mod Tracks

@@ -1,5 +1,5 @@
 -- The text of `/status.json`.
-use Rattle.std.specs.Prelude.{ℕ, Bool, not, nat_lt, List, [], ◌∷◌, ◌++◌, codes, count_by, decimal, filter, map}
+use Rattle.std.specs.Prelude.{ℕ, Bool, not, nat_lt, List, ◌++◌, codes, count_by, decimal, filter, map}
 use Rattle.relay_accounts.specs.declared.mount_tally.MountTally.{MountTally}
 use Rattle.relay_accounts.specs.declared.seat_account.SeatAccount.{SeatAccount}
 use Rattle.mount_series.specs.declared.sums.MountSums.{MountSums}
@@ -9,20 +9,24 @@ use Rattle.status.specs.declared.player_status.PlayerStatus.{PlayerStatus}
 use Rattle.status.specs.declared.snapshot.Snapshot.{Snapshot}
 use Rattle.status.specs.Names.{behind_of, plays_from, sums_of, sums_of_all}
 use Rattle.status_json.specs.declared.key.Key.TheVariants as keys
+use Rattle.status_json.specs.declared.key.PacketKey.TheVariants as packets
 use Rattle.status_json.specs.Json.{addr_text, keyed, list_text, string_text, truth_text}
+use Rattle.status_json.specs.Serving.{server_text}
+use Rattle.status_json.specs.declared.track_rows.TrackRow.{TrackRow}
+use Rattle.status_json.specs.Tracks.{described_text, track_row_text, tracks_in}
 
 -- what became of the frames that came to mounts
 unfoldable pub came_front : MountTally → List ℕ
 came_front came =
-    keyed keys.Published (decimal came.packets)
-    ++ keyed keys.Pinned (decimal came.pinned)
-    ++ keyed keys.TooLong (decimal came.oversize)
+    keyed (keys.Packet packets.Published) (decimal came.packets)
+    ++ keyed (keys.Packet packets.Pinned) (decimal came.pinned)
+    ++ keyed (keys.Packet packets.TooLong) (decimal came.oversize)
 
 unfoldable pub came_back : MountTally → List ℕ
 came_back came =
-    keyed keys.BadRtp (decimal came.bad_rtp)
-    ++ keyed keys.UnknownChannel (decimal came.unknown_channel)
-    ++ keyed keys.NoMemory (decimal came.unkept)
+    keyed (keys.Packet packets.BadRtp) (decimal came.bad_rtp)
+    ++ keyed (keys.Packet packets.UnknownChannel) (decimal came.unknown_channel)
+    ++ keyed (keys.Packet packets.NoMemory) (decimal came.unkept)
     ++ codes "}"
 
 abbrev pub came_text : MountTally → List ℕ
@@ -31,10 +35,10 @@ came_text came = came_front came ++ came_back came
 -- what became of the packets for players
 unfoldable pub account_text : SeatAccount → List ℕ
 account_text players =
-    keyed keys.FirstSent (decimal players.sent)
-    ++ keyed keys.Skipped (decimal players.skipped)
-    ++ keyed keys.Lost (decimal players.lost)
-    ++ keyed keys.Unsent (decimal players.unsent)
+    keyed (keys.Packet packets.FirstSent) (decimal players.sent)
+    ++ keyed (keys.Packet packets.Skipped) (decimal players.skipped)
+    ++ keyed (keys.Packet packets.Lost) (decimal players.lost)
+    ++ keyed (keys.Packet packets.Unsent) (decimal players.unsent)
     ++ codes "}"
 
 -- the figures of a name
@@ -43,6 +47,7 @@ pub record Figures : Type 0 where
   pub is_live : Bool
   pub players : ℕ
   pub sums : MountSums
+  pub tracks : List TrackRow
   pub behind : ℕ
 
 unfoldable pub figures_in : Snapshot → NamedSums → Figures
@@ -51,6 +56,7 @@ figures_in snapshot named = record {
   is_live = nat_lt 0 named.recorded;
   players = count_by (plays_from named.name) snapshot.players.items;
   sums = sums_of snapshot named;
+  tracks = tracks_in (sums_of snapshot named).came.tracks;
   behind = behind_of named.name snapshot.players.items;
 }
 
@@ -65,10 +71,12 @@ figures_in_text f =
     keyed keys.Packets (came_text f.sums.came)
     ++ keyed keys.BytesIn (decimal f.sums.came.bytes)
     ++ keyed keys.SlowedMs (decimal f.sums.came.slowed)
+    ++ keyed keys.Tracks (list_text track_row_text f.tracks)
 
 unfoldable pub figures_out_text : Figures → List ℕ
 figures_out_text f =
     keyed keys.PlayerPackets (account_text f.sums.players)
+    ++ keyed keys.BytesOut (decimal f.sums.players.bytes)
     ++ keyed keys.BehindMax (decimal f.behind)
     ++ codes "}"
 
@@ -80,6 +88,7 @@ unfoldable pub recorded_front : MountStatus → List ℕ
 recorded_front mount =
     keyed keys.Name (string_text mount.name)
     ++ keyed keys.Publisher (addr_text mount.publisher)
+    ++ keyed keys.Tracks (list_text described_text mount.tracks.items)
 
 unfoldable pub recorded_back : MountStatus → List ℕ
 recorded_back mount =
@@ -99,22 +108,28 @@ player_front player =
     ++ keyed keys.Peer (addr_text player.peer)
     ++ keyed keys.AgeMs (decimal player.age)
 
+unfoldable pub player_middle : PlayerStatus → List ℕ
+player_middle player =
+    keyed (keys.Packet packets.Sent) (decimal player.sent)
+    ++ keyed (keys.Packet packets.Skipped) (decimal player.skipped)
+    ++ keyed (keys.Packet packets.Lost) (decimal player.lost)
+
 unfoldable pub player_back : PlayerStatus → List ℕ
 player_back player =
-    keyed keys.Sent (decimal player.sent)
-    ++ keyed keys.Skipped (decimal player.skipped)
-    ++ keyed keys.Lost (decimal player.lost)
+    keyed keys.Bytes (decimal player.bytes)
     ++ keyed keys.Behind (decimal player.behind)
     ++ codes "}"
 
 abbrev pub player_text : PlayerStatus → List ℕ
-player_text player = player_front player ++ player_back player
+player_text player = player_front player ++ (player_middle player ++ player_back player)
 
 -- the sums of all names
 unfoldable pub totals_text : MountSums → List ℕ
 totals_text sums =
     keyed keys.FirstPackets (came_text sums.came)
+    ++ keyed keys.BytesIn (decimal sums.came.bytes)
     ++ keyed keys.PlayerPackets (account_text sums.players)
+    ++ keyed keys.BytesOut (decimal sums.players.bytes)
     ++ codes "}"
 
 -- the mounts that are recorded, and the players that have a seat
@@ -124,11 +139,20 @@ recorded_in snapshot = filter (λ mount. not mount.has_ended) snapshot.mounts.it
 abbrev pub seated_in : Snapshot → List PlayerStatus
 seated_in snapshot = filter (λ player. not player.has_left) snapshot.players.items
 
--- all of it
-unfoldable pub status_text : Snapshot → List ℕ
-status_text snapshot =
+-- the lists
+unfoldable pub lists_text : Snapshot → List ℕ
+lists_text snapshot =
     keyed keys.Mounts (list_text figures_text (map (figures_in snapshot) snapshot.named.items))
     ++ keyed keys.Recorded (list_text recorded_text (recorded_in snapshot))
     ++ keyed keys.Players (list_text player_text (seated_in snapshot))
-    ++ keyed keys.Totals (totals_text (sums_of_all snapshot))
+
+-- what is of the whole server
+unfoldable pub whole_text : Snapshot → List ℕ
+whole_text snapshot =
+    keyed keys.Totals (totals_text (sums_of_all snapshot))
+    ++ keyed keys.Server (server_text snapshot.server)
     ++ codes "}"
+
+-- all of it
+unfoldable pub status_text : Snapshot → List ℕ
+status_text snapshot = lists_text snapshot ++ whole_text snapshot

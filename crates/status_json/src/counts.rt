@@ -3,7 +3,7 @@ ghost use Rattle.std.specs.Prelude.{◌≡◌, ◌++◌, length, take, OnOk, OnE
 ghost use Rattle.status_json.specs.Json.{keyed};
 ghost use Rattle.status_json.specs.Status.{account_text, came_back, came_front, came_text, totals_text};
 
-use crate::key::Key;
+use crate::key::{Key, PacketKey};
 use crate::values::write_number;
 use mount_series::MountSums;
 use relay_accounts::{MountTally, SeatAccount};
@@ -15,9 +15,9 @@ fn write_came_front(out: &mut Vec<u8>, came: &MountTally) -> Result<(), AllocErr
     ensures text { OnOk result (out.new.items ≡ out.old.items ++ came_front came.now) }
     ensures kept { OnErr result (take (length out.old.items) out.new.items ≡ out.old.items) }
 {
-    write_number(out, Key::Published, came.packets)?;
-    write_number(out, Key::Pinned, came.pinned)?;
-    write_number(out, Key::TooLong, came.oversize)
+    write_number(out, Key::Packet(PacketKey::Published), came.packets)?;
+    write_number(out, Key::Packet(PacketKey::Pinned), came.pinned)?;
+    write_number(out, Key::Packet(PacketKey::TooLong), came.oversize)
 }
 
 /// Appends what became of the other frames, or a part of it if memory is refused.
@@ -26,9 +26,13 @@ fn write_came_back(out: &mut Vec<u8>, came: &MountTally) -> Result<(), AllocErro
     ensures text { OnOk result (out.new.items ≡ out.old.items ++ came_back came.now) }
     ensures kept { OnErr result (take (length out.old.items) out.new.items ≡ out.old.items) }
 {
-    write_number(out, Key::BadRtp, came.bad_rtp)?;
-    write_number(out, Key::UnknownChannel, came.unknown_channel)?;
-    write_number(out, Key::NoMemory, came.unkept)?;
+    write_number(out, Key::Packet(PacketKey::BadRtp), came.bad_rtp)?;
+    write_number(
+        out,
+        Key::Packet(PacketKey::UnknownChannel),
+        came.unknown_channel,
+    )?;
+    write_number(out, Key::Packet(PacketKey::NoMemory), came.unkept)?;
     out.extend_from_slice(b"}")
 }
 
@@ -61,10 +65,10 @@ fn write_account(out: &mut Vec<u8>, players: &SeatAccount) -> Result<(), AllocEr
     ensures text { OnOk result (out.new.items ≡ out.old.items ++ account_text players.now) }
     ensures kept { OnErr result (take (length out.old.items) out.new.items ≡ out.old.items) }
 {
-    write_number(out, Key::FirstSent, players.sent)?;
-    write_number(out, Key::Skipped, players.skipped)?;
-    write_number(out, Key::Lost, players.lost)?;
-    write_number(out, Key::Unsent, players.unsent)?;
+    write_number(out, Key::Packet(PacketKey::FirstSent), players.sent)?;
+    write_number(out, Key::Packet(PacketKey::Skipped), players.skipped)?;
+    write_number(out, Key::Packet(PacketKey::Lost), players.lost)?;
+    write_number(out, Key::Packet(PacketKey::Unsent), players.unsent)?;
     out.extend_from_slice(b"}")
 }
 
@@ -89,7 +93,9 @@ fn write_sums(out: &mut Vec<u8>, sums: &MountSums) -> Result<(), AllocError>
     ensures kept { OnErr result (take (length out.old.items) out.new.items ≡ out.old.items) }
 {
     write_packets(out, Key::FirstPackets, &sums.came)?;
+    write_number(out, Key::BytesIn, sums.came.bytes)?;
     write_players(out, Key::PlayerPackets, &sums.players)?;
+    write_number(out, Key::BytesOut, sums.players.bytes)?;
     out.extend_from_slice(b"}")
 }
 

@@ -5,7 +5,9 @@ mod counts;
 mod key;
 mod lists;
 mod objects;
+mod serving;
 mod status_text;
+mod track_rows;
 mod values;
 
 pub use status_text::put_status;

@@ -1,7 +1,7 @@
-//! Lists of JSON.
+//! Lists of JSON, and objects whose members are a list.
 ghost use Rattle.std.specs.Prelude.{◌≡◌, ◌++◌, length, take, OnOk, OnErr};
 ghost use Rattle.status_json.specs.declared.key.Key.TheVariants as keys;
-ghost use Rattle.status_json.specs.Json.{items_text, keyed, list_text, next_text, others_text};
+ghost use Rattle.status_json.specs.Json.{items_text, keyed, list_text, members_text, next_text, others_text, some_members_text};
 
 use crate::key::Key;
 use std::alloc::AllocError;
@@ -41,13 +41,13 @@ fn write_others<T: Written>(out: &mut Vec<u8>, values: &[T]) -> Result<(), Alloc
     Ok(())
 }
 
-/// Appends a bracket and a value, or a part of them if memory is refused.
+/// Appends what is before a value, and the value, or a part of them if memory is refused.
 #[tactic(auto, unfolding(crate::specs::Json::keyed))]
-fn write_first<T: Written>(out: &mut Vec<u8>, value: &T) -> Result<(), AllocError>
-    ensures text { OnOk result (out.new.items ≡ out.old.items ++ keyed keys.FirstItem (T.text value.now)) }
+fn write_first<T: Written>(out: &mut Vec<u8>, key: Key, value: &T) -> Result<(), AllocError>
+    ensures text { OnOk result (out.new.items ≡ out.old.items ++ keyed key (T.text value.now)) }
     ensures kept { OnErr result (take (length out.old.items) out.new.items ≡ out.old.items) }
 {
-    out.extend_from_slice(Key::FirstItem.text())?;
+    out.extend_from_slice(key.text())?;
     value.write(out)
 }
 
@@ -57,7 +57,7 @@ fn write_items<T: Written>(out: &mut Vec<u8>, value: &T, others: &[T]) -> Result
     ensures text { OnOk result (out.new.items ≡ out.old.items ++ items_text T.text value.now others.now) }
     ensures kept { OnErr result (take (length out.old.items) out.new.items ≡ out.old.items) }
 {
-    write_first(out, value)?;
+    write_first(out, Key::FirstItem, value)?;
     write_others(out, others)?;
     out.extend_from_slice(b"]")
 }
@@ -85,4 +85,44 @@ pub(crate) fn write_list<T: Written>(
 {
     out.extend_from_slice(key.text())?;
     write_values(out, values)
+}
+
+/// Appends members of an object, at least one, or a part of them if memory is refused.
+#[tactic(auto, unfolding(crate::specs::Json::some_members_text))]
+fn write_some_members<T: Written>(
+    out: &mut Vec<u8>,
+    member: &T,
+    others: &[T],
+) -> Result<(), AllocError>
+    ensures text { OnOk result (out.new.items ≡ out.old.items ++ some_members_text T.text member.now others.now) }
+    ensures kept { OnErr result (take (length out.old.items) out.new.items ≡ out.old.items) }
+{
+    write_first(out, Key::FirstMember, member)?;
+    write_others(out, others)?;
+    out.extend_from_slice(b"}")
+}
+
+/// Appends an object of members, or a part of it if memory is refused.
+fn write_object<T: Written>(out: &mut Vec<u8>, members: &[T]) -> Result<(), AllocError>
+    ensures text { OnOk result (out.new.items ≡ out.old.items ++ members_text T.text members.now) }
+    ensures kept { OnErr result (take (length out.old.items) out.new.items ≡ out.old.items) }
+{
+    match members {
+        [] => out.extend_from_slice(b"{}"),
+        [member, others @ ..] => write_some_members(out, member, others),
+    }
+}
+
+/// Appends what is before an object of members, and the object, or a part of them if memory is refused.
+#[tactic(auto, unfolding(crate::specs::Json::keyed))]
+pub(crate) fn write_members<T: Written>(
+    out: &mut Vec<u8>,
+    key: Key,
+    members: &[T],
+) -> Result<(), AllocError>
+    ensures text { OnOk result (out.new.items ≡ out.old.items ++ keyed key (members_text T.text members.now)) }
+    ensures kept { OnErr result (take (length out.old.items) out.new.items ≡ out.old.items) }
+{
+    out.extend_from_slice(key.text())?;
+    write_object(out, members)
 }

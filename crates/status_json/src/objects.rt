@@ -1,10 +1,11 @@
 //! Names, mounts and players as objects of JSON.
 ghost use Rattle.std.specs.Prelude.{◌≡◌, ◌++◌, IfOk, OnErr, OnOk, length, map, take};
-ghost use Rattle.status_json.specs.Status.{figures_front, figures_in, figures_in_text, figures_out_text, player_back, player_front, recorded_back, recorded_front, recorded_in, seated_in};
+ghost use Rattle.status_json.specs.Status.{figures_front, figures_in, figures_in_text, figures_out_text, player_back, player_front, player_middle, recorded_back, recorded_front, recorded_in, seated_in};
 
 use crate::counts::{write_packets, write_players};
-use crate::key::Key;
-use crate::lists::Written;
+use crate::key::{Key, PacketKey};
+use crate::lists::{Written, write_list};
+use crate::track_rows::{TrackRow, track_rows};
 use crate::values::{write_addr, write_number, write_text, write_truth};
 use mount_series::{MountSums, NamedSums};
 use status::{MountStatus, PlayerStatus, Snapshot};
@@ -18,6 +19,7 @@ pub(crate) struct NameRow<'a> {
     is_live: bool,
     players: u64,
     sums: MountSums,
+    tracks: Vec<TrackRow>,
     behind: u64,
 }
 
@@ -26,23 +28,36 @@ impl<'a> Model for NameRow<'a> {
 
     ghost Value = { Figures };
 
-    ghost view = { λ r. record { name = r.name.now; is_live = r.is_live; players = r.players; sums = r.sums; behind = r.behind } };
+    ghost view = { λ r. record {
+      name = r.name.now;
+      is_live = r.is_live;
+      players = r.players;
+      sums = r.sums;
+      tracks = r.tracks.items;
+      behind = r.behind;
+    } };
 }
 
 impl<'a> NameRow<'a> {
     /// Returns the figures of a name.
     #[tactic(auto, unfolding(crate::specs::Status::figures_in))]
-    fn of(snapshot: &Snapshot, named: &'a NamedSums) -> NameRow<'a>
-        ensures { result ≡ figures_in snapshot.now named.now }
+    fn of(
+        alloc: Global,
+        snapshot: &Snapshot,
+        named: &'a NamedSums,
+    ) -> Result<NameRow<'a>, AllocError>
+        ensures { IfOk result (λ row. row ≡ figures_in snapshot.now named.now) }
     {
         let name = named.name.as_slice();
-        NameRow {
+        let sums = snapshot.sums_of(named);
+        Ok(NameRow {
             name,
             is_live: named.recorded > 0,
             players: snapshot.players_of(name) as u64,
-            sums: snapshot.sums_of(named),
+            tracks: track_rows(alloc, &sums.came.tracks)?,
+            sums,
             behind: snapshot.behind_of(name),
-        }
+        })
     }
 }
 
@@ -64,7 +79,8 @@ impl<'a> NameRow<'a> {
     {
         write_packets(out, Key::Packets, &self.sums.came)?;
         write_number(out, Key::BytesIn, self.sums.came.bytes)?;
-        write_number(out, Key::SlowedMs, self.sums.came.slowed)
+        write_number(out, Key::SlowedMs, self.sums.came.slowed)?;
+        write_list(out, Key::Tracks, self.tracks.as_slice())
     }
 
     #[tactic(auto, unfolding(crate::specs::Status::figures_out_text))]
@@ -73,6 +89,7 @@ impl<'a> NameRow<'a> {
         ensures kept { OnErr result (take (length out.old.items) out.new.items ≡ out.old.items) }
     {
         write_players(out, Key::PlayerPackets, &self.sums.players)?;
+        write_number(out, Key::BytesOut, self.sums.players.bytes)?;
         write_number(out, Key::BehindMax, self.behind)?;
         out.extend_from_slice(b"}")
     }
@@ -111,7 +128,8 @@ impl<'a> MountRow<'a> {
         ensures kept { OnErr result (take (length out.old.items) out.new.items ≡ out.old.items) }
     {
         write_text(out, Key::Name, self.mount.name.as_slice())?;
-        write_addr(out, Key::Publisher, self.mount.publisher)
+        write_addr(out, Key::Publisher, self.mount.publisher)?;
+        write_list(out, Key::Tracks, self.mount.tracks.as_slice())
     }
 
     #[tactic(auto, unfolding(crate::specs::Status::recorded_back))]
@@ -163,14 +181,22 @@ impl<'a> PlayerRow<'a> {
         write_number(out, Key::AgeMs, self.player.age)
     }
 
+    #[tactic(auto, unfolding(crate::specs::Status::player_middle))]
+    fn write_middle(&self, out: &mut Vec<u8>) -> Result<(), AllocError>
+        ensures text { OnOk result (out.new.items ≡ out.old.items ++ player_middle self.now) }
+        ensures kept { OnErr result (take (length out.old.items) out.new.items ≡ out.old.items) }
+    {
+        write_number(out, Key::Packet(PacketKey::Sent), self.player.sent)?;
+        write_number(out, Key::Packet(PacketKey::Skipped), self.player.skipped)?;
+        write_number(out, Key::Packet(PacketKey::Lost), self.player.lost)
+    }
+
     #[tactic(auto, unfolding(crate::specs::Status::player_back))]
     fn write_back(&self, out: &mut Vec<u8>) -> Result<(), AllocError>
         ensures text { OnOk result (out.new.items ≡ out.old.items ++ player_back self.now) }
         ensures kept { OnErr result (take (length out.old.items) out.new.items ≡ out.old.items) }
     {
-        write_number(out, Key::Sent, self.player.sent)?;
-        write_number(out, Key::Skipped, self.player.skipped)?;
-        write_number(out, Key::Lost, self.player.lost)?;
+        write_number(out, Key::Bytes, self.player.bytes)?;
         write_number(out, Key::Behind, self.player.behind)?;
         out.extend_from_slice(b"}")
     }
@@ -183,6 +209,7 @@ impl<'a> Written for PlayerRow<'a> {
 
     fn write(&self, out: &mut Vec<u8>) -> Result<(), AllocError> {
         self.write_front(out)?;
+        self.write_middle(out)?;
         self.write_back(out)
     }
 }
@@ -193,7 +220,7 @@ pub(crate) fn name_rows(alloc: Global, snapshot: &Snapshot) -> Result<Vec<NameRo
 {
     let mut rows = Vec::new(alloc);
     for named in &snapshot.named {
-        rows.push(NameRow::of(snapshot, named))?;
+        rows.push(NameRow::of(alloc, snapshot, named)?)?;
     }
     Ok(rows)
 }

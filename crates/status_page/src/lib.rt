@@ -5,7 +5,7 @@
 /// What a browser may load and run for the page (Content Security Policy Level 3): its own style and script, by their hashes, and
 /// figures of the same server. No other page shows it in a frame.
 pub const POLICY: &str =
-    "default-src 'none'; script-src 'sha256-rCPDYmc9z13RsbL4J/aE9F4S8wzOhBFMuTkmXYPghts='; style-src 'sha256-WJfMl20LLmPitSPxfgXc1oDedIhen2YzNcRxnrMuZe0='; connect-src 'self'; base-uri 'none'; form-action 'none'; frame-ancestors 'none'";
+    "default-src 'none'; script-src 'sha256-pnPH8rJDrAMyV/KSVckd47h5qOS7DNSxWoyzSm7ADpE='; style-src 'sha256-GmloykLtifMtsvL4NFkbFDtv+KkByrSjhs6Am46AoWA='; connect-src 'self'; base-uri 'none'; form-action 'none'; frame-ancestors 'none'";
 
 /// The page, as UTF-8.
 pub const PAGE: &str = r#"<!doctype html>
@@ -33,6 +33,7 @@ th { color: var(--dim); font-weight: 500 }
 .live { color: var(--good) }
 .dim, .inner th { color: var(--dim) }
 .inner > td { padding: 0 0 .6rem 1.5rem; text-align: left; white-space: normal }
+.inner p { overflow-wrap: anywhere }
 .old { opacity: .5 }
 svg { width: 7.5rem; height: 1.6rem; vertical-align: middle }
 polyline { fill: none; stroke: var(--mark); stroke-width: 1.5; vector-effect: non-scaling-stroke }
@@ -121,10 +122,28 @@ function show(mount, all, now) {
   put(it.cells[6], String(refused), refused > first.refused ? "bad" : "");
   players(it, mount, live, all);
 }
+function tracks(it, mount, described) {
+  const count = Math.max(described.length, ...mount.tracks.map(one => one.track + 1));
+  for (let number = 0; number < count; number++) {
+    const shown = described[number], counts = mount.tracks.find(one => one.track === number);
+    const lost = counts && counts.missing + counts.restarts > 0;
+    if (!shown && !lost) continue;
+    const line = make("p", it.inner, undefined, lost && counts.missing ? "bad" : "dim");
+    make("span", line, `Track ${number}: `);
+    if (shown) {
+      make("bdi", line, shown.media);
+      make("span", line, ", format ");
+      make("bdi", line, shown.format);
+    }
+    if (lost) make("span", line, `${shown ? "; " : ""}${counts.missing} packets lost before the relay, ${counts.late} late, ${counts.restarts} restarts of the numbers`);
+    make("span", line, ".");
+  }
+}
 function players(it, mount, live, all) {
   if (it.inner.parentNode.hidden) return;
   it.inner.replaceChildren();
   if (live) make("p", it.inner, `Publisher ${live.publisher}, for ${time(live.age_ms)}.`, "dim");
+  tracks(it, mount, live ? live.tracks : []);
   const those = all.players.filter(one => one.mount === mount.name);
   if (!those.length) return void make("p", it.inner, "No player.", "dim");
   const table = make("table", it.inner), head = make("tr", table);

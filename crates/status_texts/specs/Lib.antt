@@ -1,9 +1,15 @@
 pub mod Families
 pub mod Figures
 pub mod Heads
+pub mod Labels
+pub mod LastPackets
 pub mod Metrics
 pub mod Name
 pub mod Numbers
 pub mod Players
 pub mod Process
+pub mod Roles
 pub mod Seat
+pub mod Serving
+pub mod Shown
+pub mod Tracks

@@ -1,7 +1,8 @@
--- How many packets had each result.
+-- Numbers with names: how many packets had each result, and how many connections were refused for each reason.
 use Rattle.std.specs.Prelude.{ℕ, List, [], ◌∷◌, codes}
 use Rattle.relay_accounts.specs.declared.mount_tally.MountTally.{MountTally}
 use Rattle.relay_accounts.specs.declared.seat_account.SeatAccount.{SeatAccount}
+use Rattle.server_counts.specs.declared.figures.RefusedConnections.{RefusedConnections}
 
 -- a number and its name
 pub record NamedNumber : Type 0 where
@@ -29,4 +30,14 @@ player_counts players =
     ∷ called (codes "skipped") players.skipped
     ∷ called (codes "lost") players.lost
     ∷ called (codes "unsent") players.unsent
+    ∷ []
+
+-- how many connections were refused for each reason
+abbrev pub refusal_counts : RefusedConnections → List NamedNumber
+refusal_counts refused =
+    called (codes "full") refused.full
+    ∷ called (codes "address_full") refused.address_full
+    ∷ called (codes "out_of_memory") refused.out_of_memory
+    ∷ called (codes "no_thread") refused.no_thread
+    ∷ called (codes "not_accepted") refused.not_accepted
     ∷ []

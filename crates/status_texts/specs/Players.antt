@@ -7,10 +7,10 @@ use Rattle.exposition.specs.Exposition.{LabelPair, sample_text}
 use Rattle.status.specs.declared.player_status.PlayerStatus.{PlayerStatus}
 use Rattle.status_texts.specs.Seat.{Seat}
 use Rattle.status_texts.specs.declared.player_family.PlayerFamily.{PlayerFamily}
-use Rattle.status_texts.specs.declared.player_family.PlayerFamily.TheVariants.{Packets, Behind, Info}
+use Rattle.status_texts.specs.declared.player_family.PlayerFamily.TheVariants.{Packets, Bytes, Behind, Info}
 use Rattle.status_texts.specs.Families.{counter, gauge, head_text}
 use Rattle.status_texts.specs.Heads.{Head}
-use Rattle.status_texts.specs.Metrics.{mount_label, result_label}
+use Rattle.status_texts.specs.Labels.{mount_label, result_label}
 use Rattle.status_texts.specs.Numbers.{NamedNumber, called}
 
 -- The other player took the same seat later, of a mount of the same name: that of a mount which ended may still be taken when its name
@@ -25,6 +25,7 @@ is_shown players player = not player.has_left && nat_eq (count_by (takes_over pl
 
 abbrev pub player_head : PlayerFamily → Head
 player_head Packets = counter (codes "vasklun_seat_packets_total") (codes "Packets for the player in the seat since it took it, by what became of them.")
+player_head Bytes = counter (codes "vasklun_seat_bytes_total") (codes "Bytes of the packets that were sent to the player in the seat since it took it.")
 player_head Behind = gauge (codes "vasklun_seat_behind_packets") (codes "Packets that the player in the seat is behind.")
 player_head Info = gauge (codes "vasklun_player_info") (codes "1 for each player that has a seat, with its address.")
 
@@ -35,6 +36,7 @@ seat_of player = record {
   seat = decimal player.seat;
   peer = socket_text player.peer;
   sent = player.sent;
+  bytes = player.bytes;
   skipped = player.skipped;
   lost = player.lost;
   behind = player.behind;
@@ -59,10 +61,15 @@ abbrev pub seat_count : (metric : List ℕ) → Seat → NamedNumber → List �
 seat_count metric seat count =
     sample_text metric (mount_label seat.mount ∷ seat_label seat ∷ result_label count.name ∷ []) (decimal count.value)
 
+-- a sample of a player
+abbrev pub seat_sample : (metric : List ℕ) → Seat → (value : List ℕ) → List ℕ
+seat_sample metric seat value = sample_text metric (mount_label seat.mount ∷ seat_label seat ∷ []) value
+
 -- a family's samples for a player
 abbrev pub player_samples : (metric : List ℕ) → PlayerFamily → Seat → List ℕ
 player_samples metric Packets seat = flat_map (seat_count metric seat) (seat_counts seat)
-player_samples metric Behind seat = sample_text metric (mount_label seat.mount ∷ seat_label seat ∷ []) (decimal seat.behind)
+player_samples metric Bytes seat = seat_sample metric seat (decimal seat.bytes)
+player_samples metric Behind seat = seat_sample metric seat (decimal seat.behind)
 player_samples metric Info seat = sample_text metric (mount_label seat.mount ∷ seat_label seat ∷ peer_label seat ∷ []) (decimal 1)
 
 -- a family: its head, and its samples for each player that is shown
@@ -71,4 +78,4 @@ player_family seats family = head_text (player_head family) ++ flat_map (player_
 
 -- the families in their order
 abbrev pub players_text : List PlayerStatus → List ℕ
-players_text players = flat_map (player_family (seats_of players)) (Packets ∷ Behind ∷ Info ∷ [])
+players_text players = flat_map (player_family (seats_of players)) (Packets ∷ Bytes ∷ Behind ∷ Info ∷ [])

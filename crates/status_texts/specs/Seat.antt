@@ -7,6 +7,7 @@ pub record Seat : Type 0 where
   pub seat : List ℕ
   pub peer : List ℕ
   pub sent : ℕ
+  pub bytes : ℕ
   pub skipped : ℕ
   pub lost : ℕ
   pub behind : ℕ

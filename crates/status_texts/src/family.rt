@@ -67,6 +67,7 @@ pub(crate) enum MountFamily {
     Packets,
     BytesIn,
     PlayerPackets,
+    PlayerBytes,
     Slowed,
     Live,
     Players,
@@ -77,7 +78,9 @@ pub(crate) enum MountFamily {
 #[derive(Clone, Copy, Debug, PartialEq, Eq)]
 pub(crate) enum ServerFamily {
     AllPackets,
+    AllBytesIn,
     AllPlayerPackets,
+    AllPlayerBytes,
     ConnectionsMax,
     MountsMax,
     SeatsMax,
@@ -112,6 +115,10 @@ impl MountFamily {
                 "vasklun_mount_player_packets_total",
                 "Packets for the players of the name's mounts, by what became of them.",
             ),
+            MountFamily::PlayerBytes => FamilyHead::counter(
+                "vasklun_mount_player_bytes_total",
+                "Bytes of the packets that were sent to the players of the name's mounts.",
+            ),
             MountFamily::Slowed => FamilyHead::counter(
                 "vasklun_mount_slowed_seconds_total",
                 "Seconds that packets of the name's mounts waited for players.",
@@ -141,14 +148,21 @@ impl ServerFamily {
                 "vasklun_packets_total",
                 "Frames that came to all mounts since the server started, by what became of them.",
             ),
+            ServerFamily::AllBytesIn => FamilyHead::counter(
+                "vasklun_bytes_in_total",
+                "Bytes of the packets that were published to all mounts since the server started.",
+            ),
             ServerFamily::AllPlayerPackets => FamilyHead::counter(
                 "vasklun_player_packets_total",
                 "Packets for all players since the server started, by what became of them.",
             ),
-            ServerFamily::ConnectionsMax => FamilyHead::gauge(
-                "vasklun_connections_max",
-                "The limit of connections.",
+            ServerFamily::AllPlayerBytes => FamilyHead::counter(
+                "vasklun_player_bytes_total",
+                "Bytes of the packets that were sent to all players since the server started.",
             ),
+            ServerFamily::ConnectionsMax => {
+                FamilyHead::gauge("vasklun_connections_max", "The limit of connections.")
+            }
             ServerFamily::MountsMax => {
                 FamilyHead::gauge("vasklun_mounts_max", "The limit of mounts.")
             }

@@ -2,6 +2,7 @@
 ghost use Rattle.std.specs.Prelude.{◌≡◌, map, IfOk};
 ghost use Rattle.status_texts.specs.Figures.{figures_of};
 
+use crate::track_figures::{TrackFigures, tracks_of};
 use mount_series::{MountSums, NamedSums};
 use relay_accounts::{MountTally, SeatAccount};
 use status::Snapshot;
@@ -13,9 +14,11 @@ use std::marker::Model;
 pub(crate) struct NameFigures<'a> {
     name: &'a [u8],
     sums: MountSums,
+    tracks: Vec<TrackFigures>,
     is_live: bool,
     players: u64,
     behind: u64,
+    silence: u64,
 }
 
 impl<'a> Model for NameFigures<'a> {
@@ -26,26 +29,35 @@ impl<'a> Model for NameFigures<'a> {
     ghost view = { λ f. record {
       name = f.name.now;
       sums = f.sums;
+      tracks = f.tracks.items;
       is_live = f.is_live;
       players = f.players;
       behind = f.behind;
+      silence = f.silence;
     } };
 }
 
 impl<'a> NameFigures<'a> {
     /// Returns the figures of a name.
     #[tactic(auto, unfolding(crate::specs::Figures::figures_of))]
-    fn of(snapshot: &Snapshot, named: &'a NamedSums) -> NameFigures<'a>
-        ensures { result ≡ figures_of snapshot.now named.now }
+    fn of(
+        alloc: Global,
+        snapshot: &Snapshot,
+        named: &'a NamedSums,
+    ) -> Result<NameFigures<'a>, AllocError>
+        ensures { IfOk result (λ figures. figures ≡ figures_of snapshot.now named.now) }
     {
         let name = named.name.as_slice();
-        NameFigures {
+        let sums = snapshot.sums_of(named);
+        Ok(NameFigures {
             name,
-            sums: snapshot.sums_of(named),
+            tracks: tracks_of(alloc, &sums.came.tracks)?,
+            sums,
             is_live: named.recorded > 0,
             players: snapshot.players_of(name) as u64,
             behind: snapshot.behind_of(name),
-        }
+            silence: snapshot.made.saturating_sub(snapshot.last_of(named)),
+        })
     }
 
     pub(crate) fn name(&self) -> &'a [u8]
@@ -59,6 +71,13 @@ impl<'a> NameFigures<'a> {
         ensures { result.now ≡ self.now.sums.came }
     {
         &self.sums.came
+    }
+
+    /// The counts of each track that has some.
+    pub(crate) fn tracks(&self) -> &[TrackFigures]
+        ensures { result.now ≡ self.now.tracks }
+    {
+        self.tracks.as_slice()
     }
 
     /// What became of the packets of their players.
@@ -88,6 +107,13 @@ impl<'a> NameFigures<'a> {
     {
         self.behind
     }
+
+    /// How many milliseconds ago the last packet came.
+    pub(crate) fn silence(&self) -> u64
+        ensures { result ≡ self.now.silence }
+    {
+        self.silence
+    }
 }
 
 /// Returns the figures of each name of a snapshot.
@@ -99,7 +125,7 @@ pub(crate) fn figures_of(
 {
     let mut figures = Vec::new(alloc);
     for named in &snapshot.named {
-        figures.push(NameFigures::of(snapshot, named))?;
+        figures.push(NameFigures::of(alloc, snapshot, named)?)?;
     }
     Ok(figures)
 }

@@ -6,7 +6,9 @@ ghost use Rattle.status_texts.specs.Metrics.{mount_count, mount_counters, mount_
 
 use crate::family::{FamilyHead, MountFamily};
 use crate::figures::NameFigures;
+use crate::last_packets::write_last_packets;
 use crate::number::{Number, packet_counts, player_counts};
+use crate::track_metrics::write_track_families;
 use exposition::{Label, put_sample, put_seconds};
 use std::alloc::AllocError;
 
@@ -72,6 +74,9 @@ fn write_samples(
         MountFamily::BytesIn => put_number(out, metric, mount, figures.came().bytes),
         MountFamily::PlayerPackets => {
             write_counts(out, metric, mount, &player_counts(figures.player_packets()))
+        }
+        MountFamily::PlayerBytes => {
+            put_number(out, metric, mount, figures.player_packets().bytes)
         }
         MountFamily::Slowed => {
             put_seconds(
@@ -139,6 +144,7 @@ fn write_counters(out: &mut Vec<u8>, figures: &[NameFigures]) -> Result<(), Allo
     write_family(out, MountFamily::Packets, figures)?;
     write_family(out, MountFamily::BytesIn, figures)?;
     write_family(out, MountFamily::PlayerPackets, figures)?;
+    write_family(out, MountFamily::PlayerBytes, figures)?;
     write_family(out, MountFamily::Slowed, figures)
 }
 
@@ -154,13 +160,17 @@ fn write_gauges(out: &mut Vec<u8>, figures: &[NameFigures]) -> Result<(), AllocE
 }
 
 /// Appends the families with samples for each name, or a part of their text if memory is refused.
+#[tactic(auto, unfolding(crate::specs::Metrics::mount_families))]
 pub(crate) fn write_mount_families(
     out: &mut Vec<u8>,
+    wall: Option<u64>,
     figures: &[NameFigures],
 ) -> Result<(), AllocError>
-    ensures text { OnOk result (out.new.items ≡ out.old.items ++ mount_families figures.now) }
+    ensures text { OnOk result (out.new.items ≡ out.old.items ++ mount_families wall figures.now) }
     ensures kept { OnErr result (take (length out.old.items) out.new.items ≡ out.old.items) }
 {
     write_counters(out, figures)?;
-    write_gauges(out, figures)
+    write_track_families(out, figures)?;
+    write_gauges(out, figures)?;
+    write_last_packets(out, wall, figures)
 }

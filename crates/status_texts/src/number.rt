@@ -1,8 +1,9 @@
-//! Numbers with names: the counts of packets by what became of them.
+//! Numbers with names: the counts of packets by what became of them, and of refused connections by the reason.
 ghost use Rattle.std.specs.Prelude.{◌≡◌};
-ghost use Rattle.status_texts.specs.Numbers.{packet_counts, player_counts};
+ghost use Rattle.status_texts.specs.Numbers.{packet_counts, player_counts, refusal_counts};
 
 use relay_accounts::{MountTally, SeatAccount};
+use server_counts::RefusedConnections;
 use std::marker::Model;
 
 /// A number and its name. A contract sees the name as a list of bytes.
@@ -63,5 +64,18 @@ pub(crate) fn player_counts(players: &SeatAccount) -> [Number; 4]
         Number::new("skipped", players.skipped),
         Number::new("lost", players.lost),
         Number::new("unsent", players.unsent),
+    ]
+}
+
+/// Returns how many connections were refused for each reason.
+pub(crate) fn refusal_counts(refused: &RefusedConnections) -> [Number; 5]
+    ensures { result ≡ refusal_counts refused.now }
+{
+    [
+        Number::new("full", refused.full),
+        Number::new("address_full", refused.address_full),
+        Number::new("out_of_memory", refused.out_of_memory),
+        Number::new("no_thread", refused.no_thread),
+        Number::new("not_accepted", refused.not_accepted),
     ]
 }

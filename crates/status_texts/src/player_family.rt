@@ -8,6 +8,7 @@ use crate::family::FamilyHead;
 #[derive(Clone, Copy, Debug, PartialEq, Eq, Drop)]
 pub(crate) enum PlayerFamily {
     Packets,
+    Bytes,
     Behind,
     Info,
 }
@@ -20,6 +21,10 @@ impl PlayerFamily {
             PlayerFamily::Packets => FamilyHead::counter(
                 "vasklun_seat_packets_total",
                 "Packets for the player in the seat since it took it, by what became of them.",
+            ),
+            PlayerFamily::Bytes => FamilyHead::counter(
+                "vasklun_seat_bytes_total",
+                "Bytes of the packets that were sent to the player in the seat since it took it.",
             ),
             PlayerFamily::Behind => FamilyHead::gauge(
                 "vasklun_seat_behind_packets",

@@ -1,9 +1,9 @@
 //! The samples of each player.
-ghost use Rattle.std.specs.Prelude.{◌≡◌, ◌++◌, length, take, OnOk, OnErr};
+ghost use Rattle.std.specs.Prelude.{◌≡◌, ◌++◌, decimal, length, take, OnOk, OnErr};
 ghost use Rattle.std.specs.List.{flat_map};
-ghost use Rattle.status_texts.specs.declared.player_family.PlayerFamily.TheVariants.{Behind, Info};
+ghost use Rattle.status_texts.specs.declared.player_family.PlayerFamily.TheVariants.{Info};
 ghost use Rattle.status_texts.specs.Families.{head_text};
-ghost use Rattle.status_texts.specs.Players.{player_family, player_samples, players_text, seat_count, seats_of};
+ghost use Rattle.status_texts.specs.Players.{player_family, player_samples, players_text, seat_count, seat_sample, seats_of};
 
 use crate::family::FamilyHead;
 use crate::number::Number;
@@ -47,16 +47,21 @@ fn write_counts(
     Ok(())
 }
 
-/// Appends how many packets a player is behind.
-fn put_behind(out: &mut Vec<u8>, metric: &'static str, seat: &SeatFigures) -> Result<(), AllocError>
-    ensures text { OnOk result (out.new.items ≡ out.old.items ++ player_samples metric.now Behind seat.now) }
+/// Appends a sample of a player.
+fn put_number(
+    out: &mut Vec<u8>,
+    metric: &'static str,
+    seat: &SeatFigures,
+    value: u64,
+) -> Result<(), AllocError>
+    ensures text { OnOk result (out.new.items ≡ out.old.items ++ seat_sample metric.now seat.now (decimal value)) }
     ensures kept { OnErr result (out.new.items ≡ out.old.items) }
 {
     let labels = [
         Label::new("mount", seat.mount()),
         Label::new("seat", seat.seat()),
     ];
-    put_sample(out, metric, &labels, seat.behind())
+    put_sample(out, metric, &labels, value)
 }
 
 /// Appends the address of a player.
@@ -84,7 +89,8 @@ fn write_samples(
 {
     match family {
         PlayerFamily::Packets => write_counts(out, metric, seat, &seat.counts()),
-        PlayerFamily::Behind => put_behind(out, metric, seat),
+        PlayerFamily::Bytes => put_number(out, metric, seat, seat.bytes()),
+        PlayerFamily::Behind => put_number(out, metric, seat, seat.behind()),
         PlayerFamily::Info => put_info(out, metric, seat),
     }
 }
@@ -139,12 +145,13 @@ fn write_families(out: &mut Vec<u8>, snapshot: &Snapshot) -> Result<(), AllocErr
 {
     let seats = seats_of(*out.allocator(), snapshot.players.as_slice())?;
     write_family(out, PlayerFamily::Packets, seats.as_slice())?;
+    write_family(out, PlayerFamily::Bytes, seats.as_slice())?;
     write_family(out, PlayerFamily::Behind, seats.as_slice())?;
     write_family(out, PlayerFamily::Info, seats.as_slice())
 }
 
 /// Appends metrics of each player in the text format of Prometheus, by its mount's name and its seat's number: what became of its
-/// packets, how many it is behind, and its address. A seat that was taken again, of a mount that began anew under its name, has the
+/// packets, the bytes that it was sent, how many packets it is behind, and its address. A seat that was taken again, of a mount that began anew under its name, has the
 /// samples of its last player.
 ///
 /// The only error is out of memory. After it, `out` is as before.

@@ -14,6 +14,7 @@ pub(crate) struct SeatFigures<'a> {
     seat: String,
     peer: String,
     sent: u64,
+    bytes: u64,
     skipped: u64,
     lost: u64,
     behind: u64,
@@ -30,6 +31,7 @@ impl<'a> Model for SeatFigures<'a> {
       seat = string_bytes s.seat;
       peer = string_bytes s.peer;
       sent = s.sent;
+      bytes = s.bytes;
       skipped = s.skipped;
       lost = s.lost;
       behind = s.behind;
@@ -45,6 +47,7 @@ impl<'a> SeatFigures<'a> {
             seat: player.seat.to_string(alloc)?,
             peer: player.peer.to_string(alloc)?,
             sent: player.sent,
+            bytes: player.bytes,
             skipped: player.skipped,
             lost: player.lost,
             behind: player.behind,
@@ -70,6 +73,13 @@ impl<'a> SeatFigures<'a> {
         ensures { result.now ≡ self.now.peer }
     {
         self.peer.as_bytes()
+    }
+
+    /// How many bytes the packets have that it was sent.
+    pub(crate) fn bytes(&self) -> u64
+        ensures { result ≡ self.now.bytes }
+    {
+        self.bytes
     }
 
     /// How many packets it is behind.

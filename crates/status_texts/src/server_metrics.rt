@@ -2,7 +2,8 @@
 ghost use Rattle.std.specs.Prelude.{◌≡◌, ◌++◌, length, take, OnOk, OnErr};
 ghost use Rattle.std.specs.List.{flat_map};
 ghost use Rattle.status_texts.specs.Families.{head_text};
-ghost use Rattle.status_texts.specs.Metrics.{server_count, server_families, server_family, server_samples};
+ghost use Rattle.status_texts.specs.Labels.{named_count};
+ghost use Rattle.status_texts.specs.Metrics.{server_counters, server_families, server_family, server_limits, server_samples};
 
 use crate::family::{FamilyHead, ServerFamily};
 use crate::number::{Number, packet_counts, player_counts};
@@ -23,30 +24,36 @@ pub struct ServerFacts {
     pub version: String,
 }
 
-/// Appends a sample of the server for a result.
-fn put_count(out: &mut Vec<u8>, metric: &'static str, count: &Number) -> Result<(), AllocError>
-    ensures text { OnOk result (out.new.items ≡ out.old.items ++ server_count metric.now count.now) }
+/// Appends a sample of the server for a name, which is the value of this label.
+fn put_count(
+    out: &mut Vec<u8>,
+    metric: &'static str,
+    label: &'static str,
+    count: &Number,
+) -> Result<(), AllocError>
+    ensures text { OnOk result (out.new.items ≡ out.old.items ++ named_count metric.now label.now count.now) }
     ensures kept { OnErr result (out.new.items ≡ out.old.items) }
 {
     put_sample(
         out,
         metric,
-        &[Label::new("result", count.name().as_bytes())],
+        &[Label::new(label, count.name().as_bytes())],
         count.value(),
     )
 }
 
-/// Appends a sample of the server for each result, or a part of them if memory is refused.
-fn write_counts(
+/// Appends a sample of the server for each name, or a part of them if memory is refused.
+pub(crate) fn write_counts(
     out: &mut Vec<u8>,
     metric: &'static str,
+    label: &'static str,
     counts: &[Number],
 ) -> Result<(), AllocError>
-    ensures text { OnOk result (out.new.items ≡ out.old.items ++ flat_map (server_count metric.now) counts.now) }
+    ensures text { OnOk result (out.new.items ≡ out.old.items ++ flat_map (named_count metric.now label.now) counts.now) }
     ensures kept { OnErr result (take (length out.old.items) out.new.items ≡ out.old.items) }
 {
     for count in counts {
-        put_count(out, metric, count)?;
+        put_count(out, metric, label, count)?;
     }
     Ok(())
 }
@@ -63,8 +70,14 @@ fn write_samples(
     ensures kept { OnErr result (take (length out.old.items) out.new.items ≡ out.old.items) }
 {
     match family {
-        ServerFamily::AllPackets => write_counts(out, metric, &packet_counts(&sums.came)),
-        ServerFamily::AllPlayerPackets => write_counts(out, metric, &player_counts(&sums.players)),
+        ServerFamily::AllPackets => {
+            write_counts(out, metric, "result", &packet_counts(&sums.came))
+        }
+        ServerFamily::AllBytesIn => put_sample(out, metric, &[], sums.came.bytes),
+        ServerFamily::AllPlayerPackets => {
+            write_counts(out, metric, "result", &player_counts(&sums.players))
+        }
+        ServerFamily::AllPlayerBytes => put_sample(out, metric, &[], sums.players.bytes),
         ServerFamily::ConnectionsMax => put_sample(out, metric, &[], server.connections),
         ServerFamily::MountsMax => put_sample(out, metric, &[], server.mounts),
         ServerFamily::SeatsMax => put_sample(out, metric, &[], server.seats),
@@ -104,6 +117,34 @@ fn write_family(
     write_headed(out, &family.head(), family, sums, server)
 }
 
+/// Appends the sums of all mounts and players, or a part of their text if memory is refused.
+#[tactic(auto, unfolding(crate::specs::Metrics::server_counters))]
+fn write_counters(
+    out: &mut Vec<u8>,
+    sums: &MountSums,
+    server: &ServerFacts,
+) -> Result<(), AllocError>
+    ensures text { OnOk result (out.new.items ≡ out.old.items ++ server_counters sums.now server.now) }
+    ensures kept { OnErr result (take (length out.old.items) out.new.items ≡ out.old.items) }
+{
+    write_family(out, ServerFamily::AllPackets, sums, server)?;
+    write_family(out, ServerFamily::AllBytesIn, sums, server)?;
+    write_family(out, ServerFamily::AllPlayerPackets, sums, server)?;
+    write_family(out, ServerFamily::AllPlayerBytes, sums, server)
+}
+
+/// Appends the limits of the server and its version, or a part of their text if memory is refused.
+#[tactic(auto, unfolding(crate::specs::Metrics::server_limits))]
+fn write_limits(out: &mut Vec<u8>, sums: &MountSums, server: &ServerFacts) -> Result<(), AllocError>
+    ensures text { OnOk result (out.new.items ≡ out.old.items ++ server_limits sums.now server.now) }
+    ensures kept { OnErr result (take (length out.old.items) out.new.items ≡ out.old.items) }
+{
+    write_family(out, ServerFamily::ConnectionsMax, sums, server)?;
+    write_family(out, ServerFamily::MountsMax, sums, server)?;
+    write_family(out, ServerFamily::SeatsMax, sums, server)?;
+    write_family(out, ServerFamily::BuildInfo, sums, server)
+}
+
 /// Appends the families of the server, or a part of their text if memory is refused.
 pub(crate) fn write_server_families(
     out: &mut Vec<u8>,
@@ -113,10 +154,6 @@ pub(crate) fn write_server_families(
     ensures text { OnOk result (out.new.items ≡ out.old.items ++ server_families sums.now server.now) }
     ensures kept { OnErr result (take (length out.old.items) out.new.items ≡ out.old.items) }
 {
-    write_family(out, ServerFamily::AllPackets, sums, server)?;
-    write_family(out, ServerFamily::AllPlayerPackets, sums, server)?;
-    write_family(out, ServerFamily::ConnectionsMax, sums, server)?;
-    write_family(out, ServerFamily::MountsMax, sums, server)?;
-    write_family(out, ServerFamily::SeatsMax, sums, server)?;
-    write_family(out, ServerFamily::BuildInfo, sums, server)
+    write_counters(out, sums, server)?;
+    write_limits(out, sums, server)
 }

@@ -25,7 +25,7 @@ impl<T: Tap> AttachedTap<T> {
         ensures { result ≡ tap }
     {
         pace.stand(seat, tap.cursor());
-        tallies.set_player(seat, 0, 0, 0);
+        tallies.set_player(seat, 0, 0, 0, 0);
         AttachedTap { tap }
     }
 

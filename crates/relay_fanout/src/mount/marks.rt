@@ -10,6 +10,7 @@ ghost use Rattle.cursor.specs.Log.{packet_of};
 ghost use Rattle.relay_fanout.specs.Marks.{answered};
 
 use crate::limits::TAKES;
+use crate::mount::tallies::Tallies;
 use crate::sending::ring_look::{LevelTold, WakeupsRead};
 use crate::wake::wake_signal::WakeSignal;
 use crate::wake::wake_word::WakeWord;
@@ -28,6 +29,10 @@ pub(crate) struct Marks {
     ended: AtomicBool,
     player_wakeups: WakeWord,
 }
+
+/// A packet was counted by its sequence number as its publisher offers it, and wasn't published since. It has no `Drop`, so that it
+/// ends in `publish_into`.
+pub(crate) struct Offered(());
 
 /// A packet, or the end, is in the ring, and no thread was told of it: its publisher is `publishing` in the machine of `waking`. It
 /// has no `Drop`, so that it ends in `mark` or `empty_for`.
@@ -49,9 +54,19 @@ pub(crate) struct Emptied(());
 /// that it ends in `raise`.
 pub(crate) struct Counted(());
 
-/// Publishes a packet, before any thread is told of it: the step `logs`. A refusal has nothing to tell.
+/// Counts a packet that its publisher offers, if its tag is that of a track's RTP packets: once, however often its publish is retried,
+/// and also if the ring refuses it. So none that the relay refuses is missing.
+pub(crate) fn count_offer(tallies: &Tallies, rt: &impl Wait, tag: u8, packet: &[u8]) -> Offered {
+    if tag % 2 == 0 {
+        tallies.offer(rt, usize::from(tag / 2), packet);
+    }
+    Offered(())
+}
+
+/// Publishes a packet that was counted, before any thread is told of it: the step `logs`. A refusal has nothing to tell.
 pub(crate) fn publish_into<F: Feed>(
     feed: &mut F,
+    offered: Offered,
     tag: u8,
     bytes: &[u8],
 ) -> Result<(u64, Logged), Refused>
@@ -62,6 +77,7 @@ pub(crate) fn publish_into<F: Feed>(
     ensures may { IfErr (answered result) F.may_refuse }
     ensures same { F.packet_bytes feed.new ≡ F.packet_bytes feed.old }
 {
+    let Offered(()) = offered;
     let number = feed.publish(tag, bytes)?;
     Ok((number, Logged(())))
 }

@@ -173,7 +173,8 @@ impl<R: Wait + Clock + Drop, F: Feed> Feed for MountFeed<R, F> {
     ghost publish_gives = { PublishesAtLast F.publish_gives };
 
     fn publish(&mut self, tag: u8, bytes: &[u8]) -> Result<u64, Refused> {
-        let (number, logged) = publish_into(&mut self.feed, tag, bytes)?;
+        let offered = self.signal.offer(&self.rt, tag, bytes);
+        let (number, logged) = publish_into(&mut self.feed, offered, tag, bytes)?;
         if let Some((track, point)) = point_to_post(tag, bytes) {
             self.signal.post(&self.rt, &logged, track, point);
         }

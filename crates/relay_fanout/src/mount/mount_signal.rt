@@ -4,7 +4,7 @@ ghost use Rattle.std.specs.Prelude.{◌≡◌};
 use crate::flow::pace::{KnownLevel, Pace};
 use crate::limits::TAKES;
 use crate::mount::attached_tap::AttachedTap;
-use crate::mount::marks::{Closed, Counted, Emptied, Logged, Marked, Marks};
+use crate::mount::marks::{Closed, Counted, Emptied, Logged, Marked, Marks, Offered, count_offer};
 use crate::mount::player_figures::PlayerFigures;
 use crate::mount::tallies::Tallies;
 use crate::sending::ring_look::{LevelTold, WakeupsRead};
@@ -18,11 +18,13 @@ use std::alloc::{AllocError, Global};
 use std::sync::{Arc, Mutex, Wait};
 use transport_header::{MOST_TRACKS, Point};
 
-/// A player's position: how many packets it was sent and skipped, how many were reported lost to it, and the number of the next one.
+/// A player's position: how many packets it was sent and skipped, how many bytes those have that it was sent, how many were reported lost
+/// to it, and the number of the next one.
 #[derive(Clone, Copy, Drop)]
 pub(crate) struct Stand {
     pub(crate) cursor: u64,
     pub(crate) sent: u64,
+    pub(crate) bytes: u64,
     pub(crate) skipped: u64,
     pub(crate) lost: u64,
 }
@@ -130,10 +132,26 @@ impl MountSignal {
         let Stand {
             cursor: _,
             sent,
+            bytes,
             skipped,
             lost,
         } = stand;
-        self.tallies.set_player(seat, sent, skipped, lost);
+        self.tallies.set_player(seat, sent, bytes, skipped, lost);
+    }
+
+    /// Counts a packet that the publisher offers, before it is published.
+    pub(crate) fn offer(&self, rt: &impl Wait, tag: u8, packet: &[u8]) -> Offered {
+        count_offer(&self.tallies, rt, tag, packet)
+    }
+
+    /// Notes that a RECORD was accepted: the next packet of each track is compared with none before it.
+    pub fn recorded(&self, rt: &impl Wait) {
+        self.tallies.recorded(rt);
+    }
+
+    /// Returns how many packets were missing as they came, by their sequence numbers.
+    pub fn missing(&self, rt: &impl Wait) -> u64 {
+        self.tallies.missing(rt)
     }
 
     /// Counts a frame of the publisher with `bytes` bytes of data that came at this moment, in milliseconds, and met this fate.
@@ -168,11 +186,12 @@ impl MountSignal {
     pub fn player(&self, rt: &impl Wait, seat: usize, keep: u64) -> PlayerFigures {
         // The sender writes its cursor before its losses. In the reverse order here a packet that is lost meanwhile may be left
         // out, but none counts as lost twice.
-        let published = self.tally(rt).packets;
+        let published = self.tallies.packets(rt);
         let lost = self.tallies.lost(seat);
         let cursor = self.pace.cursor(seat);
         PlayerFigures {
             sent: self.tallies.sent(seat),
+            bytes: self.tallies.bytes(seat),
             skipped: self.tallies.skipped(seat),
             lost: lost_so_far(lost, cursor, published, keep.saturating_add(TAKES)),
             behind: published.saturating_sub(cursor),

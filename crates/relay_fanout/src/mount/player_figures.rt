@@ -4,6 +4,8 @@
 #[derive(Clone, Copy, Debug, PartialEq, Eq, Drop)]
 pub struct PlayerFigures {
     pub sent: u64,
+    /// How many bytes these have.
+    pub bytes: u64,
     /// How many are of tracks that it didn't set up.
     pub skipped: u64,
     /// How many it has lost at least.

@@ -39,6 +39,7 @@ struct Came {
 #[derive(Drop)]
 struct PlayerTally {
     sent: AtomicU64,
+    bytes: AtomicU64,
     skipped: AtomicU64,
     lost: AtomicU64,
 }
@@ -50,6 +51,7 @@ impl Tallies {
         for _ in 0..seats {
             players.push(PlayerTally {
                 sent: AtomicU64::new(0),
+                bytes: AtomicU64::new(0),
                 skipped: AtomicU64::new(0),
                 lost: AtomicU64::new(0),
             })?;
@@ -76,6 +78,21 @@ impl Tallies {
         }
     }
 
+    /// Counts a packet of a track that the publisher offers, if it is an RTP packet.
+    pub(crate) fn offer(&self, rt: &impl Wait, track: usize, packet: &[u8]) {
+        self.came.lock(rt).tally.tracks.offered(track, packet);
+    }
+
+    /// Notes that a RECORD was accepted.
+    pub(crate) fn recorded(&self, rt: &impl Wait) {
+        self.came.lock(rt).tally.tracks.recorded();
+    }
+
+    /// Returns how many packets of all tracks were missing as they came.
+    pub(crate) fn missing(&self, rt: &impl Wait) -> u64 {
+        self.came.lock(rt).tally.tracks.total().missing()
+    }
+
     /// The mount is recorded from this moment on.
     pub(crate) fn begin(&self, rt: &impl Wait, now: u64) {
         self.came.lock(rt).last = now;
@@ -89,6 +106,11 @@ impl Tallies {
     /// Returns what became of the frames that came to the mount.
     pub(crate) fn of_mount(&self, rt: &impl Wait) -> MountTally {
         self.came.lock(rt).tally
+    }
+
+    /// Returns how many packets were published.
+    pub(crate) fn packets(&self, rt: &impl Wait) -> u64 {
+        self.came.lock(rt).tally.packets
     }
 
     /// Returns the moment of its last packet, or of its first RECORD if no packet came.
@@ -114,10 +136,12 @@ impl Tallies {
         (start, is_first)
     }
 
-    /// Sets how many packets the player in a seat was sent, how many it skipped, and how many were reported lost to it, in total.
-    pub(crate) fn set_player(&self, seat: usize, sent: u64, skipped: u64, lost: u64) {
+    /// Sets how many packets the player in a seat was sent and how many bytes these have, how many packets it skipped, and how many were
+    /// reported lost to it, in total.
+    pub(crate) fn set_player(&self, seat: usize, sent: u64, bytes: u64, skipped: u64, lost: u64) {
         if let Some(player) = self.players.get(seat) {
             player.sent.store(sent, Ordering::SeqCst);
+            player.bytes.store(bytes, Ordering::SeqCst);
             player.skipped.store(skipped, Ordering::SeqCst);
             player.lost.store(lost, Ordering::SeqCst);
         }
@@ -127,6 +151,14 @@ impl Tallies {
     pub(crate) fn sent(&self, seat: usize) -> u64 {
         match self.players.get(seat) {
             Some(player) => player.sent.load(Ordering::SeqCst),
+            None => 0,
+        }
+    }
+
+    /// Returns how many bytes the packets have that the player in a seat was sent.
+    pub(crate) fn bytes(&self, seat: usize) -> u64 {
+        match self.players.get(seat) {
+            Some(player) => player.bytes.load(Ordering::SeqCst),
             None => 0,
         }
     }

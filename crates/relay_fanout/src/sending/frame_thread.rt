@@ -143,12 +143,17 @@ impl<T: Lend + Leave + Drop, W: Sink + Drop, H: HangUp + Drop> SendSide<T, W, H>
 
 /// Returns the position of a player after a batch. All frames before the batch were taken, and the batch too unless a write failed.
 fn stand_of<T: Lend>(tap: &T, handover: &Handover) -> Stand
-    ensures { result ≡ record { cursor = cursor_of (T.account tap.now); sent = (handed_by handover.now 0).sent; skipped = (handed_by handover.now 0).skipped; lost = (T.account tap.now).lost } }
+    ensures { result ≡ record { cursor = cursor_of (T.account tap.now); sent = (handed_by handover.now 0).sent; bytes = (handed_by handover.now 0).bytes; skipped = (handed_by handover.now 0).skipped; lost = (T.account tap.now).lost } }
 {
-    let HandedOver { sent, skipped } = handover.handed(0);
+    let HandedOver {
+        sent,
+        skipped,
+        bytes,
+    } = handover.handed(0);
     Stand {
         cursor: tap.cursor(),
         sent,
+        bytes,
         skipped,
         lost: tap.account().lost,
     }

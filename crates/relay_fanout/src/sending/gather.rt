@@ -5,15 +5,20 @@ ghost use Rattle.std.specs.Prelude.{◌≡◌, ◌≤◌, length};
 use crate::limits::{GATHERED, TAKES};
 use crate::sending::batch::Batch;
 use cursor::{Lend, Tap};
+use interleaved::FRAME_HEAD;
 use player::{OutReport, OutStop, relay_out, relay_out_held};
 use relay_accounts::Handover;
 use transport_header::TrackChannels;
 
-/// Notes the report of one take.
-fn note<B: Batch>(handover: &mut Handover, report: &OutReport, batch: &B) {
+/// Notes the report of one take, which began at this place of the connection's bytes. The frame of a packet is its head and the packet.
+fn note<B: Batch>(handover: &mut Handover, report: &OutReport, before: u64, batch: &B) {
     handover.skip(report.skipped);
     if report.sent > 0 {
-        handover.put(batch.place());
+        let end = batch.place();
+        handover.put(
+            end,
+            end.saturating_sub(before).saturating_sub(FRAME_HEAD as u64),
+        );
     }
 }
 
@@ -34,8 +39,9 @@ pub(crate) fn gather<T: Tap, B: Batch>(
         if batch.gathered() >= GATHERED {
             break;
         }
+        let before = batch.place();
         let report = relay_out(tap, batch, channels, 1, buf);
-        note(handover, &report, batch);
+        note(handover, &report, before, batch);
         match report.stop {
             OutStop::Done => {}
             stop => return stop,
@@ -56,8 +62,9 @@ pub(crate) fn gather_held<T: Lend, B: Batch>(
 {
     begin(batch, handover);
     for _ in 0..TAKES {
+        let before = batch.place();
         let report = relay_out_held(tap, batch, channels, 1);
-        note(handover, &report, batch);
+        note(handover, &report, before, batch);
         match report.stop {
             OutStop::Done => {}
             stop => return stop,

@@ -25,7 +25,7 @@ impl SentFrames {
     /// No packet was taken.
     pub(super) fn none() -> SentFrames
         ensures end { result.end ≡ Stopped }
-        ensures handover { result.handover ≡ record { sent = 0; skipped = 0; waiting = [] } }
+        ensures handover { result.handover ≡ record { sent = 0; skipped = 0; bytes = 0; waiting = [] } }
     {
         SentFrames {
             end: FrameEnd::Stopped,

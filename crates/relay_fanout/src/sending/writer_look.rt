@@ -118,10 +118,15 @@ impl WriterPlayer {
         if sink.try_flush().is_err() {
             return held.answered(Answer::Failed(Failure::WriteFailed));
         }
-        let HandedOver { sent, skipped } = self.handover.handed(sink.inner().taken());
+        let HandedOver {
+            sent,
+            skipped,
+            bytes,
+        } = self.handover.handed(sink.inner().taken());
         let stand = Stand {
             cursor,
             sent,
+            bytes,
             skipped,
             lost,
         };

@@ -183,7 +183,7 @@ impl<T: Tap + Leave + Drop, W: TrySink + Drop, H: HangUp + Drop> Writers<T, W, H
         let mut buf = Vec::new(alloc);
         let mut clock = SteadyClock::new(rt);
         for _ in rt.forever() {
-            let word = writers.read();
+            let word = writers.read(number);
             if self.is_stopped(&word) {
                 word.put_down(Awake::Stopped);
                 return;

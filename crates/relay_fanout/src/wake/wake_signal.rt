@@ -4,6 +4,7 @@ use crate::mount::marks::Counted;
 use crate::mount::recording_mounts::RecordingMount;
 use crate::wake::end_flag::EndFlag;
 use crate::wake::writers_word::WritersWord;
+use server_counts::Mark;
 use std::sync::Wait;
 use std::sync::atomic::{AtomicU64, Ordering};
 use std::thread;
@@ -23,6 +24,8 @@ const URGENT: u64 = 2;
 pub struct WakeSignal {
     /// `QUIET`, `NOTIFIED` or `URGENT`.
     state: AtomicU64,
+    /// How often the waking thread cleared it.
+    cleared: AtomicU64,
     stopped: EndFlag,
     /// What writers sleep on.
     pub(crate) writers: WritersWord,
@@ -47,6 +50,7 @@ impl WakeSignal {
     pub fn new() -> WakeSignal {
         WakeSignal {
             state: AtomicU64::new(QUIET),
+            cleared: AtomicU64::new(0),
             stopped: EndFlag::new(),
             writers: WritersWord::new(),
         }
@@ -69,6 +73,20 @@ impl WakeSignal {
         if self.state.swap(URGENT, Ordering::SeqCst) != URGENT {
             self.state.wake_one();
         }
+    }
+
+    /// Returns the mark of the waking thread: raised from a notification until the thread clears the signal.
+    pub fn waking_mark(&self) -> Mark {
+        let looks = self.cleared.load(Ordering::SeqCst);
+        Mark {
+            is_raised: self.state.load(Ordering::SeqCst) != QUIET,
+            looks,
+        }
+    }
+
+    /// Returns the mark of the writer of this number. `None` if there is no such number.
+    pub fn writer_mark(&self, writer: usize) -> Option<Mark> {
+        self.writers.mark(writer)
     }
 
     /// Ends the waking thread.
@@ -102,6 +120,7 @@ impl WakeSignal {
     /// Clears the signal, before the mounts are asked for marks: what is published from here on notifies again, and what was
     /// published before is marked already.
     pub(super) fn clear(&self) -> Cleared {
+        self.cleared.fetch_add(1, Ordering::SeqCst);
         self.state.store(QUIET, Ordering::SeqCst);
         Cleared(())
     }

@@ -1,11 +1,16 @@
 //! What the writers of a server sleep on.
+use crate::limits::MOST_WRITERS;
 use crate::wake::wake_word::WakeWord;
+use server_counts::Mark;
+use std::array;
 use std::sync::Wait;
+use std::sync::atomic::{AtomicU64, Ordering};
 
-/// The word that writers sleep on.
+/// The word that writers sleep on, and how each of them read it last.
 #[derive(Drop)]
 pub(crate) struct WritersWord {
     word: WakeWord,
+    read: [AtomicU64; MOST_WRITERS],
 }
 
 /// The word as a writer read it at the beginning of a sweep: `read` of a writer in the machine of `waking`. It has no `Drop`, so
@@ -28,6 +33,7 @@ impl WritersWord {
     pub(crate) fn new() -> WritersWord {
         WritersWord {
             word: WakeWord::new(),
+            read: array::from_fn(|_| AtomicU64::new(0)),
         }
     }
 
@@ -39,11 +45,23 @@ impl WritersWord {
         self.word.raise();
     }
 
-    /// Reads the word, before the players are looked at: the step `begins`.
-    pub(crate) fn read(&self) -> WordRead {
-        WordRead {
-            raised: self.word.load(),
+    /// The writer of this number reads the word, before it looks at its players: the step `begins`.
+    pub(crate) fn read(&self, writer: usize) -> WordRead {
+        let raised = self.word.load();
+        if let Some(read) = self.read.get(writer) {
+            read.store(raised, Ordering::SeqCst);
         }
+        WordRead { raised }
+    }
+
+    /// Returns the mark of the writer of this number: raised if the word isn't what the writer read last. `None` if there is no such
+    /// number.
+    pub(crate) fn mark(&self, writer: usize) -> Option<Mark> {
+        let looks = self.read.get(writer)?.load(Ordering::SeqCst);
+        Some(Mark {
+            is_raised: self.word.load() != looks,
+            looks,
+        })
     }
 
     /// Sleeps while the word is the one that was read, for at most `most` milliseconds: the steps `sleeps` and `returns`. It may

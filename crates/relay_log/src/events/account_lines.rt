@@ -29,11 +29,12 @@ impl<R: Wait + Clock> Events<R> {
     }
 }
 
-/// Returns whether an account is logged without `--verbose`: packets were lost or refused, or waited for players.
+/// Returns whether an account is logged without `--verbose`: packets were lost or refused, were missing from the publisher's
+/// sequence, or waited for players.
 pub(crate) fn has_to_be_logged(counts: &Counts) -> bool
     ensures { IsTrue result ↔ HasToBeLogged counts.now }
 {
-    counts.has_losses() || counts.slowed > 0
+    counts.has_losses() || counts.missing > 0 || counts.slowed > 0
 }
 
 /// A line with a connection's part in a mount and what its packets came to there.

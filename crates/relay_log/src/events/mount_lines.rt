@@ -4,13 +4,14 @@ ghost use Rattle.relay_log.specs.Tracks.{media_lines};
 
 use crate::events::tracks::count_media;
 use crate::events::{Events, path_in};
-use crate::reports::ReportedMount;
+use crate::reports::{ReportedMount, tracks_of};
 use crate::teller::Teller;
 use base_syntax::Bytes;
 use log::info;
 use relay_accounts::{Counts, Part};
 use relay_fanout::MountSignal;
 use rtsp_message::Request;
+use status::TrackStatus;
 use std::alloc::Global;
 use std::sync::{Arc, Wait};
 use std::time::{Clock, Instant};
@@ -40,6 +41,10 @@ impl<R: Wait + Clock> Events<R> {
         };
         let peer = teller.peer;
         teller.published.add(rt, teller.conn, name.as_slice(), peer);
+        self.tracks = match &teller.reports {
+            Some(_) => tracks_of(alloc, request.body.as_slice()).ok(),
+            None => None,
+        };
         if !teller.is_verbose {
             return;
         }
@@ -65,7 +70,8 @@ impl<R: Wait + Clock> Events<R> {
         let Some(teller) = &self.teller else {
             return;
         };
-        teller.report_mount(rt, alloc, mount, part, signal);
+        let tracks = self.tracks.take().unwrap_or(Vec::new(alloc));
+        teller.report_mount(rt, alloc, mount, part, tracks, signal);
         let Some(announced) = &mut self.mount else {
             return;
         };
@@ -108,21 +114,24 @@ impl<R: Wait> Teller<R> {
         alloc: Global,
         mount: u64,
         part: &Option<Part>,
+        tracks: Vec<TrackStatus>,
         signal: &Arc<MountSignal, Global>,
     ) {
         let Some(reports) = &self.reports else {
             return;
         };
-        let is_reported = part.as_ref().is_some_and(|part| {
-            let mount = ReportedMount {
-                number: mount,
-                name: part.name.as_slice(),
-                publisher: self.peer,
-                signal,
-            };
-            reports.mount_begins(rt, alloc, self.conn, mount).is_ok()
-        });
-        if !is_reported {
+        let Some(part) = part else {
+            self.lines.miss();
+            return;
+        };
+        let mount = ReportedMount {
+            number: mount,
+            name: part.name.as_slice(),
+            publisher: self.peer,
+            tracks,
+            signal,
+        };
+        if reports.mount_begins(rt, alloc, self.conn, mount).is_err() {
             self.lines.miss();
         }
     }

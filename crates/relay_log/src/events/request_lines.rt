@@ -14,11 +14,13 @@ use std::time::Clock;
 const TARGET: &str = "relay_server::events";
 
 impl<R: Wait + Clock> Events<R> {
-    /// A request was refused with this status. It is counted by mount and status, which a line reports once in a while.
+    /// A request was refused with this status, by which the server counts it. If a line reports such requests once in a while, it is
+    /// counted by mount and status, too.
     pub fn refused(&self, rt: &R, alloc: Global, request: &Request, status: Status) {
         let Some(teller) = &self.teller else {
             return;
         };
+        teller.refusing.count_status(status);
         let peer = teller.peer;
         let path = path_in(alloc, request).unwrap_or(None);
         let found = match &path {

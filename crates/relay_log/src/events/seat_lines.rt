@@ -76,20 +76,20 @@ impl<R: Wait + Clock> Events<R> {
         }
     }
 
-    /// The connection has left this seat with this account, of which so many packets were sent when it gave the seat up.
+    /// The connection has left this seat with this account, which was `left` when it gave the seat up.
     pub fn leaves(
         &self,
         rt: &R,
         part: &Option<Part>,
         seat: usize,
-        sent: u64,
+        left: &SeatAccount,
         account: &SeatAccount,
     ) {
         let Some(teller) = &self.teller else {
             return;
         };
         if let (Some(reports), Some(part)) = (&teller.reports, part) {
-            reports.seat_is_settled(rt, part.name.as_slice(), sent, account);
+            reports.seat_is_settled(rt, part.name.as_slice(), left, account);
         }
         let peer = teller.peer;
         match part {

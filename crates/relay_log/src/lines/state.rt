@@ -8,6 +8,7 @@ ghost use Rattle.relay_log.specs.Backlogs.{lost_with};
 ghost use Rattle.relay_log.specs.Nexts.{IfWrites, IsEnd};
 
 use crate::backlog::{Backlog, Waiting};
+use server_counts::ServerCounts;
 use std::alloc::{AllocError, Global};
 use std::sync::Condvar;
 use std::time::Instant;
@@ -34,8 +35,11 @@ impl<T: Drop> Drop for State<T> {
     }
 }
 
-/// Something changed of which no thread that waits was told since. It has no `Drop`, so that it ends in `tell`.
-pub(super) struct Changed(());
+/// Something changed of which no thread that waits was told since, and `dropped` lines were dropped that the server hasn't counted.
+/// It has no `Drop`, so that it ends in `tell`.
+pub(super) struct Changed {
+    dropped: u64,
+}
 
 /// A line was taken, and no thread that waits for room was told since. It has no `Drop`, so that it ends in `tell`.
 pub(super) struct RoomMade(());
@@ -49,9 +53,12 @@ pub(super) enum Next<T> {
 }
 
 impl Changed {
-    /// Wakes the thread that writes, and one that waits until all is written.
-    pub(super) fn tell(self, changed: &Condvar) {
-        let Changed(()) = self;
+    /// Counts the dropped lines. Wakes the thread that writes, and one that waits until all is written.
+    pub(super) fn tell(self, changed: &Condvar, counts: &ServerCounts) {
+        let Changed { dropped } = self;
+        if dropped > 0 {
+            counts.drop_lines(dropped);
+        }
         changed.notify_all();
     }
 }
@@ -110,17 +117,21 @@ impl<T: Drop> State<T> {
     pub(super) fn put(&mut self, line: T) -> Changed
         ensures kept { length self.old.lines.waiting < 1024 → self.new ≡ record self.old { lines = record { waiting = self.old.lines.waiting ++ record { missed = self.old.lines.missed; item = line } ∷ []; missed = 0 } } }
         ensures full { 1024 ≤ length self.old.lines.waiting → self.new ≡ record self.old { lines = record self.old.lines { missed = capped (self.old.lines.missed + 1) } } }
+        ensures none_dropped { length self.old.lines.waiting < 1024 → result.dropped ≡ 0 }
+        ensures one_dropped { 1024 ≤ length self.old.lines.waiting → result.dropped ≡ 1 }
     {
+        let dropped = if self.lines.is_full() { 1 } else { 0 };
         self.lines.put(line);
-        Changed(())
+        Changed { dropped }
     }
 
     /// Counts lines that couldn't be made, or whose threads haven't ended.
     pub(super) fn miss(&mut self, count: u64) -> Changed
-        ensures { self.new ≡ record self.old { lines = record self.old.lines { missed = capped (self.old.lines.missed + count) } } }
+        ensures missed { self.new ≡ record self.old { lines = record self.old.lines { missed = capped (self.old.lines.missed + count) } } }
+        ensures dropped { result.dropped ≡ count }
     {
         self.lines.miss_all(count);
-        Changed(())
+        Changed { dropped: count }
     }
 
     /// Threads that log wait for room until then.
@@ -132,19 +143,22 @@ impl<T: Drop> State<T> {
 
     /// No line comes any more.
     pub(super) fn close(&mut self) -> Changed
-        ensures { self.new ≡ record self.old { is_closed = true } }
+        ensures closed { self.new ≡ record self.old { is_closed = true } }
+        ensures none_dropped { result.dropped ≡ 0 }
     {
         self.is_closed = true;
-        Changed(())
+        Changed { dropped: 0 }
     }
 
     /// Drops what waits, and counts it with what was missed before.
-    pub(super) fn drop_all(&mut self)
+    pub(super) fn drop_all(&mut self) -> Changed
+        ensures dropped { result.dropped ≡ length self.old.lines.waiting }
         ensures waiting { self.new.lines.waiting ≡ [] }
         ensures missed { capped self.new.lines.missed ≡ capped (self.old.lines.missed + lost_with self.old.lines.waiting) }
         ensures same { self.new ≡ record self.old { lines = self.new.lines } }
     {
-        self.lines.drop_all();
+        let dropped = self.lines.drop_all();
+        Changed { dropped }
     }
 
     /// Takes what the writing thread does next, if it isn't quiet: the lines in their order, then those that were dropped.
@@ -161,7 +175,7 @@ impl<T: Drop> State<T> {
         match self.lines.take_missed() {
             0 => {
                 self.is_written = true;
-                Next::End(Changed(()))
+                Next::End(Changed { dropped: 0 })
             }
             missed => Next::Missed(missed),
         }

@@ -4,6 +4,7 @@
 ghost use Rattle.std.specs.Prelude.{◌≡◌, ◌+◌, ◌-◌, ◌^◌, ◌≤◌, ◌<◌, ◌↔◌, false, true, None, Some, IfOk, IfSome, IfNone, IsSome, IsSomeAnd, IsTrue, slice_get};
 ghost use Rattle.relay_accounts.specs.Capped.{capped};
 ghost use Rattle.rtsp_message.specs.declared.status.Status.TheVariants as statuses;
+ghost use Rattle.server_counts.specs.Refusals.{place_of_refusal};
 ghost use Rattle.relay_log.specs.declared.due.Due.TheVariants as dues;
 ghost use Rattle.relay_log.specs.declared.subject.Subject.TheVariants as subjects;
 ghost use Rattle.relay_log.specs.declared.refusing.state.MayReport.TheVariants.{Counted, Logged};
@@ -12,14 +13,12 @@ ghost use Rattle.relay_log.specs.Counted.{CountsAt, IsEmpty, NothingDue, TellsRo
 ghost use Rattle.relay_log.specs.Nexts.{IfRow};
 ghost use Rattle.relay_log.specs.Refusals.{Counts};
 ghost use Rattle.relay_log.specs.Moments.{sooner_of};
-ghost use Rattle.relay_log.specs.Places.{place_of_refusal};
 ghost use Rattle.relay_log.specs.Rates.{MayTell};
 
 use crate::due::Due;
 use crate::end_kinds::ENDS;
 use crate::line_rate::LineRate;
 use crate::line_rates::LineRates;
-use crate::refusal::Refusal;
 use crate::refusal_row::RefusalRow;
 use crate::refused_requests::RefusedRequests;
 use crate::sooner::sooner;
@@ -28,6 +27,7 @@ use crate::tallies::{first_due, tell_first};
 use crate::tally::Tally;
 use networks::Address;
 use rtsp_message::Status;
+use server_counts::Refusal;
 use std::alloc::{AllocError, Global};
 use std::net::SocketAddr;
 use std::sync::Condvar;

@@ -1,18 +1,19 @@
 //! What reports know of mounts and players, and the lines of a report.
-ghost use Rattle.std.specs.Prelude.{◌≡◌, ◌↔◌, ◌<◌, ◌∷◌, [], ◌++◌, IsTrue, None, IfOk, IfSome, OnOk, OnErr};
+ghost use Rattle.std.specs.Prelude.{◌≡◌, ◌↔◌, ◌<◌, ◌∷◌, [], ◌++◌, IsTrue, None, IfOk, IfSome, IsSomeAnd, OnOk, OnErr, length, slice_get};
 ghost use Rattle.mount_series.specs.Sums.{with_player};
-ghost use Rattle.relay_log.specs.Leaving.{at_its_end, players_of, recorded_in, rest_of, seated_in};
+ghost use Rattle.relay_log.specs.Leaving.{HasLeft, at_its_end, recorded_in, rest_of, seated_in};
 
 use crate::limits::REPORT_LINES;
 use crate::lines::Lines;
+use crate::reports::figures::{copies_of, figures_of_mounts, figures_of_players};
 use crate::reports::reported_mount::Mount;
 use crate::reports::reported_player::Player;
 use crate::reports::told::{Told, turn};
-use base_syntax::Bytes;
 use log::info;
-use mount_series::{MountSeries, NamedSums};
+use mount_series::MountSeries;
 use relay_accounts::SeatAccount;
-use status::{MountLine, PlayerLine, PlayerTold, Snapshot};
+use server_counts::ServerFigures;
+use status::{MountLine, PlayerLine, Snapshot};
 use std::alloc::{AllocError, Global};
 use std::sync::Wait;
 use std::time::Clock;
@@ -79,7 +80,8 @@ impl List {
         let ended = self.mounts.iter().filter(|mount| mount.has_ended).count();
         let mount = &mut self.mounts[place];
         let came = mount.signal.tally(rt);
-        self.series.end(mount.name.as_slice(), &came);
+        let last = mount.signal.last_packet(rt);
+        self.series.end(mount.name.as_slice(), &came, last);
         let has_news = self.is_told && !came.since(&mount.told).is_nothing();
         if may_wait(has_news, ended) {
             mount.has_ended = true;
@@ -93,6 +95,7 @@ impl List {
     pub(super) fn leave(&mut self, conn: u64, account: &SeatAccount)
         ensures mounts { self.new.mounts ≡ self.old.mounts }
         ensures totals { IfSome (seated_in conn self.old.players.items) (λ place. self.new.series.totals ≡ with_player self.old.series.totals (at_its_end account.now)) }
+        ensures named { IfSome (seated_in conn self.old.players.items) (λ place. IsSomeAnd (slice_get self.old.players.items place) (λ player. HasLeft player.name (at_its_end account.now) self.old.series.named self.new.series.named)) }
         ensures none { seated_in conn self.old.players.items ≡ None → self.new ≡ self.old }
     {
         let Some(place) = seated_at(self.players.as_slice(), conn) else {
@@ -108,49 +111,58 @@ impl List {
             .leave(player.name.as_slice(), at_its_end(account));
         let has_lost = self.is_told && account.lost > player.told.lost;
         if may_wait(has_lost, gone) {
-            player.left = Some(PlayerTold {
-                sent: account.sent,
-                lost: account.lost,
-            });
+            player.left = Some(*account);
         } else {
             self.players.remove(place);
         }
     }
 
-    /// The account of a seat of a mount of this name is closed, of which so many packets were sent when it was left: the rest of it is
-    /// in the sums, too.
-    pub(super) fn settle(&mut self, name: &[u8], sent: u64, account: &SeatAccount)
-        ensures totals { self.new.series.totals ≡ with_player self.old.series.totals (rest_of sent account.now) }
+    /// The account of a seat of a mount of this name is closed, and was `left` when the seat was given up: the rest of it is in the
+    /// sums, too.
+    pub(super) fn settle(&mut self, name: &[u8], left: &SeatAccount, account: &SeatAccount)
+        ensures totals { self.new.series.totals ≡ with_player self.old.series.totals (rest_of left.now account.now) }
+        ensures named { HasLeft name.now (rest_of left.now account.now) self.old.series.named self.new.series.named }
         ensures mounts { self.new.mounts ≡ self.old.mounts }
         ensures players { self.new.players ≡ self.old.players }
     {
-        self.series.leave(name, rest_of(sent, account));
+        self.series.leave(name, rest_of(left, account));
     }
 
     /// Returns the figures of each mount and each player at this moment, in the order of the lists, and the sums of those that have
-    /// ended.
+    /// ended, beside these figures of the server.
     pub(super) fn snapshot(
         &mut self,
         rt: &impl Wait,
         alloc: Global,
         keep: u64,
+        server: ServerFigures,
         now: u64,
-    ) -> Result<Snapshot, AllocError> {
-        let mut snapshot = Snapshot::new(alloc);
-        for mount in &self.mounts {
-            let players = count_players_of(self.players.as_slice(), mount.number);
-            snapshot
-                .mounts
-                .push(mount.status(rt, alloc, players, now)?)?;
-        }
-        for player in &mut self.players {
-            snapshot.players.push(player.status(rt, alloc, keep, now)?)?;
-        }
-        for named in self.series.named() {
-            snapshot.named.push(copy_of(alloc, named)?)?;
-        }
-        snapshot.ended = self.series.totals();
-        Ok(snapshot)
+    ) -> Result<Snapshot, AllocError>
+        ensures server { IfOk result (λ snapshot. snapshot.server ≡ server) }
+        ensures made { IfOk result (λ snapshot. snapshot.made ≡ now) }
+        ensures named { IfOk result (λ snapshot. snapshot.named.items ≡ self.old.series.named) }
+        ensures ended { IfOk result (λ snapshot. snapshot.ended ≡ self.old.series.totals) }
+        ensures each_mount { IfOk result (λ snapshot. length snapshot.mounts.items ≡ length self.old.mounts.items) }
+        ensures each_player { IfOk result (λ snapshot. length snapshot.players.items ≡ length self.old.players.items) }
+        ensures series { self.new.series ≡ self.old.series }
+        ensures kept { self.new.mounts ≡ self.old.mounts }
+    {
+        let mounts = figures_of_mounts(
+            rt,
+            alloc,
+            self.mounts.as_slice(),
+            self.players.as_slice(),
+            now,
+        )?;
+        let players = figures_of_players(rt, alloc, keep, self.players.as_mut_slice(), now)?;
+        Ok(Snapshot {
+            made: now,
+            server,
+            mounts,
+            players,
+            named: copies_of(alloc, self.series.named())?,
+            ended: self.series.totals(),
+        })
     }
 
     /// Reports each mount, and each player that lost packets since its last report.
@@ -209,18 +221,6 @@ impl List {
     }
 }
 
-/// Returns a copy of the sums of a name. The only error is out of memory.
-fn copy_of(alloc: Global, named: &NamedSums) -> Result<NamedSums, AllocError>
-    ensures { IfOk result (λ copied. copied ≡ named.now) }
-{
-    Ok(NamedSums {
-        name: Bytes::from_slice(alloc, named.name.as_slice())?,
-        recorded: named.recorded,
-        ended: named.ended,
-        sums: named.sums,
-    })
-}
-
 /// Returns what is known of a seat's account when the seat is left: what isn't sent then may still be.
 fn at_its_end(account: &SeatAccount) -> SeatAccount
     ensures { result ≡ at_its_end account.now }
@@ -231,15 +231,16 @@ fn at_its_end(account: &SeatAccount) -> SeatAccount
     }
 }
 
-/// Returns what a seat's account has beside what was known when the seat was left, of which so many packets were sent.
-fn rest_of(sent: u64, account: &SeatAccount) -> SeatAccount
-    ensures { result ≡ rest_of sent account.now }
+/// Returns what a seat's account has once it is closed, beside the account as it was when the seat was left.
+fn rest_of(left: &SeatAccount, account: &SeatAccount) -> SeatAccount
+    ensures { result ≡ rest_of left.now account.now }
 {
     SeatAccount {
-        sent: account.sent.saturating_sub(sent),
+        sent: account.sent.saturating_sub(left.sent),
         skipped: 0,
         lost: 0,
         unsent: account.unsent,
+        bytes: account.bytes.saturating_sub(left.bytes),
     }
 }
 
@@ -267,14 +268,4 @@ fn seated_at(players: &[Player], conn: u64) -> Option<usize>
     players
         .iter()
         .position(|player| player.conn == conn && player.left.is_none())
-}
-
-/// Returns how many players have a seat of the mount of this number.
-fn count_players_of(players: &[Player], mount: u64) -> usize
-    ensures { result ≡ players_of mount players.now }
-{
-    players
-        .iter()
-        .filter(|player| player.mount == mount && player.left.is_none())
-        .count()
 }

@@ -1,13 +1,14 @@
 //! The mounts of reports.
-ghost use Rattle.std.specs.Prelude.{◌≡◌, ◌<◌, false, IfOk, IfNone, IfSome, IsSome};
+ghost use Rattle.std.specs.Prelude.{◌≡◌, ◌-◌, ◌<◌, false, IfOk, IfNone, IfSome, IsSome};
 ghost use Rattle.std.specs.Arc.{arc_value};
 ghost use Rattle.relay_accounts.specs.Reporting.{nothing_published};
 
+use crate::reports::shown_tracks::copies_of_tracks;
 use crate::reports::told::Told;
 use base_syntax::Bytes;
 use relay_accounts::MountTally;
 use relay_fanout::MountSignal;
-use status::MountStatus;
+use status::{MountStatus, TrackStatus};
 use std::alloc::{AllocError, Global};
 use std::net::SocketAddr;
 use std::sync::{Arc, Wait};
@@ -18,6 +19,8 @@ pub(crate) struct ReportedMount<'a> {
     pub(crate) number: u64,
     pub(crate) name: &'a [u8],
     pub(crate) publisher: SocketAddr,
+    /// The tracks of its description.
+    pub(crate) tracks: Vec<TrackStatus>,
     pub(crate) signal: &'a Arc<MountSignal, Global>,
 }
 
@@ -27,6 +30,7 @@ pub(super) struct Mount {
     pub(super) number: u64,
     pub(super) name: Bytes,
     pub(super) publisher: SocketAddr,
+    pub(super) tracks: Vec<TrackStatus>,
     pub(super) signal: Arc<MountSignal, Global>,
     pub(super) told: MountTally,
     /// When it was first recorded, in milliseconds.
@@ -41,6 +45,7 @@ impl Drop for Mount {
             number: _,
             name: _,
             publisher: _,
+            tracks: _,
             signal: _,
             told: _,
             began: _,
@@ -61,19 +66,26 @@ impl Mount {
         ensures number { IfOk result (λ made. made.number ≡ mount.entry.number) }
         ensures name { IfOk result (λ made. made.name ≡ mount.entry.name.now) }
         ensures publisher { IfOk result (λ made. made.publisher ≡ mount.entry.publisher) }
+        ensures tracks { IfOk result (λ made. made.tracks.items ≡ mount.entry.tracks.items) }
         ensures signal { IfOk result (λ made. arc_value made.signal ≡ arc_value mount.entry.signal.now) }
         ensures nothing_told { IfOk result (λ made. made.told ≡ nothing_published) }
         ensures began { IfOk result (λ made. made.began ≡ began) }
         ensures goes_on { IfOk result (λ made. made.has_ended ≡ false) }
     {
-        let name = Bytes::from_slice(alloc, mount.name)?;
-        let signal = Arc::try_clone(mount.signal)?;
+        let ReportedMount {
+            number,
+            name,
+            publisher,
+            tracks,
+            signal,
+        } = mount;
         Ok(Mount {
             conn,
-            number: mount.number,
-            name,
-            publisher: mount.publisher,
-            signal,
+            number,
+            name: Bytes::from_slice(alloc, name)?,
+            publisher,
+            tracks,
+            signal: Arc::try_clone(signal)?,
             told: MountTally::new(),
             began,
             has_ended: false,
@@ -87,10 +99,18 @@ impl Mount {
         alloc: Global,
         players: usize,
         now: u64,
-    ) -> Result<MountStatus, AllocError> {
+    ) -> Result<MountStatus, AllocError>
+        ensures name { IfOk result (λ status. status.name ≡ self.now.name) }
+        ensures publisher { IfOk result (λ status. status.publisher ≡ self.now.publisher) }
+        ensures tracks { IfOk result (λ status. status.tracks.items ≡ self.now.tracks.items) }
+        ensures players { IfOk result (λ status. status.players ≡ players) }
+        ensures age { IfOk result (λ status. status.age ≡ now - self.now.began) }
+        ensures has_ended { IfOk result (λ status. status.has_ended ≡ self.now.has_ended) }
+    {
         Ok(MountStatus {
             name: Bytes::from_slice(alloc, self.name.as_slice())?,
             publisher: self.publisher,
+            tracks: copies_of_tracks(alloc, self.tracks.as_slice())?,
             players,
             tally: self.signal.tally(rt),
             silence: now.saturating_sub(self.signal.last_packet(rt)),

@@ -1,8 +1,11 @@
 //! The players of reports.
-ghost use Rattle.std.specs.Prelude.{◌≡◌, None, IfOk};
+ghost use Rattle.std.specs.Prelude.{◌≡◌, ◌-◌, None, IfOk, IfSome, is_some};
 ghost use Rattle.std.specs.Arc.{arc_value};
+ghost use Rattle.relay_log.specs.Shown.{IsShownFrom, largest_of, last_figures, nothing_shown, shown_by};
 
+use crate::reports::shown::Shown;
 use base_syntax::Bytes;
+use relay_accounts::SeatAccount;
 use relay_fanout::{MountSignal, PlayerFigures};
 use status::{PlayerStatus, PlayerTold};
 use std::alloc::{AllocError, Global};
@@ -29,11 +32,11 @@ pub(super) struct Player {
     pub(super) signal: Arc<MountSignal, Global>,
     pub(super) told: PlayerTold,
     /// The largest figures that a snapshot had of it.
-    most: PlayerTold,
+    most: Shown,
     /// When it took its seat, in milliseconds.
     pub(super) began: u64,
-    /// What it had been sent and had lost when it left its seat.
-    pub(super) left: Option<PlayerTold>,
+    /// Its account when it left its seat. `None` if it has its seat.
+    pub(super) left: Option<SeatAccount>,
 }
 
 impl Drop for Player {
@@ -67,6 +70,7 @@ impl Player {
         ensures name { IfOk result (λ player. player.name ≡ seat.entry.name.now) }
         ensures signal { IfOk result (λ player. arc_value player.signal ≡ arc_value seat.entry.signal.now) }
         ensures nothing_told { IfOk result (λ player. player.told ≡ record { sent = 0; lost = 0 }) }
+        ensures nothing_shown { IfOk result (λ player. player.most ≡ nothing_shown) }
         ensures began { IfOk result (λ player. player.began ≡ began) }
         ensures seated { IfOk result (λ player. player.left ≡ None) }
     {
@@ -80,7 +84,7 @@ impl Player {
             seat: seat.seat,
             signal,
             told: PlayerTold::nothing(),
-            most: PlayerTold::nothing(),
+            most: Shown::nothing(),
             began,
             left: None,
         })
@@ -93,36 +97,54 @@ impl Player {
         alloc: Global,
         keep: u64,
         now: u64,
-    ) -> Result<PlayerStatus, AllocError> {
-        let PlayerFigures {
-            sent,
-            skipped,
-            lost,
-            behind,
-        } = match self.left {
-            Some(PlayerTold { sent, lost }) => PlayerFigures {
-                sent,
-                skipped: 0,
-                lost,
-                behind: 0,
-            },
-            None => self.signal.player(rt, self.seat, keep),
-        };
+    ) -> Result<PlayerStatus, AllocError>
+        ensures peer { IfOk result (λ status. status.peer ≡ self.old.peer) }
+        ensures mount { IfOk result (λ status. status.mount ≡ self.old.name) }
+        ensures seat { IfOk result (λ status. status.seat ≡ self.old.seat) }
+        ensures age { IfOk result (λ status. status.age ≡ now - self.old.began) }
+        ensures has_left { IfOk result (λ status. status.has_left ≡ is_some self.old.left) }
+        ensures since { IfOk result (λ status. status.since ≡ record { sent = status.sent - self.old.told.sent; lost = status.lost - self.old.told.lost }) }
+        ensures shown { IfOk result (λ status. self.new.most ≡ shown_by status) }
+        ensures grows { IsShownFrom self.old.most self.new.most }
+        ensures left { IfSome self.old.left (λ account. self.new.most ≡ largest_of self.old.most (last_figures account)) }
+        ensures same { self.new ≡ record self.old { most = self.new.most } }
+    {
+        let figures = self.figures(rt, keep);
         // The numbers that they are computed from are read one by one, so they may be less than they were.
-        let sent = sent.max(self.most.sent);
-        let lost = lost.max(self.most.lost);
-        self.most = PlayerTold { sent, lost };
+        let shown = self.most.or_larger(figures);
+        self.most = shown;
         Ok(PlayerStatus {
             peer: self.peer,
             mount: Bytes::from_slice(alloc, self.name.as_slice())?,
             seat: self.seat,
-            sent,
-            skipped,
-            lost,
-            behind,
+            sent: shown.sent,
+            skipped: shown.skipped,
+            lost: shown.lost,
+            bytes: shown.bytes,
+            behind: figures.behind,
             age: now.saturating_sub(self.began),
             has_left: self.left.is_some(),
-            since: PlayerTold { sent, lost }.since(self.told),
+            since: PlayerTold {
+                sent: shown.sent,
+                lost: shown.lost,
+            }
+            .since(self.told),
         })
+    }
+
+    /// Returns its figures as they are read now, or as they were when it left its seat.
+    fn figures(&self, rt: &impl Wait, keep: u64) -> PlayerFigures
+        ensures { IfSome self.now.left (λ account. result ≡ last_figures account) }
+    {
+        match self.left {
+            Some(account) => PlayerFigures {
+                sent: account.sent,
+                skipped: account.skipped,
+                lost: account.lost,
+                behind: 0,
+                bytes: account.bytes,
+            },
+            None => self.signal.player(rt, self.seat, keep),
+        }
     }
 }

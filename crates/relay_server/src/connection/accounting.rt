@@ -16,8 +16,8 @@ pub(super) struct LeftSeat {
     seat: usize,
     left: Left,
     handover: Handover,
-    /// How many packets were sent when it was left.
-    sent: u64,
+    /// Its account as it was when it was left.
+    at_leaving: SeatAccount,
 }
 
 /// A seat's player was taken off the reports. Nothing else makes it, so that the seat goes back to the book, where another player
@@ -48,7 +48,7 @@ where
             seat,
             left,
             handover,
-            sent: account.sent,
+            at_leaving: account,
         });
         if !waits {
             self.settle_seat();
@@ -63,7 +63,7 @@ where
                 seat,
                 left,
                 handover,
-                sent,
+                at_leaving,
             },
         ) = self.left.take()
         else {
@@ -73,7 +73,7 @@ where
         let account = SeatAccount::of(&left, handover.handed(taken), self.shared.maker.keep());
         self.counts.add_out(&account);
         self.events
-            .leaves(&self.rt, &self.part, seat, sent, &account);
+            .leaves(&self.rt, &self.part, seat, &at_leaving, &account);
     }
 
     /// A session begins, in which the connection has this part. It has an account of its own.

@@ -109,6 +109,7 @@ where
             self.begin_account(part);
         }
         self.session = session;
+        self.count_session();
         answer
     }
 }

@@ -68,13 +68,14 @@ where
         }
     }
 
-    /// The mount is among those that are recorded from its first RECORD on.
+    /// A RECORD was accepted. The mount is among those that are recorded from its first one on.
     pub(super) fn record(&mut self) {
         let now = self.clock.watch().heard.now();
         let (Some(publishing), Some(session)) = (&mut self.publishing, &self.session) else {
             return;
         };
         let feed = &mut publishing.feed;
+        feed.signal().recorded(&self.rt);
         if self.mount.is_none() {
             feed.signal().begin(&self.rt, now);
             self.events.recorded(
@@ -160,6 +161,7 @@ where
     pub(super) fn end_mount(&mut self) {
         if let Some(publishing) = self.publishing.take() {
             let Publishing { feed, notes: _ } = publishing;
+            self.counts.add_missing(feed.signal().missing(&self.rt));
             self.counts.add_wait(feed.end());
             self.events.ended(&self.rt, &self.counts);
         }

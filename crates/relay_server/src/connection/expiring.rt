@@ -29,7 +29,7 @@ where
         let has_session = book.session_of(self.conn).is_some();
         drop(book);
         if !has_session {
-            self.session = None;
+            self.forget_session();
         }
         let stopped = match act {
             Some(Act::Stop { .. }) => {

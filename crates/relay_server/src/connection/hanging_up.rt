@@ -55,6 +55,7 @@ where
         source: &mut S,
     ) -> ConnectionEnd {
         let act = self.shared.book.lock(&self.rt).hangup(self.conn);
+        self.forget_session();
         self.rights.leave_mount(&self.rt);
         let has_last_text = has_last_text(self.is_stranded, end);
         let was_sent_frames = self.frames.is_some();

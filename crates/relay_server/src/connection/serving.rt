@@ -1,4 +1,6 @@
 //! What a connection has while it is served.
+ghost use Rattle.std.specs.Prelude.{◌≡◌, None};
+
 use crate::connection::accounting::LeftSeat;
 use crate::connection::connection_clock::ConnectionClock;
 use crate::connection::frame_notes::Publishing;
@@ -9,6 +11,7 @@ use interleaved::Sink;
 use relay_accounts::{Counts, Part};
 use relay_fanout::{Maker, MountFeed, SeatHold, SendSide, Writers};
 use relay_log::Events;
+use server_counts::SessionRole;
 use std::alloc::Global;
 use std::sync::Arc;
 
@@ -25,6 +28,8 @@ pub(crate) struct Connection<R, M: Maker, V, G, W: Sink, H, N> {
     pub(super) turns: u64,
     /// The session as the last answer left it.
     pub(super) session: Option<SessionSnapshot>,
+    /// As what it is counted.
+    pub(super) counted: Option<SessionRole>,
     /// Its part in the mount of its last session.
     pub(super) part: Option<Part>,
     /// Whether that session's account isn't logged yet.
@@ -61,6 +66,7 @@ impl<R: Drop, M: Maker + Drop, V: Drop, G: Drop, W: Sink + Drop, H: Drop, N: Dro
             conn: _,
             turns: _,
             session: _,
+            counted: _,
             part: _,
             has_account: _,
             is_stranded: _,
@@ -100,6 +106,7 @@ impl<R, M: Maker, V, G, W: Sink, H, N> Connection<R, M, V, G, W, H, N> {
             conn,
             turns: 0,
             session: None,
+            counted: None,
             part: None,
             has_account: false,
             is_stranded: false,
@@ -114,5 +121,25 @@ impl<R, M: Maker, V, G, W: Sink, H, N> Connection<R, M, V, G, W, H, N> {
             clock,
             rights,
         }
+    }
+
+    /// The connection has no session any more.
+    pub(super) fn forget_session(&mut self)
+        ensures { self.new.session ≡ None }
+    {
+        self.session = None;
+        self.count_session();
+    }
+
+    /// Counts its session by role and state, in place of what it was counted as before.
+    pub(super) fn count_session(&mut self)
+        ensures { self.new.session ≡ self.old.session }
+    {
+        let role = match &self.session {
+            Some(session) => Some(session.role),
+            None => None,
+        };
+        self.shared.counts.move_session(self.counted, role);
+        self.counted = role;
     }
 }

@@ -2,6 +2,7 @@
 use crate::connection::server_book::SharedBook;
 use mounts::MAX_MOUNTS;
 use relay_fanout::{Maker, Offers, RecordingMounts, Seat, WakeSignal, wake_players};
+use server_counts::ServerCounts;
 use std::alloc::{AllocError, Global};
 use std::sync::{Arc, Mutex, Wait};
 use std::time::{Clock, Duration};
@@ -15,6 +16,7 @@ pub struct Shared<M: Maker, V, G> {
     pub(crate) gate: G,
     pub(crate) recording: RecordingMounts,
     pub(crate) wake_signal: Arc<WakeSignal, Global>,
+    pub(crate) counts: Arc<ServerCounts, Global>,
     /// For how long a player's connection may stay open after the last packet of its mount was written. `None` for ever.
     pub(crate) after_end: Option<Duration>,
 }
@@ -29,6 +31,7 @@ impl<M: Maker + Drop, V: Drop, G: Drop> Drop for Shared<M, V, G> {
             gate: _,
             recording: _,
             wake_signal: _,
+            counts: _,
             after_end: _,
         } = self;
     }
@@ -39,7 +42,7 @@ impl<M: Maker + Drop, V: Drop, G: Drop> Shared<M, V, G> {
     /// ANNOUNCE is answered 503.
     ///
     /// With `after_end` a player is sent the end of its stream after the last packet of its mount, and is disconnected if it is
-    /// still connected that long after it.
+    /// still connected that long after it. Sessions are counted in `counts`.
     pub fn new(
         alloc: Global,
         maker: M,
@@ -47,6 +50,7 @@ impl<M: Maker + Drop, V: Drop, G: Drop> Shared<M, V, G> {
         words: V,
         gate: G,
         after_end: Option<Duration>,
+        counts: Arc<ServerCounts, Global>,
     ) -> Result<Shared<M, V, G>, AllocError> {
         let wake_signal = Arc::new(alloc, WakeSignal::new())?;
         Ok(Shared {
@@ -57,6 +61,7 @@ impl<M: Maker + Drop, V: Drop, G: Drop> Shared<M, V, G> {
             gate,
             recording: RecordingMounts::new(alloc, MAX_MOUNTS)?,
             wake_signal,
+            counts,
             after_end,
         })
     }

@@ -39,12 +39,15 @@ where
     G: Gate + Drop + Send + Sync + 'static,
     N: Moments + Copy + Send + Sync + 'static,
 {
+    let mark = &server.shared.counts.accepting;
     let mut accepted = 0u64;
     for _ in rt.forever() {
+        mark.look();
         if options.accept == Some(accepted) {
             return;
         }
         let came = listener.accept();
+        mark.raise();
         if server.stopping.is_stopped() {
             return;
         }

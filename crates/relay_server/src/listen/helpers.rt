@@ -174,8 +174,11 @@ fn report_all<R: Wait + Clock>(
     distance: Duration,
     mut moments: impl Moments + Drop,
 ) {
+    let mark = &reports.counts().reporting;
     for _ in rt.forever() {
+        mark.look();
         let is_closed = reports.wait(rt, distance);
+        mark.raise();
         reports.tell(rt, lines, moments.now());
         if is_closed {
             return;

@@ -2,6 +2,7 @@
 ghost use Rattle.std.specs.Prelude.{◌≡◌};
 
 use relay_fanout::{HangUp, SharedSocket, Socket};
+use server_counts::ServerCounts;
 use std::alloc::{AllocError, Global};
 use std::sync::{Arc, Mutex, Wait};
 
@@ -44,22 +45,27 @@ impl LiveEntry {
 pub(crate) struct Removed(());
 
 /// The sockets of the connections that have a thread, which a stop shuts down. The lock is held for a walk over them, and no
-/// other is taken meanwhile.
+/// other is taken meanwhile. Each is counted as a connection.
 pub(crate) struct LiveSockets {
     sockets: Mutex<Vec<Live>>,
+    counts: Arc<ServerCounts, Global>,
 }
 
 impl Drop for LiveSockets {
     fn drop(self) {
-        let LiveSockets { sockets: _ } = self;
+        let LiveSockets {
+            sockets: _,
+            counts: _,
+        } = self;
     }
 }
 
 impl LiveSockets {
     /// No connection has a thread.
-    pub(crate) fn new(alloc: Global) -> LiveSockets {
+    pub(crate) fn new(alloc: Global, counts: Arc<ServerCounts, Global>) -> LiveSockets {
         LiveSockets {
             sockets: Mutex::new(Vec::new(alloc)),
+            counts,
         }
     }
 
@@ -72,6 +78,7 @@ impl LiveSockets {
     ) -> Result<LiveEntry, AllocError> {
         let socket = Socket::of(shared)?;
         self.sockets.lock(rt).push(Live { conn, socket })?;
+        self.counts.begin_connection();
         Ok(LiveEntry { conn })
     }
 
@@ -85,6 +92,7 @@ impl LiveSockets {
                 break;
             }
         }
+        self.counts.end_connection();
         Removed(())
     }
 

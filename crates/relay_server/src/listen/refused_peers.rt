@@ -65,8 +65,12 @@ impl RefusedPeers {
     /// Closes each refused peer in its time, and reports once a minute how many were refused. Returns once no peer is refused any
     /// more and all are closed.
     pub(super) fn close_all<R: Wait + Clock>(&self, rt: &R, lines: &impl Log) {
+        let mark = &self.refusing.counts().refusing;
         for _ in rt.forever() {
-            match self.refusing.next(rt) {
+            mark.look();
+            let due = self.refusing.next(rt);
+            mark.raise();
+            match due {
                 Due::Moment => self.close_first(rt),
                 Due::Row(row) => row.write(lines),
                 Due::End => return,

@@ -20,6 +20,7 @@ use log::Log;
 use packet_ring::{Pass, Subscriber};
 use relay_fanout::{Maker, RingMaker, Seat, Socket, Waits, Writers};
 use relay_log::{Lines, PublishedMounts, Refusing, Reports};
+use server_counts::ServerCounts;
 use session_state::{Moments, Words};
 use std::alloc::{AllocError, Global};
 use std::io::Eprint;
@@ -62,8 +63,12 @@ where
 {
     let after_end = options.after_end.map(Duration::from_millis);
     let maker = maker.going_back(options.back).lending(options.is_direct);
-    let shared = Shared::new(alloc, maker, book, words, gate, after_end)?;
+    let counts = counts_of(alloc, &reports)?;
+    let shared = Shared::new(alloc, maker, book, words, gate, after_end, counts)?;
     let shared = Arc::new(alloc, shared)?;
+    if let Some(reports) = &reports {
+        reports.watch(&rt, Arc::try_clone(&shared.wake_signal)?, options.writers);
+    }
     let server = Server::new(
         rt, alloc, shared, options, moments, stopping, access, reports,
     )?;
@@ -132,8 +137,11 @@ impl<R: Wait + Clock + Copy, V: Drop, G: Drop, N: Copy> Server<R, V, G, N> {
         access: Access,
         reports: Option<Arc<Reports, Global>>,
     ) -> Result<Server<R, V, G, N>, AllocError> {
-        let lines = Arc::new(alloc, Lines::new(rt, alloc)?)?;
-        let refusing = Arc::new(alloc, Refusing::new(&rt, alloc)?)?;
+        let counts = &shared.counts;
+        let lines = Arc::new(alloc, Lines::new(rt, alloc, Arc::try_clone(counts)?)?)?;
+        let refusing = Refusing::new(&rt, alloc, Arc::try_clone(counts)?)?;
+        let refusing = Arc::new(alloc, refusing)?;
+        let live = LiveSockets::new(alloc, Arc::try_clone(counts)?);
         let refused = RefusedPeers::new(alloc, Arc::try_clone(&refusing)?)?;
         let writers = writers_of(alloc, &shared, options)?;
         Ok(Server {
@@ -144,7 +152,7 @@ impl<R: Wait + Clock + Copy, V: Drop, G: Drop, N: Copy> Server<R, V, G, N> {
             refused: Arc::new(alloc, refused)?,
             reports,
             published: Arc::new(alloc, PublishedMounts::new(alloc)?)?,
-            live: Arc::new(alloc, LiveSockets::new(alloc))?,
+            live: Arc::new(alloc, live)?,
             peers: Arc::new(alloc, Peers::new(alloc))?,
             access,
             stopping,
@@ -167,6 +175,17 @@ impl<R: Wait + Clock, V: Drop, G: Drop, N> Server<R, V, G, N> {
         self.live.shut_down(rt);
         let left = self.stopping.wait_for_all(rt, most);
         self.lines.miss_all(left);
+    }
+}
+
+/// What the server counts: what its reports have, or else what nobody reads.
+fn counts_of(
+    alloc: Global,
+    reports: &Option<Arc<Reports, Global>>,
+) -> Result<Arc<ServerCounts, Global>, AllocError> {
+    match reports {
+        Some(reports) => Ok(Arc::try_clone(reports.counts())?),
+        None => Ok(Arc::new(alloc, ServerCounts::new())?),
     }
 }
 

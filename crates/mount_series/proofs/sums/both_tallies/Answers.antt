@@ -1,4 +1,6 @@
-use Rattle.std.proofs.Common.{rules}
+use Rattle.std.proofs.Common.{rules, subst, sym}
+use Rattle.mount_series.specs.Sums.{AreTracksFrom}
+use Rattle.mount_series.proofs.Rising.{tracks_rise}
 use Rattle.mount_series.proofs.sums.both_tallies.Goals as goal
 
 pub returns-clause-grows : goal.returns-clause-grows
@@ -12,4 +14,5 @@ returns-clause-grows c =
       unknown_channel = search rules;
       unkept = search rules;
       slowed = search rules;
+      tracks = subst (AreTracksFrom c.args.a.tracks) (sym c.plus.ensures) (tracks_rise c.args.a.tracks c.args.b.tracks);
     }

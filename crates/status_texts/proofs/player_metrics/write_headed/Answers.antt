@@ -1,4 +1,4 @@
-use Rattle.std.proofs.Common.{◌≡◌, ℕ, List, ◌++◌, length, subst, take}
+use Rattle.std.proofs.Common.{◌≡◌, ◌++◌, length, subst, take}
 use Rattle.std.proofs.lemmas.Result.{on_ok_weaker, on_err_weaker}
 use Rattle.std.specs.List.{flat_map}
 use Rattle.status_texts.specs.Families.{head_text}

@@ -6,5 +6,5 @@ use Rattle.relay_main.proofs.server_pages.ServerPages.status.Goals as goal
 
 pub returns : goal.returns
 returns g c =
-    let snapshot = c.in_ok-snapshot.snapshot.now in
-    IfOk-weaker c.status_of.result (λ bytes. bytes ≡ status_text snapshot) HasStatus (λ bytes is. record { snapshot = snapshot; is = is }) c.status_of.ensures
+    let look = c.in_ok-look.look.now in
+    IfOk-weaker c.status_of.result (λ bytes. bytes ≡ status_text look.snapshot) HasStatus (λ bytes is. record { snapshot = look.snapshot; is = is }) c.status_of.ensures

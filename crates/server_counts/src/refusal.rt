@@ -1,6 +1,6 @@
 //! Why a connection isn't served.
 ghost use Rattle.std.specs.Prelude.{◌≡◌, ◌<◌, Option, Some};
-ghost use Rattle.relay_log.specs.Places.{place_of_refusal};
+ghost use Rattle.server_counts.specs.Refusals.{place_of_refusal};
 
 use std::alloc::AllocError;
 use std::fmt;
@@ -22,10 +22,10 @@ pub enum Refusal {
 
 impl Refusal {
     /// How many reasons are counted by themselves.
-    pub(crate) const COUNT: usize = 4;
+    pub const COUNT: usize = 4;
 
     /// Returns the reason at a place.
-    pub(crate) fn at(place: usize) -> Refusal
+    pub fn at(place: usize) -> Refusal
         requires { place < 4 }
         ensures { place_of_refusal result ≡ Some place }
     {
@@ -38,7 +38,7 @@ impl Refusal {
     }
 
     /// Its place among them. `None` if it is counted with its peer's address.
-    pub(crate) fn place(self) -> Option<usize>
+    pub fn place(self) -> Option<usize>
         ensures { result ≡ place_of_refusal self }
     {
         match self {
@@ -53,7 +53,7 @@ impl Refusal {
 
 impl From<AllocError> for Refusal {
     ghost use Rattle.std.specs.Prelude.{◌≡◌};
-    ghost use Rattle.relay_log.specs.declared.refusal.Refusal.TheVariants.{OutOfMemory};
+    ghost use Rattle.server_counts.specs.declared.refusal.Refusal.TheVariants.{OutOfMemory};
 
     ghost from_gives = { λ _ why. why ≡ OutOfMemory };
 
