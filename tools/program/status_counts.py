@@ -3,7 +3,7 @@ import contextlib
 import json
 import time
 
-from peers import IN, MODES, OUT, Camera, Player, frame, packet, until, wanted
+from peers import IN, MODES, OUT, Camera, Player, counts, frame, packet, until, wanted
 from status_pages import all_in, all_out, answer, pages_of, samples
 
 # More than the peer's buffers hold.
@@ -70,8 +70,8 @@ def players_are_shown(program, *options):
         if not until(5, lambda: all_out(samples(port), "cam")["sent"] == 40):
             yield f"40 are sent, and not {all_out(samples(port), 'cam')}"
         seen = json.loads(answer(port, "/status.json")[2])
-        shown = [(it["mount"], it["peer"], it["sent"], it["lost"], it["behind"]) for it in seen["players"]]
-        if shown != [("cam", player.name(), 40, 0, 0)]:
+        shown = [(it["mount"], it["peer"], it["sent"], it["lost"], it["behind"], it["waiting"]) for it in seen["players"]]
+        if shown != [("cam", player.name(), 40, 0, 0, 0)]:
             yield f"its player is shown as {shown}"
         shown = [(it["name"], it["publisher"], it["players"]) for it in seen["recorded"]]
         if shown != [("cam", camera.name(), 1)]:
@@ -87,7 +87,8 @@ def samples_of(player):
     """The samples of a player in seat 0 that was sent 40 packets of 12 bytes."""
     labels = 'mount="cam",seat="0"'
     counts = {f'vasklun_seat_packets_total{{{labels},result="{name}"}}': count for name, count in (("sent", 40), ("skipped", 0), ("lost", 0))}
-    of_seat = {f"vasklun_seat_bytes_total{{{labels}}}": 40 * 12, f"vasklun_seat_behind_packets{{{labels}}}": 0}
+    of_seat = {f"vasklun_seat_bytes_total{{{labels}}}": 40 * 12}
+    of_seat |= {f"vasklun_seat_{name}_packets{{{labels}}}": 0 for name in ("behind", "waiting")}
     return {**counts, **of_seat, f'vasklun_player_info{{{labels},peer="{player.name()}"}}': 1}
 
 
@@ -134,6 +135,34 @@ def skipped_are_counted(program, *options):
                 yield f"{wanted}, and not {all_out(samples(port), 'cam')}"
             player.close()
             until(5, lambda: samples(port)['vasklun_mount_players{mount="cam"}'] == 0)
+
+
+def shown_player(port):
+    """The only player that is shown."""
+    return json.loads(answer(port, "/status.json")[2])["players"][0]
+
+
+def waiting_adds_up(program, *options):
+    """What waits for a player is what was published since it took its seat, less what was sent, skipped and lost. As it leaves, its
+    account has as many packets."""
+    total = 2 * PACKETS
+    with pages_of(program, "--keep", "64", "--verbose", *options) as (server, port), TwoTracks(server) as camera:
+        camera.publish(range(40))
+        until(5, lambda: all_in(samples(port), "cam")["published"] == 40)
+        with Player(server) as player:
+            name = player.name()
+            for number in range(PACKETS):
+                camera.send(frame(packet(number, SIZE)) + frame(packet(number), 2))
+            if not until(10, lambda: all_in(samples(port), "cam")["published"] == 40 + total):
+                yield f"not all is published: {all_in(samples(port), 'cam')}"
+            adds_up = lambda it: sum(it[word] for word in ("sent", "skipped", "lost", "waiting")) == total
+            if not until(5, lambda: adds_up(shown_player(port))):
+                yield f"of {total} packets is shown {shown_player(port)}"
+            shown = shown_player(port)
+            if not all(shown[word] for word in ("sent", "skipped", "lost", "waiting")):
+                yield f"{PACKETS} packets of each track, of which none is read, are shown as {shown}"
+        if not until(10, lambda: sum(counts(server, name, "player of cam").get(word, 0) for word in OUT) == total):
+            yield f"of {total} packets its account has {counts(server, name, 'player of cam')}"
 
 
 def each_mount_has_its_own(program, *options):
@@ -209,4 +238,4 @@ def figures_are_shared(program):
 
 
 PARTS = [(part, ()) for part in (players_have_none_unasked, most_names, figures_are_shared)]
-PARTS += [(part, options) for part in (counts_go_on, players_are_shown, skipped_are_counted, each_mount_has_its_own, players_have_samples) for options in MODES]
+PARTS += [(part, options) for part in (counts_go_on, players_are_shown, skipped_are_counted, waiting_adds_up, each_mount_has_its_own, players_have_samples) for options in MODES]

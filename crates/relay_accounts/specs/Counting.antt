@@ -68,6 +68,10 @@ account_of left handed keep = record {
   bytes = handed.bytes;
 }
 
+-- how many packets were published while the seat was taken that this is the account of
+abbrev pub published_in : SeatAccount → ℕ
+published_in account = capped (account.sent + account.skipped + account.lost + account.unsent)
+
 -- the counts with the account of a seat that was left
 abbrev pub with_account : Counts → SeatAccount → Counts
 with_account counts account = record counts {

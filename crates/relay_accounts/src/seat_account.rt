@@ -1,6 +1,6 @@
 //! What became of the packets that were published while a player had its seat.
 ghost use Rattle.std.specs.Prelude.{◌≡◌, ◌+◌, ◌-◌, ◌^◌, ◌<◌, ◌≤◌};
-ghost use Rattle.relay_accounts.specs.Counting.{account_of, lost_by_now};
+ghost use Rattle.relay_accounts.specs.Counting.{account_of, lost_by_now, published_in};
 
 use crate::handover::HandedOver;
 use cursor::Left;
@@ -39,6 +39,16 @@ impl SeatAccount {
             unsent: held.saturating_add(left.left.min(keep)),
             bytes: handed.bytes,
         }
+    }
+
+    /// Returns how many packets were published while the player had its seat.
+    pub fn published(&self) -> u64
+        ensures { result ≡ published_in self.now }
+    {
+        self.sent
+            .saturating_add(self.skipped)
+            .saturating_add(self.lost)
+            .saturating_add(self.unsent)
     }
 }
 

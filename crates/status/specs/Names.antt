@@ -21,6 +21,10 @@ plays_from name player = not player.has_left && bytes_eq player.mount name
 abbrev pub account_so_far : PlayerStatus → SeatAccount
 account_so_far player = record { sent = player.sent; skipped = player.skipped; lost = player.lost; unsent = 0; bytes = player.bytes }
 
+-- how many of the packets that were published since a player took its seat were neither sent, skipped nor lost
+abbrev pub waiting_for : PlayerStatus → ℕ
+waiting_for player = player.published - player.sent - player.skipped - player.lost
+
 -- the sums with what has come to these mounts
 abbrev pub with_mounts : MountSums → List MountStatus → MountSums
 with_mounts sums mounts = fold (λ sums mount. with_mount sums mount.tally) sums mounts

@@ -1,6 +1,6 @@
 //! The figures of a player.
-ghost use Rattle.std.specs.Prelude.{◌≡◌, ◌-◌, ◌<◌, ◌↔◌, IsTrue};
-ghost use Rattle.status.specs.Names.{account_so_far, plays_from};
+ghost use Rattle.std.specs.Prelude.{◌≡◌, ◌+◌, ◌-◌, ◌<◌, ◌≤◌, ◌↔◌, IsTrue};
+ghost use Rattle.status.specs.Names.{account_so_far, plays_from, waiting_for};
 
 use base_syntax::Bytes;
 use relay_accounts::SeatAccount;
@@ -24,6 +24,8 @@ pub struct PlayerStatus {
     pub lost: u64,
     /// How many were published and aren't taken for it yet.
     pub behind: u64,
+    /// How many were published since it took its seat.
+    pub published: u64,
     /// How many milliseconds ago it took its seat.
     pub age: u64,
     /// Whether it has left its seat since its last line.
@@ -93,6 +95,20 @@ impl PlayerStatus {
             unsent: 0,
             bytes: self.bytes,
         }
+    }
+
+    /// Returns how many of the packets that were published since it took its seat wait for it: they were neither sent, skipped nor
+    /// lost.
+    pub fn waiting(&self) -> u64
+        ensures is { result ≡ waiting_for self.now }
+        ensures closes { self.now.sent + self.now.skipped + self.now.lost ≤ self.now.published
+            → self.now.sent + self.now.skipped + self.now.lost + result ≡ self.now.published }
+        ensures none { self.now.published ≤ self.now.sent + self.now.skipped + self.now.lost → result ≡ 0 }
+    {
+        self.published
+            .saturating_sub(self.sent)
+            .saturating_sub(self.skipped)
+            .saturating_sub(self.lost)
     }
 
     /// Returns whether it has lost packets since the last line that reported it.

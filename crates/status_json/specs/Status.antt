@@ -7,7 +7,7 @@ use Rattle.mount_series.specs.declared.named_sums.NamedSums.{NamedSums}
 use Rattle.status.specs.declared.mount_status.MountStatus.{MountStatus}
 use Rattle.status.specs.declared.player_status.PlayerStatus.{PlayerStatus}
 use Rattle.status.specs.declared.snapshot.Snapshot.{Snapshot}
-use Rattle.status.specs.Names.{behind_of, plays_from, sums_of, sums_of_all}
+use Rattle.status.specs.Names.{behind_of, plays_from, sums_of, sums_of_all, waiting_for}
 use Rattle.status_json.specs.declared.key.Key.TheVariants as keys
 use Rattle.status_json.specs.declared.key.PacketKey.TheVariants as packets
 use Rattle.status_json.specs.Json.{addr_text, keyed, list_text, string_text, truth_text}
@@ -118,6 +118,7 @@ unfoldable pub player_back : PlayerStatus → List ℕ
 player_back player =
     keyed keys.Bytes (decimal player.bytes)
     ++ keyed keys.Behind (decimal player.behind)
+    ++ keyed keys.Waiting (decimal (waiting_for player))
     ++ codes "}"
 
 abbrev pub player_text : PlayerStatus → List ℕ

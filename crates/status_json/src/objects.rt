@@ -198,6 +198,7 @@ impl<'a> PlayerRow<'a> {
     {
         write_number(out, Key::Bytes, self.player.bytes)?;
         write_number(out, Key::Behind, self.player.behind)?;
+        write_number(out, Key::Waiting, self.player.waiting())?;
         out.extend_from_slice(b"}")
     }
 }

@@ -5,9 +5,10 @@ use Rattle.std.specs.Str.{bytes_eq}
 use Rattle.std.specs.Net.Text.{socket_text}
 use Rattle.exposition.specs.Exposition.{LabelPair, sample_text}
 use Rattle.status.specs.declared.player_status.PlayerStatus.{PlayerStatus}
+use Rattle.status.specs.Names.{waiting_for}
 use Rattle.status_texts.specs.Seat.{Seat}
 use Rattle.status_texts.specs.declared.player_family.PlayerFamily.{PlayerFamily}
-use Rattle.status_texts.specs.declared.player_family.PlayerFamily.TheVariants.{Packets, Bytes, Behind, Info}
+use Rattle.status_texts.specs.declared.player_family.PlayerFamily.TheVariants.{Packets, Bytes, Behind, Waiting, Info}
 use Rattle.status_texts.specs.Families.{counter, gauge, head_text}
 use Rattle.status_texts.specs.Heads.{Head}
 use Rattle.status_texts.specs.Labels.{mount_label, result_label}
@@ -27,6 +28,8 @@ abbrev pub player_head : PlayerFamily → Head
 player_head Packets = counter (codes "vasklun_seat_packets_total") (codes "Packets for the player in the seat since it took it, by what became of them.")
 player_head Bytes = counter (codes "vasklun_seat_bytes_total") (codes "Bytes of the packets that were sent to the player in the seat since it took it.")
 player_head Behind = gauge (codes "vasklun_seat_behind_packets") (codes "Packets that the player in the seat is behind.")
+player_head Waiting =
+    gauge (codes "vasklun_seat_waiting_packets") (codes "Packets since the player took the seat that were neither sent, skipped nor lost yet.")
 player_head Info = gauge (codes "vasklun_player_info") (codes "1 for each player that has a seat, with its address.")
 
 -- what is shown of a player
@@ -40,6 +43,7 @@ seat_of player = record {
   skipped = player.skipped;
   lost = player.lost;
   behind = player.behind;
+  waiting = waiting_for player;
 }
 
 -- the players that are shown
@@ -70,6 +74,7 @@ abbrev pub player_samples : (metric : List ℕ) → PlayerFamily → Seat → Li
 player_samples metric Packets seat = flat_map (seat_count metric seat) (seat_counts seat)
 player_samples metric Bytes seat = seat_sample metric seat (decimal seat.bytes)
 player_samples metric Behind seat = seat_sample metric seat (decimal seat.behind)
+player_samples metric Waiting seat = seat_sample metric seat (decimal seat.waiting)
 player_samples metric Info seat = sample_text metric (mount_label seat.mount ∷ seat_label seat ∷ peer_label seat ∷ []) (decimal 1)
 
 -- a family: its head, and its samples for each player that is shown
@@ -78,4 +83,4 @@ player_family seats family = head_text (player_head family) ++ flat_map (player_
 
 -- the families in their order
 abbrev pub players_text : List PlayerStatus → List ℕ
-players_text players = flat_map (player_family (seats_of players)) (Packets ∷ Bytes ∷ Behind ∷ Info ∷ [])
+players_text players = flat_map (player_family (seats_of players)) (Packets ∷ Bytes ∷ Behind ∷ Waiting ∷ Info ∷ [])

@@ -11,3 +11,4 @@ pub record Seat : Type 0 where
   pub skipped : ℕ
   pub lost : ℕ
   pub behind : ℕ
+  pub waiting : ℕ

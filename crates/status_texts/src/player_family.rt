@@ -10,6 +10,7 @@ pub(crate) enum PlayerFamily {
     Packets,
     Bytes,
     Behind,
+    Waiting,
     Info,
 }
 
@@ -29,6 +30,10 @@ impl PlayerFamily {
             PlayerFamily::Behind => FamilyHead::gauge(
                 "vasklun_seat_behind_packets",
                 "Packets that the player in the seat is behind.",
+            ),
+            PlayerFamily::Waiting => FamilyHead::gauge(
+                "vasklun_seat_waiting_packets",
+                "Packets since the player took the seat that were neither sent, skipped nor lost yet.",
             ),
             PlayerFamily::Info => FamilyHead::gauge(
                 "vasklun_player_info",

@@ -91,6 +91,7 @@ fn write_samples(
         PlayerFamily::Packets => write_counts(out, metric, seat, &seat.counts()),
         PlayerFamily::Bytes => put_number(out, metric, seat, seat.bytes()),
         PlayerFamily::Behind => put_number(out, metric, seat, seat.behind()),
+        PlayerFamily::Waiting => put_number(out, metric, seat, seat.waiting()),
         PlayerFamily::Info => put_info(out, metric, seat),
     }
 }
@@ -147,12 +148,13 @@ fn write_families(out: &mut Vec<u8>, snapshot: &Snapshot) -> Result<(), AllocErr
     write_family(out, PlayerFamily::Packets, seats.as_slice())?;
     write_family(out, PlayerFamily::Bytes, seats.as_slice())?;
     write_family(out, PlayerFamily::Behind, seats.as_slice())?;
+    write_family(out, PlayerFamily::Waiting, seats.as_slice())?;
     write_family(out, PlayerFamily::Info, seats.as_slice())
 }
 
 /// Appends metrics of each player in the text format of Prometheus, by its mount's name and its seat's number: what became of its
-/// packets, the bytes that it was sent, how many packets it is behind, and its address. A seat that was taken again, of a mount that began anew under its name, has the
-/// samples of its last player.
+/// packets, the bytes that it was sent, how many packets it is behind and how many wait for it, and its address. A seat that was taken
+/// again, of a mount that began anew under its name, has the samples of its last player.
 ///
 /// The only error is out of memory. After it, `out` is as before.
 pub fn put_player_metrics(out: &mut Vec<u8>, snapshot: &Snapshot) -> Result<(), AllocError>

@@ -18,6 +18,7 @@ pub(crate) struct SeatFigures<'a> {
     skipped: u64,
     lost: u64,
     behind: u64,
+    waiting: u64,
 }
 
 impl<'a> Model for SeatFigures<'a> {
@@ -35,6 +36,7 @@ impl<'a> Model for SeatFigures<'a> {
       skipped = s.skipped;
       lost = s.lost;
       behind = s.behind;
+      waiting = s.waiting;
     } };
 }
 
@@ -51,6 +53,7 @@ impl<'a> SeatFigures<'a> {
             skipped: player.skipped,
             lost: player.lost,
             behind: player.behind,
+            waiting: player.waiting(),
         })
     }
 
@@ -87,6 +90,13 @@ impl<'a> SeatFigures<'a> {
         ensures { result ≡ self.now.behind }
     {
         self.behind
+    }
+
+    /// How many packets wait for it.
+    pub(crate) fn waiting(&self) -> u64
+        ensures { result ≡ self.now.waiting }
+    {
+        self.waiting
     }
 
     /// What became of the packets for it.

@@ -24,8 +24,9 @@ impl<T: Tap> AttachedTap<T> {
     pub(super) fn begin(pace: &Pace, tallies: &Tallies, seat: usize, tap: T) -> AttachedTap<T>
         ensures { result ≡ tap }
     {
-        pace.stand(seat, tap.cursor());
-        tallies.set_player(seat, 0, 0, 0, 0);
+        let start = tap.cursor();
+        pace.stand(seat, start);
+        tallies.begin_player(seat, start);
         AttachedTap { tap }
     }
 

@@ -195,6 +195,7 @@ impl MountSignal {
             skipped: self.tallies.skipped(seat),
             lost: lost_so_far(lost, cursor, published, keep.saturating_add(TAKES)),
             behind: published.saturating_sub(cursor),
+            published: published.saturating_sub(self.tallies.player_start(seat)),
         }
     }
 

@@ -12,4 +12,6 @@ pub struct PlayerFigures {
     pub lost: u64,
     /// How many were published and aren't taken for it yet.
     pub behind: u64,
+    /// How many were published since it took its seat.
+    pub published: u64,
 }

@@ -35,9 +35,10 @@ struct Came {
     is_shortened: bool,
 }
 
-/// What became of the packets of the player in a seat.
+/// Where the log was when the player took its seat, and what became of the packets since.
 #[derive(Drop)]
 struct PlayerTally {
+    start: AtomicU64,
     sent: AtomicU64,
     bytes: AtomicU64,
     skipped: AtomicU64,
@@ -50,6 +51,7 @@ impl Tallies {
         let mut players = Vec::with_capacity(alloc, seats)?;
         for _ in 0..seats {
             players.push(PlayerTally {
+                start: AtomicU64::new(0),
                 sent: AtomicU64::new(0),
                 bytes: AtomicU64::new(0),
                 skipped: AtomicU64::new(0),
@@ -136,6 +138,14 @@ impl Tallies {
         (start, is_first)
     }
 
+    /// A player has taken a seat, and its cursor is `start`: it was sent and has lost nothing.
+    pub(crate) fn begin_player(&self, seat: usize, start: u64) {
+        if let Some(player) = self.players.get(seat) {
+            player.start.store(start, Ordering::SeqCst);
+        }
+        self.set_player(seat, 0, 0, 0, 0);
+    }
+
     /// Sets how many packets the player in a seat was sent and how many bytes these have, how many packets it skipped, and how many were
     /// reported lost to it, in total.
     pub(crate) fn set_player(&self, seat: usize, sent: u64, bytes: u64, skipped: u64, lost: u64) {
@@ -144,6 +154,14 @@ impl Tallies {
             player.bytes.store(bytes, Ordering::SeqCst);
             player.skipped.store(skipped, Ordering::SeqCst);
             player.lost.store(lost, Ordering::SeqCst);
+        }
+    }
+
+    /// Returns the cursor at which the player in a seat took it.
+    pub(crate) fn player_start(&self, seat: usize) -> u64 {
+        match self.players.get(seat) {
+            Some(player) => player.start.load(Ordering::SeqCst),
+            None => 0,
         }
     }
 

@@ -48,6 +48,7 @@ impl List {
     pub(super) fn add_mount(&mut self, mount: Mount) -> Result<(), AllocError>
         ensures added { OnOk result (self.new.mounts.items ≡ self.old.mounts.items ++ mount ∷ []) }
         ensures err { OnErr result (self.new.mounts.items ≡ self.old.mounts.items) }
+        ensures series { OnErr result (self.new.series ≡ self.old.series) }
         ensures players { self.new.players ≡ self.old.players }
         ensures is_closed { self.new.is_closed ≡ self.old.is_closed }
     {

@@ -122,6 +122,7 @@ impl Player {
             lost: shown.lost,
             bytes: shown.bytes,
             behind: figures.behind,
+            published: shown.published,
             age: now.saturating_sub(self.began),
             has_left: self.left.is_some(),
             since: PlayerTold {
@@ -143,6 +144,7 @@ impl Player {
                 lost: account.lost,
                 behind: 0,
                 bytes: account.bytes,
+                published: account.published(),
             },
             None => self.signal.player(rt, self.seat, keep),
         }

@@ -4,13 +4,15 @@ ghost use Rattle.relay_log.specs.Shown.{IsShownFrom, largest_of, nothing_shown};
 
 use relay_fanout::PlayerFigures;
 
-/// What a snapshot had of a player: packets that it was sent, that it skipped and that it has lost, and the bytes that it was sent.
+/// What a snapshot had of a player: packets that it was sent, that it skipped and that it has lost, the bytes that it was sent, and how
+/// many packets were published since it took its seat.
 #[derive(Clone, Copy, Drop)]
 pub(super) struct Shown {
     pub(super) sent: u64,
     pub(super) skipped: u64,
     pub(super) lost: u64,
     pub(super) bytes: u64,
+    pub(super) published: u64,
 }
 
 impl Shown {
@@ -23,6 +25,7 @@ impl Shown {
             skipped: 0,
             lost: 0,
             bytes: 0,
+            published: 0,
         }
     }
 
@@ -36,6 +39,7 @@ impl Shown {
             skipped: self.skipped.max(figures.skipped),
             lost: self.lost.max(figures.lost),
             bytes: self.bytes.max(figures.bytes),
+            published: self.published.max(figures.published),
         }
     }
 }
