@@ -96,11 +96,11 @@ def wrong_versions(readme, operating, text_of):
 
 
 def wrong_crates(text, text_of):
-    """Other crates in the sentence that names those of the kit than `crates.txt` has."""
+    """Other crates in the sentences that name those of the kit, which are those with more than three names, than `crates.txt` has."""
     used = {name for line in text_of(CRATES).splitlines() for name in line.partition(":")[2].split()}
     used -= {os.path.basename(it) for it in glob.glob("crates/*")}
     named = [spans(" ".join(words)) for part in parts(text) if part.chapter == "What is trusted" for words in sentences(part.text)]
-    said = set(max(named, key=len, default=[])) - BESIDE
+    said = {name for names in named if len(names) > 3 for name in names} - BESIDE
     for name in sorted(used ^ said):
         ours, theirs = ("names", "lacks") if name in said else ("lacks", "names")
         yield f"*What is trusted* {ours} the crate {name}, which {CRATES} {theirs}"

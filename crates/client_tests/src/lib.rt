@@ -1,0 +1,9 @@
+//! Worked examples for the crates of a client: passwords, descriptions and URLs.
+#![tactic(auto)]
+
+#[cfg(test)]
+mod auth_tests;
+#[cfg(test)]
+mod description_tests;
+#[cfg(test)]
+mod url_tests;

@@ -1,0 +1,11 @@
+pub mod CleanItems
+pub mod CleanValues
+pub mod Cutting
+pub mod Firsts
+pub mod Joined
+pub mod PartsCut
+pub mod PartsRead
+pub mod Quoted
+pub mod Tokens
+pub mod Tries
+pub mod WrittenAgain

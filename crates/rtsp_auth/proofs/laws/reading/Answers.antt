@@ -1,0 +1,5 @@
+use Rattle.rtsp_auth.proofs.PartsCut.{field_read}
+use Rattle.rtsp_auth.proofs.laws.reading.Goals as goal
+
+pub returns : goal.returns
+returns c = field_read

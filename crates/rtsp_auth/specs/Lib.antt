@@ -1,0 +1,15 @@
+pub mod Answers
+pub mod Attempts
+pub mod Choices
+pub mod Clean
+pub mod Commas
+pub mod Digest
+pub mod First
+pub mod Fronts
+pub mod Items
+pub mod Parameters
+pub mod Pieces
+pub mod Plain
+pub mod Values
+pub mod Words
+pub mod Written

@@ -1,0 +1,34 @@
+//! How a client answers `401 Unauthorized` of an RTSP server (RFC 2326, 11.1): Digest (RFC 7616, and RFC 2617's form
+//! without `qop`) and Basic (RFC 7617). It has no socket, no clock and no random numbers.
+#![tactic(auto)]
+
+mod algorithm;
+mod attempt;
+mod basic;
+mod challenge;
+mod choice;
+mod credentials;
+mod digest;
+mod front;
+mod item;
+mod items;
+pub mod laws;
+mod offer;
+mod parameters;
+mod pieces;
+mod place;
+mod quoting;
+mod request;
+mod responses;
+mod values;
+mod words;
+
+pub use algorithm::Algorithm;
+pub use attempt::{Attempt, DigestAttempt};
+pub use challenge::{Challenge, DigestChallenge};
+pub use choice::choose;
+pub use credentials::Credentials;
+pub use items::MOST_FIELD_BYTES;
+pub use parameters::MOST_VALUE_BYTES;
+pub use request::Request;
+pub use responses::response;

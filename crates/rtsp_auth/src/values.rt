@@ -1,0 +1,93 @@
+//! Values of parameters: tokens and quoted strings (RFC 7235, 2.1; RFC 7230, 3.2.6).
+ghost use Rattle.std.specs.Prelude.{◌≡◌, IfOk, map};
+ghost use Rattle.rtsp_auth.specs.Values.{closed, mark_of, token_in, unquoted, value_in};
+
+use crate::words::is_word;
+use base_syntax::{Bytes, Items};
+use std::alloc::{AllocError, Global};
+
+/// What a byte after an opening quote is.
+#[derive(Clone, Copy, Debug, PartialEq, Eq, Drop)]
+enum Mark {
+    /// A control character, which isn't allowed.
+    Control,
+    /// The closing quote.
+    Close,
+    /// A backslash: the next byte is one of the value.
+    Escape,
+    /// A byte of the value.
+    Text,
+}
+
+/// Returns what a byte is.
+fn mark_of(is_escaped: bool, byte: u8) -> Mark
+    ensures { result ≡ mark_of is_escaped byte }
+{
+    if byte.is_ascii_control() {
+        Mark::Control
+    } else if is_escaped {
+        Mark::Text
+    } else if byte == b'"' {
+        Mark::Close
+    } else if byte == b'\\' {
+        Mark::Escape
+    } else {
+        Mark::Text
+    }
+}
+
+/// Returns a value whose closing quote was read, if nothing is after it.
+fn closed(value: Vec<u8>, behind: &[u8]) -> Option<Bytes>
+    ensures { result ≡ closed value.items behind.now }
+{
+    if behind.is_empty() {
+        Some(Items::new(value))
+    } else {
+        None
+    }
+}
+
+/// Returns the value of a quoted string, from what is after its opening quote.
+fn read_quoted(alloc: Global, text: &[u8]) -> Result<Option<Bytes>, AllocError>
+    ensures { IfOk result (λ value. value ≡ unquoted text.now) }
+{
+    let mut value = Vec::new(alloc);
+    let mut is_escaped = false;
+    let mut rest = text;
+    while let [byte, behind @ ..] = rest {
+        match mark_of(is_escaped, *byte) {
+            Mark::Control => return Ok(None),
+            Mark::Close => return Ok(closed(value, behind)),
+            Mark::Escape => is_escaped = true,
+            Mark::Text => {
+                value.push(*byte)?;
+                is_escaped = false;
+            }
+        }
+        rest = behind;
+    }
+    Ok(None)
+}
+
+/// Returns a token as a value.
+fn read_token(alloc: Global, text: &[u8]) -> Result<Option<Bytes>, AllocError>
+    ensures { IfOk result (λ value. value ≡ token_in text.now) }
+{
+    if is_word(text) {
+        Ok(Some(Bytes::from_slice(alloc, text)?))
+    } else {
+        Ok(None)
+    }
+}
+
+/// Returns the value that a text after an equals sign spells. `None` if it is neither a token nor a quoted string without control
+/// characters.
+pub(crate) fn read_value(alloc: Global, text: &[u8]) -> Result<Option<Bytes>, AllocError>
+    ensures { IfOk result (λ value. value ≡ value_in text.now) }
+{
+    match text {
+        [] => Ok(None),
+        [b'"', behind @ ..] => read_quoted(alloc, behind),
+        _ => read_token(alloc, text),
+    }
+}

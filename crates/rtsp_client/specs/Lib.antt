@@ -1,0 +1,10 @@
+pub mod Accounts
+pub mod Classes
+pub mod FrameMaps
+pub mod Histories
+pub mod Keepalives
+pub mod PublicFields
+pub mod ReplyChannels
+pub mod Requests
+pub mod Steps
+pub mod Table

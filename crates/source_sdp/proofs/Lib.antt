@@ -1,0 +1,12 @@
+pub mod Texts
+pub mod GoodLines
+pub mod FormatWords
+pub mod PlainLines
+pub mod Again
+pub mod Parts
+pub mod Usables
+pub mod SectionCuts
+pub mod Which
+pub mod Bounds
+pub mod LineLaws
+pub mod Each

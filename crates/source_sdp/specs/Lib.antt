@@ -1,0 +1,11 @@
+pub mod Media
+pub mod Usable
+pub mod Announced
+pub mod Lines
+pub mod Section
+pub mod Reason
+pub mod Heading
+pub mod Sorting
+pub mod Tracks
+pub mod Readings
+pub mod Sizes

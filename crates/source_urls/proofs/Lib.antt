@@ -1,0 +1,12 @@
+pub mod Guards
+pub mod Joining
+pub mod Cutting
+pub mod Locations
+pub mod Users
+pub mod Hosts
+pub mod Sources
+pub mod Grammars
+pub mod OnlyParts
+pub mod Requests
+pub mod Controls
+pub mod Targets

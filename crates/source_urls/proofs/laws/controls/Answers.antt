@@ -1,0 +1,5 @@
+use Rattle.source_urls.proofs.Joining.{apart, behind}
+use Rattle.source_urls.proofs.laws.controls.Goals as goal
+
+pub returns : goal.returns
+returns c = record { behind = behind; apart = apart }

@@ -1,0 +1,9 @@
+pub mod Control
+pub mod Faults
+pub mod Grammar
+pub mod Host
+pub mod Parts
+pub mod Port
+pub mod Source
+pub mod Target
+pub mod UriText
