@@ -137,14 +137,39 @@ def skipped_are_counted(program, *options):
             until(5, lambda: samples(port)['vasklun_mount_players{mount="cam"}'] == 0)
 
 
+def shown_sums(port):
+    """What was sent, skipped and lost to each player and waits for it, added up, the least first."""
+    shown = json.loads(answer(port, "/status.json")[2])["players"]
+    return sorted(sum(it[word] for word in ("sent", "skipped", "lost", "waiting")) for it in shown)
+
+
+def waiting_begins_with_each_player(program, *options):
+    """What waits for a player counts from its own start: that of a later one in another seat, and of one that takes a seat again."""
+    with pages_of(program, *options) as (server, port), TwoTracks(server) as camera, Player(server) as first:
+        camera.publish(range(30))
+        if not until(5, lambda: shown_sums(port) == [30]):
+            yield f"of 30 packets is shown {shown_sums(port)}"
+        with Player(server) as second:
+            camera.publish(range(30, 50))
+            if not until(5, lambda: shown_sums(port) == [20, 50]):
+                yield f"of 50 and of 20 packets is shown {shown_sums(port)}"
+            first.numbers(50)
+            wanted(first.ask("PAUSE", first.url))
+            wanted(first.play())
+            camera.publish(range(50, 55))
+            if not until(5, lambda: shown_sums(port) == [5, 25]):
+                yield f"of 5 packets since a second PLAY, and of 25, is shown {shown_sums(port)}"
+            second.numbers(25)
+
+
 def shown_player(port):
     """The only player that is shown."""
     return json.loads(answer(port, "/status.json")[2])["players"][0]
 
 
 def waiting_adds_up(program, *options):
-    """What waits for a player is what was published since it took its seat, less what was sent, skipped and lost. As it leaves, its
-    account has as many packets."""
+    """What waits for a player is what was published since its start, less what was sent, skipped and lost. As it leaves, its account has
+    as many packets."""
     total = 2 * PACKETS
     with pages_of(program, "--keep", "64", "--verbose", *options) as (server, port), TwoTracks(server) as camera:
         camera.publish(range(40))
@@ -238,4 +263,4 @@ def figures_are_shared(program):
 
 
 PARTS = [(part, ()) for part in (players_have_none_unasked, most_names, figures_are_shared)]
-PARTS += [(part, options) for part in (counts_go_on, players_are_shown, skipped_are_counted, waiting_adds_up, each_mount_has_its_own, players_have_samples) for options in MODES]
+PARTS += [(part, options) for part in (counts_go_on, players_are_shown, skipped_are_counted, waiting_adds_up, waiting_begins_with_each_player, each_mount_has_its_own, players_have_samples) for options in MODES]
