@@ -1,6 +1,6 @@
 //! The order in which a client asks (RFC 2326, A.1).
-ghost use Rattle.std.specs.Prelude.{◌≡◌, ◌<◌, ◌≤◌, OnErr, OnOk};
-ghost use Rattle.rtsp_client.specs.declared.step.Step.TheVariants.{Describe};
+ghost use Rattle.std.specs.Prelude.{◌≡◌, ◌⊎◌, ◌<◌, ◌≤◌, OnErr, OnOk};
+ghost use Rattle.rtsp_client.specs.declared.step.Step.TheVariants.{Announce, Describe};
 ghost use Rattle.rtsp_client.specs.Steps.{IsSetUp, described_from, done_from, left_out_from, start};
 
 use crate::step::Step;
@@ -105,7 +105,10 @@ impl Progress {
     pub fn left_out(&mut self) -> Result<(), TracksFault>
         requires { IsSetUp self.old.step }
         ensures ok { OnOk result (self.new ≡ left_out_from self.old) }
-        ensures err { OnErr result ((self.new ≡ self.old) × (self.old.kept ≡ 0)) }
+        ensures err { OnErr result (self.new ≡ self.old) }
+        ensures none_kept { OnErr result (self.old.kept ≡ 0) }
+        ensures last { OnErr result ((left_out_from self.old).step ≡ Announce) }
+        ensures kept { OnOk result ((0 < self.new.kept) ⊎ IsSetUp self.new.step) }
     {
         let Step::SetUp { track } = self.step else {
             return Ok(());

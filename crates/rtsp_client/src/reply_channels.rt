@@ -1,5 +1,6 @@
 //! The channels that a reply to SETUP gives a track (RFC 2326, 10.12 and 12.39).
-ghost use Rattle.std.specs.Prelude.{IfOk};
+ghost use Rattle.std.specs.Prelude.{◌≡◌, Err, IfOk, None, Ok};
+ghost use Rattle.rtsp_client.specs.declared.reply_channels.ChannelFault.TheVariants.{NotInterleaved};
 ghost use Rattle.std.specs.Option.{option_copied};
 ghost use Rattle.rtsp_client.specs.ReplyChannels.{IsGiven, first_spec};
 
@@ -26,7 +27,8 @@ pub fn channels_of_reply(
     taken: &TrackChannels,
     track: usize,
 ) -> Result<Result<ChannelPair, ChannelFault>, AllocError>
-    ensures { IfOk result (IsGiven (first_spec (option_copied transport.entry)) asked taken.now track) }
+    ensures given { IfOk result (IsGiven (first_spec (option_copied transport.entry)) asked taken.now track) }
+    ensures missing { transport.entry ≡ None → result ≡ Ok (Err NotInterleaved) }
 {
     let Some(text) = transport else {
         return Ok(Err(ChannelFault::NotInterleaved));
