@@ -1,0 +1,4 @@
+pub mod Joining
+pub mod Plain
+pub mod PlainFields
+pub mod Messages
