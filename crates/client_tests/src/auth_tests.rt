@@ -1,8 +1,8 @@
 //! Worked examples of the standards.
+use base_syntax::{Bytes, Items};
 use rtsp_auth::{
     Algorithm, Attempt, Challenge, Credentials, DigestChallenge, Request, choose, response,
 };
-use base_syntax::{Bytes, Items};
 use std::alloc::{AllocError, Global};
 use std::test::Fail;
 
