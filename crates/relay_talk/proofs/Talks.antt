@@ -6,6 +6,7 @@ use Rattle.std.proofs.Math.Seq.{take-append-add}
 use Rattle.rtsp_message.specs.declared.request.Request.{Request}
 use Rattle.rtsp_message.specs.declared.unit.Unit.{Unit as StreamUnit}
 use Rattle.rtsp_message.specs.declared.unit.Unit.TheVariants.{Message}
+use Rattle.rtsp_message.specs.declared.peer.Peer.TheVariants.{Client}
 use Rattle.rtsp_message.specs.Stream.{Fails, Waits, Reads}
 use Rattle.rtsp_message.specs.Intakes.{IntakeState, HandsOut, fresh, handed}
 use Rattle.rtsp_message.proofs.Compose.{nothing_reads}
@@ -208,7 +209,7 @@ module _ {R W D : Type 0} (incoming : R → Option (List ℕ)) (read_failed : R 
   is_at_once reader first = record {
     consumed = Consumes-nil (incoming reader);
     parts = refl;
-    reads = nothing_reads;
+    reads = nothing_reads Client;
     are_drawn = refl;
     are_answers = (refl, refl, refl);
     legal = opening_legal;

@@ -1,13 +1,13 @@
 -- The text of a request is a message, and what is sent is read as it was sent.
-use Rattle.std.proofs.Common.{◌≡◌, ◌<◌, ◌^◌, ◌+◌, ◌*◌, ◌/◌, ◌%◌, ℕ, List, [], ◌∷◌, ◌++◌, Option, None, Some, codes, length, map, refl, sym, ap, subst, ◌∙◌, arith, append_assoc, append-nil}
+use Rattle.std.proofs.Common.{◌≡◌, ◌<◌, ◌^◌, ◌/◌, ◌%◌, ℕ, List, [], ◌∷◌, ◌++◌, Some, codes, length, map, refl, sym, ap, subst, ◌∙◌, arith, append_assoc, append-nil}
 use Rattle.std.specs.List.{flat_map, AllByRecursion}
-use Rattle.base_syntax.specs.Lines.{HasNoLf, ended}
+use Rattle.base_syntax.specs.Lines.{HasNoLf}
 use Rattle.base_syntax.proofs.LineEnds.{said-cr}
-use Rattle.interleaved.specs.Frame.{IsFrame, frame_of}
-use Rattle.rtsp_message.specs.declared.byte_class.ByteClass.TheVariants.{Blank, Space, Token, Visible}
+use Rattle.rtsp_message.specs.declared.byte_class.ByteClass.TheVariants.{Space, Token, Visible}
 use Rattle.rtsp_message.specs.declared.request.Request.{Request}
 use Rattle.rtsp_message.specs.declared.unit.Unit.{Unit as StreamUnit}
 use Rattle.rtsp_message.specs.declared.unit.Unit.TheVariants.{Message, Frame}
+use Rattle.rtsp_message.specs.declared.peer.Peer.TheVariants.{Client}
 use Rattle.rtsp_message.specs.Heads.{EndsHeaders, IsHead}
 use Rattle.rtsp_message.specs.Lines.{IsRequestLine, OneOrMore}
 use Rattle.rtsp_message.specs.Stream.{ArePieces, BeginsMessage, IsMessage, IsUnit, Piece, Reads, Waits, Whole, bytes_of, units_of}
@@ -18,7 +18,7 @@ use Rattle.request_text.specs.declared.method.Method.TheVariants as methods
 use Rattle.request_text.specs.declared.request_text.RequestText.{RequestText}
 use Rattle.request_text.specs.Faults.{IsSendable}
 use Rattle.request_text.specs.Fields.{field_text, headers_of, line_end}
-use Rattle.request_text.specs.Methods.{body_of, method_of, name_of}
+use Rattle.request_text.specs.Methods.{method_of, name_of}
 use Rattle.request_text.specs.Sending.{Asking, CanSend, Framed, Sent, sent_text, sent_unit}
 use Rattle.request_text.specs.Texts.{head_text, message_text, request_of}
 use Rattle.request_text.proofs.PlainFields.{body_told, headers_read, number_told}
@@ -145,7 +145,7 @@ all_read items p = record {
   whole = bytes_are items ∙ sym (append-nil (bytes_of (map piece_of items)));
   are_pieces = pieces_are items p;
   units_are = units_are items;
-  ends = empty_waits;
+  ends = empty_waits Client;
 }
 
 pub one_read : (request : RequestText) → request.number < 2 ^ 32 → IsSendable request → Reads (message_text (request_of request)) (Message (request_of request) ∷ []) (Waits [])
@@ -161,7 +161,7 @@ request_in other (Frame frame) = other
 pub same_request : (a b : RequestText) → a.number < 2 ^ 32 → b.number < 2 ^ 32 → IsSendable a → IsSendable b → message_text (request_of a) ≡ message_text (request_of b) → request_of a ≡ request_of b
 same_request a b fits fits' p q same =
     let stream : List ℕ = message_text (request_of a) in
-    let units = same_units stream stream [] (message_text (request_of b)) [] (Message (request_of a)) (Message (request_of b)) (is_message a fits p) (is_message b fits' q) (sym (append-nil stream)) (same ∙ sym (append-nil (message_text (request_of b)))) in
+    let units = same_units Client stream stream [] (message_text (request_of b)) [] (Message (request_of a)) (Message (request_of b)) (is_message a fits p) (is_message b fits' q) (sym (append-nil stream)) (same ∙ sym (append-nil (message_text (request_of b)))) in
     ap (request_in (request_of a)) units.1
 
 pub same_number : (a b : RequestText) → a.number < 2 ^ 32 → b.number < 2 ^ 32 → IsSendable a → IsSendable b → message_text (request_of a) ≡ message_text (request_of b) → a.number ≡ b.number

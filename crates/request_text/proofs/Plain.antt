@@ -1,5 +1,5 @@
 -- Header fields that announce no length: each is read as it was written.
-use Rattle.std.proofs.Common.{◌≡◌, ◌==◌, ◌<◌, ◌≤◌, ◌-◌, ◌^◌, ℕ, Bool, true, false, List, [], ◌∷◌, ◌++◌, Option, None, Some, codes, decimal, length, map, get_or, refl, sym, ap, subst, ◌∙◌, arith, append_assoc, append-nil}
+use Rattle.std.proofs.Common.{◌≡◌, ◌<◌, ◌≤◌, ◌-◌, ◌^◌, ℕ, Bool, true, false, List, [], ◌∷◌, ◌++◌, Option, None, Some, codes, decimal, length, map, get_or, refl, sym, ap, subst, ◌∙◌, arith, append_assoc, append-nil}
 use Rattle.std.specs.Char.{digit_value}
 use Rattle.std.specs.List.{list_all, find, flat_map}
 use Rattle.std.specs.Option.{option_and_then, option_map}
@@ -10,7 +10,7 @@ use Rattle.std.proofs.lemmas.Fmt.{decimal_is_IsNumeral}
 use Rattle.std.proofs.lemmas.List.Sums.{AllPass-from_list_all}
 use Rattle.std.proofs.lemmas.Str.Parse.{digit_at}
 use Rattle.base_syntax.specs.Blanks.{HasBareEnds, is_blank}
-use Rattle.base_syntax.specs.Lines.{HasNoLf, ended, said}
+use Rattle.base_syntax.specs.Lines.{HasNoLf, ended}
 use Rattle.base_syntax.specs.Names.{same_name}
 use Rattle.base_syntax.specs.Numbers.{number_up_to}
 use Rattle.base_syntax.proofs.LineEnds.{said-cr}
@@ -23,7 +23,7 @@ use Rattle.rtsp_message.specs.Limits.{body_limit}
 use Rattle.rtsp_message.specs.Lines.{Each, IsHeaderLine, OneOrMore, is_in}
 use Rattle.rtsp_message.proofs.Runs.{false_is_true}
 use Rattle.request_text.specs.Faults.{IsFieldValue, IsGivenValue}
-use Rattle.request_text.specs.Fields.{field_text, given_field, header, length_field, line_end}
+use Rattle.request_text.specs.Fields.{field_text, given_field, header, line_end}
 
 -- bytes of a class that the line feed is not of
 pub no_feed : (class : ByteClass) → is_in class 10 ≡ false → (bytes : List ℕ) → Each class bytes → HasNoLf bytes

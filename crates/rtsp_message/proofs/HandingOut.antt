@@ -1,5 +1,6 @@
 -- What an intake hands out, one step after another.
 use Rattle.std.proofs.Common.{◌≡◌, ℕ, List, [], ◌∷◌, ◌++◌, Option, ◌+◌, ◌≤◌, length, refl, sym, ap, subst, ◌∙◌, arith, append_assoc, append-nil, length-append}
+use Rattle.rtsp_message.specs.declared.peer.Peer.TheVariants.{Client}
 use Rattle.rtsp_message.proofs.Pieces.{unit_is_some}
 use Rattle.std.specs.Io.KnownBytes.{Consumes}
 use Rattle.std.proofs.KnownBytes.{Consumes-trans, Consumes-nil}
@@ -10,7 +11,7 @@ use Rattle.rtsp_message.proofs.Compose.{readings_compose}
 
 -- reading on twice is reading on once
 pub reads_twice : (d m e : Ending) (a b : List ℕ) (us vs : List StreamUnit) → ReadsOn d a us m → ReadsOn m b vs e → ReadsOn d (a ++ b) (us ++ vs) e
-reads_twice (Waits rest) m e a b us vs p q = subst (λ (l : List ℕ). Reads l (us ++ vs) e) (append_assoc rest a b) (readings_compose (rest ++ a) b us vs m e p q)
+reads_twice (Waits rest) m e a b us vs p q = subst (λ (l : List ℕ). Reads l (us ++ vs) e) (append_assoc rest a b) (readings_compose Client (rest ++ a) b us vs m e p q)
 reads_twice (Fails fault) m e a b us vs p q =
     let on = subst (λ (x : Ending). ReadsOn x b vs e) p.1 q in
     (ap (λ (l : List StreamUnit). l ++ vs) p.0 ∙ on.0, on.1)
@@ -28,7 +29,7 @@ settled (Fails fault) (Fails other) a us p = (refl, refl)
 pub units_take_bytes : (pieces : List Piece) → ArePieces pieces → length (units_of pieces) ≤ length (bytes_of pieces)
 units_take_bytes [] p = omega arith
 units_take_bytes (Pad byte ∷ pieces) p = omega (arith, units_take_bytes pieces p.1)
-units_take_bytes (Whole bytes content ∷ pieces) p = omega (arith, units_take_bytes pieces p.1, unit_is_some bytes content p.0, length-append bytes (bytes_of pieces))
+units_take_bytes (Whole bytes content ∷ pieces) p = omega (arith, units_take_bytes pieces p.1, unit_is_some Client bytes content p.0, length-append bytes (bytes_of pieces))
 
 reading_takes_bytes : (stream : List ℕ) (us : List StreamUnit) (m : Ending) → Reads stream us m → length us + waiting_len m ≤ length stream
 reading_takes_bytes stream us (Waits rest) p =

@@ -1,5 +1,6 @@
 pub mod Runs
 pub mod RequestLines
+pub mod StartLines
 pub mod HeaderLines
 pub mod Blocks
 pub mod HeadParts
@@ -22,3 +23,4 @@ pub mod Fetching
 pub mod Cuts
 pub mod Keeping
 pub mod Placing
+pub mod Receiving

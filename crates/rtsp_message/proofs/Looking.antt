@@ -8,20 +8,21 @@ use Rattle.std.proofs.Math.Seq.{take-add}
 use Rattle.interleaved.specs.Frame.{FrameBegins, MayBeginFrame}
 use Rattle.interleaved.proofs.Frames.{FrameBegins-announced, FrameBegins-length}
 use Rattle.base_syntax.specs.Lines.{HasNoLf, ended, said}
+use Rattle.rtsp_message.specs.declared.peer.Peer.{Peer}
 use Rattle.rtsp_message.specs.declared.headers.Header.{Header}
 use Rattle.rtsp_message.specs.declared.fault.Fault.{Fault}
 use Rattle.rtsp_message.specs.declared.fault.Fault.TheVariants.{BadLine, BadHeader, BadLength, HeadTooLong, BodyTooLong}
 use Rattle.rtsp_message.specs.Limits.{head_limit, waiting_limit}
 use Rattle.rtsp_message.specs.Headers.{cseq_of}
 use Rattle.rtsp_message.specs.Lengths.{body_len, field_fault}
-use Rattle.rtsp_message.specs.Lines.{IsRequestLine, IsHeaderLine}
-use Rattle.rtsp_message.specs.Heads.{joined, IsBadHeader, HasRequestLine, BreaksHeaders, LeavesHeaders, HasFault, GoesOn}
+use Rattle.rtsp_message.specs.Lines.{IsStartLine, IsHeaderLine}
+use Rattle.rtsp_message.specs.Heads.{joined, IsBadHeader, HasStartLine, BreaksHeaders, LeavesHeaders, HasFault, GoesOn}
 use Rattle.rtsp_message.specs.Stores.{IsFirstLf, between}
 use Rattle.rtsp_message.specs.Knowns.{Tell, AreGoodLines, IsFrameStart, IsFirstLineStart, IsFieldsStart, IsMessageStart, IsLook, looks_to_find}
 use Rattle.rtsp_message.specs.declared.known.Known.TheVariants as knows
 use Rattle.rtsp_message.specs.declared.known.Look.{Look}
 use Rattle.rtsp_message.specs.declared.known.Look.TheVariants as looks
-use Rattle.rtsp_message.specs.Stream.{BeginsMessage, BeginsFrame, EndsAs, Waits, Fails}
+use Rattle.rtsp_message.specs.Stream.{BeginsMessage, BeginsFrame, EndsAsFrom, Waits, Fails}
 use Rattle.rtsp_message.proofs.Blocks.{AreHeaders-push}
 use Rattle.rtsp_message.proofs.Finding.{IsLineAt, line_at, between_behind, no_lf_append, no_lf_take}
 use Rattle.rtsp_message.proofs.Fronts.{frame_has_head, body_waits}
@@ -98,8 +99,8 @@ window_line bytes line end short at =
     ∙ append_assoc (take line bytes) (ended (between bytes line end)) more
 
 -- a first line
-pub first_good : (bytes : List ℕ) (end : ℕ) {method uri version : List ℕ} → IsLineAt bytes 0 end → IsRequestLine (said (between bytes 0 end)) method uri version → AreGoodLines (take (end + 1) bytes) None
-first_good bytes end {method} {uri} {version} at request = record {
+pub first_good : (peer : Peer) (bytes : List ℕ) (end : ℕ) (method uri version : List ℕ) → IsLineAt bytes 0 end → IsStartLine peer (said (between bytes 0 end)) method uri version → AreGoodLines peer (take (end + 1) bytes) None
+first_good peer bytes end method uri version at request = record {
   first = between bytes 0 end;
   method = method;
   uri = uri;
@@ -113,8 +114,8 @@ first_good bytes end {method} {uri} {version} at request = record {
   tell = record { length_is = refl; none = λ e. refl };
 }
 
-pub first_bad : (bytes : List ℕ) (end : ℕ) → end < head_limit → IsLineAt bytes 0 end → ((method uri version : List ℕ) → IsRequestLine (said (between bytes 0 end)) method uri version → ⊥) → HasFault bytes BadLine
-first_bad bytes end short at bad = record {
+pub first_bad : (peer : Peer) (bytes : List ℕ) (end : ℕ) → end < head_limit → IsLineAt bytes 0 end → ((method uri version : List ℕ) → IsStartLine peer (said (between bytes 0 end)) method uri version → ⊥) → HasFault peer bytes BadLine
+first_bad peer bytes end short at bad = record {
   line = between bytes 0 end;
   more = take (head_limit - (end + 1)) (drop (end + 1) bytes);
   whole = window_line bytes 0 end short at;
@@ -123,9 +124,9 @@ first_bad bytes end short at bad = record {
 }
 
 -- one more header line
-pub good_more : (bytes : List ℕ) (line end : ℕ) {told now : Option ℕ} (header : Header) → AreGoodLines (take line bytes) told → IsLineAt bytes line end → IsHeaderLine (said (between bytes line end)) header
-    → ((before : List Header) → Tell before told → (field_fault before header ≡ None) × Tell (before ++ header ∷ []) now) → AreGoodLines (take (end + 1) bytes) now
-good_more bytes line end header p at is allowed =
+pub good_more : (peer : Peer) (bytes : List ℕ) (line end : ℕ) {told now : Option ℕ} (header : Header) → AreGoodLines peer (take line bytes) told → IsLineAt bytes line end → IsHeaderLine (said (between bytes line end)) header
+    → ((before : List Header) → Tell before told → (field_fault before header ≡ None) × Tell (before ++ header ∷ []) now) → AreGoodLines peer (take (end + 1) bytes) now
+good_more peer bytes line end header p at is allowed =
     let text = between bytes line end in
     let next = allowed p.headers p.tell in
     record {
@@ -145,8 +146,8 @@ good_more bytes line end header p at is allowed =
     }
 
 -- after the good lines the text is so
-has_request : (P : List ℕ → Type 0) (front rest whole : List ℕ) {told : Option ℕ} (p : AreGoodLines front told) → whole ≡ front ++ rest → P (joined p.lines ++ rest) → HasRequestLine whole P
-has_request P front rest whole p e after = record {
+has_request : (peer : Peer) (P : List ℕ → Type 0) (front rest whole : List ℕ) {told : Option ℕ} (p : AreGoodLines peer front told) → whole ≡ front ++ rest → P (joined p.lines ++ rest) → HasStartLine peer whole P
+has_request peer P front rest whole p e after = record {
   first = p.first;
   rest = joined p.lines ++ rest;
   method = p.method;
@@ -158,9 +159,9 @@ has_request P front rest whole p e after = record {
   after = after;
 }
 
-pub fields_go_on : (bytes : List ℕ) (line : ℕ) {told : Option ℕ} → line ≤ head_limit → AreGoodLines (take line bytes) told → HasNoLf (drop line (window bytes)) → GoesOn (window bytes)
-fields_go_on bytes line short p none =
-    inr (has_request LeavesHeaders (take line bytes) (drop line (window bytes)) (window bytes) p (window_split bytes line short) (record {
+pub fields_go_on : (peer : Peer) (bytes : List ℕ) (line : ℕ) {told : Option ℕ} → line ≤ head_limit → AreGoodLines peer (take line bytes) told → HasNoLf (drop line (window bytes)) → GoesOn peer (window bytes)
+fields_go_on peer bytes line short p none =
+    inr (has_request peer LeavesHeaders (take line bytes) (drop line (window bytes)) (window bytes) p (window_split bytes line short) (record {
       lines = p.lines;
       headers = p.headers;
       tail = drop line (window bytes);
@@ -169,19 +170,19 @@ fields_go_on bytes line short p none =
       unfinished = none;
     }))
 
-broken : (bytes : List ℕ) (fault : Fault) → HasRequestLine (window bytes) (λ rest. BreaksHeaders rest fault) → HasFault bytes fault
-broken bytes BadLine p = absurd p.after.bad
-broken bytes BadHeader p = p
-broken bytes BadLength p = p
-broken bytes BodyTooLong p = p
-broken bytes HeadTooLong p = absurd p.after.bad
+broken : (peer : Peer) (bytes : List ℕ) (fault : Fault) → HasStartLine peer (window bytes) (λ rest. BreaksHeaders rest fault) → HasFault peer bytes fault
+broken peer bytes BadLine p = absurd p.after.bad
+broken peer bytes BadHeader p = p
+broken peer bytes BadLength p = p
+broken peer bytes BodyTooLong p = p
+broken peer bytes HeadTooLong p = absurd p.after.bad
 
-pub fields_bad : (bytes : List ℕ) (line end : ℕ) {told : Option ℕ} (fault : Fault) → end < head_limit → AreGoodLines (take line bytes) told → IsLineAt bytes line end
-    → ((before : List Header) → Tell before told → IsBadHeader before (said (between bytes line end)) fault) → HasFault bytes fault
-fields_bad bytes line end fault short p at bad =
+pub fields_bad : (peer : Peer) (bytes : List ℕ) (line end : ℕ) {told : Option ℕ} (fault : Fault) → end < head_limit → AreGoodLines peer (take line bytes) told → IsLineAt bytes line end
+    → ((before : List Header) → Tell before told → IsBadHeader before (said (between bytes line end)) fault) → HasFault peer bytes fault
+fields_bad peer bytes line end fault short p at bad =
     let text = between bytes line end in
     let more = take (head_limit - (end + 1)) (drop (end + 1) bytes) in
-    broken bytes fault (has_request (λ rest. BreaksHeaders rest fault) (take line bytes) (ended text ++ more) (window bytes) p (window_line bytes line end short at) (record {
+    broken peer bytes fault (has_request peer (λ rest. BreaksHeaders rest fault) (take line bytes) (ended text ++ more) (window bytes) p (window_line bytes line end short at) (record {
       lines = p.lines;
       headers = p.headers;
       line = text;
@@ -193,9 +194,9 @@ fields_bad bytes line end fault short p at bad =
     }))
 
 -- the empty line ends the head
-pub head_ends : (bytes : List ℕ) (line end : ℕ) {told : Option ℕ} → end < head_limit → end < length bytes → BeginsMessage bytes → AreGoodLines (take line bytes) told → IsLineAt bytes line end → said (between bytes line end) ≡ []
-    → IsMessageStart bytes (end + 1) (end + 1 + unwrap_or told 0)
-head_ends bytes line end short within begins p at empty =
+pub head_ends : (peer : Peer) (bytes : List ℕ) (line end : ℕ) {told : Option ℕ} → end < head_limit → end < length bytes → BeginsMessage bytes → AreGoodLines peer (take line bytes) told → IsLineAt bytes line end → said (between bytes line end) ≡ []
+    → IsMessageStart peer bytes (end + 1) (end + 1 + unwrap_or told 0)
+head_ends peer bytes line end short within begins p at empty =
     let text = between bytes line end in
     record {
       begins = begins;
@@ -215,30 +216,30 @@ head_ends bytes line end short within begins p at empty =
     }
 
 -- a head that goes on
-pub short_waits : (bytes : List ℕ) → BeginsMessage bytes → GoesOn (window bytes) → length bytes < head_limit → EndsAs bytes (Waits bytes) × (length bytes < waiting_limit)
-short_waits bytes begins goes short =
+pub short_waits : (peer : Peer) (bytes : List ℕ) → BeginsMessage bytes → GoesOn peer (window bytes) → length bytes < head_limit → EndsAsFrom peer bytes (Waits bytes) × (length bytes < waiting_limit)
+short_waits peer bytes begins goes short =
     let all : window bytes ≡ bytes = take_all head_limit bytes (omega arith) in (
-      (refl, message_is_no_pad bytes begins, head_is_open bytes begins (subst GoesOn all goes, short)),
+      (refl, message_is_no_pad bytes begins, head_is_open peer bytes begins (subst (GoesOn peer) all goes, short)),
       omega arith,
     )
 
-pub long_fails : (bytes : List ℕ) → BeginsMessage bytes → GoesOn (window bytes) → head_limit ≤ length bytes → EndsAs bytes (Fails HeadTooLong)
-long_fails bytes begins goes long = (begins, (goes, long))
+pub long_fails : (peer : Peer) (bytes : List ℕ) → BeginsMessage bytes → GoesOn peer (window bytes) → head_limit ≤ length bytes → EndsAsFrom peer bytes (Fails HeadTooLong)
+long_fails peer bytes begins goes long = (begins, (goes, long))
 
 all_searched : (bytes : List ℕ) (line : ℕ) → length bytes < head_limit → HasNoLf (drop line (window bytes)) → HasNoLf (between bytes line (length bytes))
 all_searched bytes line short none =
     let all : window bytes ≡ bytes = take_all head_limit bytes (omega arith) in
     subst HasNoLf (sym (take_rest bytes line)) (subst (λ (l : List ℕ). HasNoLf (drop line l)) all none)
 
-pub first_line_waits : (bytes : List ℕ) → BeginsMessage bytes → HasNoLf (drop 0 (window bytes)) → length bytes < head_limit → EndsAs bytes (Waits bytes) × (length bytes < waiting_limit) × IsFirstLineStart bytes (length bytes)
-first_line_waits bytes begins none short =
-    let waits = short_waits bytes begins (inl none) short in
+pub first_line_waits : (peer : Peer) (bytes : List ℕ) → BeginsMessage bytes → HasNoLf (drop 0 (window bytes)) → length bytes < head_limit → EndsAsFrom peer bytes (Waits bytes) × (length bytes < waiting_limit) × IsFirstLineStart bytes (length bytes)
+first_line_waits peer bytes begins none short =
+    let waits = short_waits peer bytes begins (inl none) short in
     (waits.0, waits.1, record { begins = begins; within = omega arith; none_found = all_searched bytes 0 short none })
 
-pub fields_wait : (bytes : List ℕ) (line searched : ℕ) {told : Option ℕ} → IsFieldsStart bytes line searched told → HasNoLf (drop line (window bytes)) → length bytes < head_limit
-    → EndsAs bytes (Waits bytes) × (length bytes < waiting_limit) × IsFieldsStart bytes line (length bytes) told
-fields_wait bytes line searched p none short =
-    let waits = short_waits bytes p.begins (fields_go_on bytes line p.short p.good none) short in (
+pub fields_wait : (peer : Peer) (bytes : List ℕ) (line searched : ℕ) {told : Option ℕ} → IsFieldsStart peer bytes line searched told → HasNoLf (drop line (window bytes)) → length bytes < head_limit
+    → EndsAsFrom peer bytes (Waits bytes) × (length bytes < waiting_limit) × IsFieldsStart peer bytes line (length bytes) told
+fields_wait peer bytes line searched p none short =
+    let waits = short_waits peer bytes p.begins (fields_go_on peer bytes line p.short p.good none) short in (
       waits.0,
       waits.1,
       record { begins = p.begins; good = p.good; short = p.short; in_order = omega (arith, p.in_order, p.within); within = omega arith; none_found = all_searched bytes line short none },
@@ -251,37 +252,37 @@ may_begin (b ∷ bytes) p = λ h. p
 pub frame_whole : (bytes : List ℕ) (len : ℕ) → IsFrameStart bytes len → len ≤ length bytes → FrameBegins bytes len
 frame_whole bytes len p fits = FrameBegins-announced bytes len (may_begin bytes p.begins) p.has_head p.len_is fits
 
-pub frame_waits : (bytes : List ℕ) (len : ℕ) → IsFrameStart bytes len → length bytes < len → EndsAs bytes (Waits bytes) × (length bytes < waiting_limit) × IsFrameStart bytes len
-frame_waits bytes len p short = (
-  (refl, frame_is_no_pad bytes p.begins, frame_is_short bytes p.begins (λ n q. omega (arith, FrameBegins-length bytes n q, q.0, p.len_is, short))),
+pub frame_waits : (peer : Peer) (bytes : List ℕ) (len : ℕ) → IsFrameStart bytes len → length bytes < len → EndsAsFrom peer bytes (Waits bytes) × (length bytes < waiting_limit) × IsFrameStart bytes len
+frame_waits peer bytes len p short = (
+  (refl, frame_is_no_pad bytes p.begins, frame_is_short peer bytes p.begins (λ n q. omega (arith, FrameBegins-length bytes n q, q.0, p.len_is, short))),
   omega (arith, p.most),
   p,
 )
 
-pub dollar_waits : (bytes : List ℕ) → BeginsFrame bytes → length bytes < 4 → EndsAs bytes (Waits bytes) × (length bytes < waiting_limit) × BeginsFrame bytes
-dollar_waits bytes begins short = (
-  (refl, frame_is_no_pad bytes begins, frame_is_short bytes begins (λ n q. omega (arith, frame_has_head bytes n q, length-take n bytes, short))),
+pub dollar_waits : (peer : Peer) (bytes : List ℕ) → BeginsFrame bytes → length bytes < 4 → EndsAsFrom peer bytes (Waits bytes) × (length bytes < waiting_limit) × BeginsFrame bytes
+dollar_waits peer bytes begins short = (
+  (refl, frame_is_no_pad bytes begins, frame_is_short peer bytes begins (λ n q. omega (arith, frame_has_head bytes n q, length-take n bytes, short))),
   omega arith,
   begins,
 )
 
-pub message_waits : (bytes : List ℕ) (head len : ℕ) → IsMessageStart bytes head len → length bytes < len → EndsAs bytes (Waits bytes) × (length bytes < waiting_limit) × IsMessageStart bytes head len
-message_waits bytes head len p short =
-    let waits = body_waits bytes head (body_len p.request.headers) p.request (drop head bytes) p.begins p.within p.is_head refl refl (omega (arith, p.len_is, p.within, length-drop head bytes)) in
+pub message_waits : (peer : Peer) (bytes : List ℕ) (head len : ℕ) → IsMessageStart peer bytes head len → length bytes < len → EndsAsFrom peer bytes (Waits bytes) × (length bytes < waiting_limit) × IsMessageStart peer bytes head len
+message_waits peer bytes head len p short =
+    let waits = body_waits peer bytes head (body_len p.request.headers) p.request (drop head bytes) p.begins p.within p.is_head refl refl (omega (arith, p.len_is, p.within, length-drop head bytes)) in
     ((refl, message_is_no_pad bytes p.begins, waits.0), waits.1, p)
 
 -- what is told of a frame by its length
-pub frame_looked : (bytes : List ℕ) (len size : ℕ) (look : Look) → IsFrameStart bytes len → size ≡ length bytes → (len ≤ size → look ≡ looks.Frame len) → (size < len → look ≡ looks.Waits (knows.Frame len)) → IsLook bytes look
-frame_looked bytes len size look p size_is whole waits = elim (leb_tells len size) [
-  | inl fits ↦ subst (IsLook bytes) (sym (whole fits.1)) (frame_whole bytes len p (omega (arith, fits.1)))
-  | inr short ↦ subst (IsLook bytes) (sym (waits (omega (arith, short.1)))) (frame_waits bytes len p (omega (arith, short.1)))
+pub frame_looked : (peer : Peer) (bytes : List ℕ) (len size : ℕ) (look : Look) → IsFrameStart bytes len → size ≡ length bytes → (len ≤ size → look ≡ looks.Frame len) → (size < len → look ≡ looks.Waits (knows.Frame len)) → IsLook peer bytes look
+frame_looked peer bytes len size look p size_is whole waits = elim (leb_tells len size) [
+  | inl fits ↦ subst (IsLook peer bytes) (sym (whole fits.1)) (frame_whole bytes len p (omega (arith, fits.1)))
+  | inr short ↦ subst (IsLook peer bytes) (sym (waits (omega (arith, short.1)))) (frame_waits peer bytes len p (omega (arith, short.1)))
 ]
 
 -- and of a message
-pub message_looked : (bytes : List ℕ) (head len size : ℕ) (look : Look) → IsMessageStart bytes head len → size ≡ length bytes → (len ≤ size → look ≡ looks.Message head len) → (size < len → look ≡ looks.Waits (knows.Message head len)) → IsLook bytes look
-message_looked bytes head len size look p size_is whole waits = elim (leb_tells len size) [
-  | inl fits ↦ subst (IsLook bytes) (sym (whole fits.1)) (omega (arith, fits.1), p)
-  | inr short ↦ subst (IsLook bytes) (sym (waits (omega (arith, short.1)))) (message_waits bytes head len p (omega (arith, short.1)))
+pub message_looked : (peer : Peer) (bytes : List ℕ) (head len size : ℕ) (look : Look) → IsMessageStart peer bytes head len → size ≡ length bytes → (len ≤ size → look ≡ looks.Message head len) → (size < len → look ≡ looks.Waits (knows.Message head len)) → IsLook peer bytes look
+message_looked peer bytes head len size look p size_is whole waits = elim (leb_tells len size) [
+  | inl fits ↦ subst (IsLook peer bytes) (sym (whole fits.1)) (omega (arith, fits.1), p)
+  | inr short ↦ subst (IsLook peer bytes) (sym (waits (omega (arith, short.1)))) (message_waits peer bytes head len p (omega (arith, short.1)))
 ]
 
 pub message_looks : (n head len size : ℕ) (look : Look) → (len ≤ size → look ≡ looks.Message head len) → (size < len → look ≡ looks.Waits (knows.Message head len)) → looks_to_find n look ≡ 1 + 2 * head
@@ -291,27 +292,27 @@ message_looks n head len size look whole waits = elim (leb_tells len size) [
 ]
 
 -- a first line that hasn't ended
-pub first_line_looked : (bytes : List ℕ) (searched size : ℕ) (look : Look) → IsFirstLineStart bytes searched → HasNoLf (drop searched (window bytes)) → size ≡ length bytes
-    → (head_limit ≤ size → look ≡ looks.Bad HeadTooLong) → (size < head_limit → look ≡ looks.Waits (knows.FirstLine size)) → IsLook bytes look
-first_line_looked bytes searched size look p behind size_is long short =
+pub first_line_looked : (peer : Peer) (bytes : List ℕ) (searched size : ℕ) (look : Look) → IsFirstLineStart bytes searched → HasNoLf (drop searched (window bytes)) → size ≡ length bytes
+    → (head_limit ≤ size → look ≡ looks.Bad HeadTooLong) → (size < head_limit → look ≡ looks.Waits (knows.FirstLine size)) → IsLook peer bytes look
+first_line_looked peer bytes searched size look p behind size_is long short =
     let none : HasNoLf (drop 0 (window bytes)) = open_tail bytes 0 searched (omega arith) (omega arith) p.none_found behind in
     elim (leb_tells head_limit size) [
-      | inl over ↦ subst (IsLook bytes) (sym (long over.1)) (long_fails bytes p.begins (inl none) (omega (arith, over.1)))
+      | inl over ↦ subst (IsLook peer bytes) (sym (long over.1)) (long_fails peer bytes p.begins (inl none) (omega (arith, over.1)))
       | inr within ↦
-          subst (IsLook bytes) (sym (short (omega (arith, within.1)) ∙ ap (λ (n : ℕ). looks.Waits (knows.FirstLine n)) size_is))
-          (first_line_waits bytes p.begins none (omega (arith, within.1)))
+          subst (IsLook peer bytes) (sym (short (omega (arith, within.1)) ∙ ap (λ (n : ℕ). looks.Waits (knows.FirstLine n)) size_is))
+          (first_line_waits peer bytes p.begins none (omega (arith, within.1)))
     ]
 
 -- a later line that hasn't ended
-pub fields_looked : (bytes : List ℕ) (line searched size : ℕ) {told : Option ℕ} (look : Look) → IsFieldsStart bytes line searched told → HasNoLf (drop searched (window bytes)) → size ≡ length bytes
-    → (head_limit ≤ size → look ≡ looks.Bad HeadTooLong) → (size < head_limit → look ≡ looks.Waits (knows.Fields line size told)) → IsLook bytes look
-fields_looked bytes line searched size {told} look p behind size_is long short =
+pub fields_looked : (peer : Peer) (bytes : List ℕ) (line searched size : ℕ) {told : Option ℕ} (look : Look) → IsFieldsStart peer bytes line searched told → HasNoLf (drop searched (window bytes)) → size ≡ length bytes
+    → (head_limit ≤ size → look ≡ looks.Bad HeadTooLong) → (size < head_limit → look ≡ looks.Waits (knows.Fields line size told)) → IsLook peer bytes look
+fields_looked peer bytes line searched size {told} look p behind size_is long short =
     let none : HasNoLf (drop line (window bytes)) = open_tail bytes line searched p.in_order p.short p.none_found behind in
     elim (leb_tells head_limit size) [
-      | inl over ↦ subst (IsLook bytes) (sym (long over.1)) (long_fails bytes p.begins (fields_go_on bytes line p.short p.good none) (omega (arith, over.1)))
+      | inl over ↦ subst (IsLook peer bytes) (sym (long over.1)) (long_fails peer bytes p.begins (fields_go_on peer bytes line p.short p.good none) (omega (arith, over.1)))
       | inr within ↦
-          subst (IsLook bytes) (sym (short (omega (arith, within.1)) ∙ ap (λ (n : ℕ). looks.Waits (knows.Fields line n told)) size_is))
-          (fields_wait bytes line searched p none (omega (arith, within.1)))
+          subst (IsLook peer bytes) (sym (short (omega (arith, within.1)) ∙ ap (λ (n : ℕ). looks.Waits (knows.Fields line n told)) size_is))
+          (fields_wait peer bytes line searched p none (omega (arith, within.1)))
     ]
 
 pub fields_looks : (n line size : ℕ) (told : Option ℕ) (look : Look) → size ≡ n → line ≤ n → (head_limit ≤ size → look ≡ looks.Bad HeadTooLong) → (size < head_limit → look ≡ looks.Waits (knows.Fields line size told)) → 1 + n + line ≤ looks_to_find n look
@@ -347,36 +348,36 @@ next_line all before after from line searched end shown text low none same still
       low = omega (arith, lf.behind);
     }
 
-pub next_good : (bytes : List ℕ) (line searched end : ℕ) (text : List ℕ) {told now : Option ℕ} → IsFieldsStart bytes line searched told → end < head_limit → NextLine bytes line end text
-    → (header : Header) × IsHeaderLine text header × ((before : List Header) → Tell before told → (field_fault before header ≡ None) × Tell (before ++ header ∷ []) now) → IsFieldsStart bytes (end + 1) (end + 1) now
-next_good bytes line searched end text p short next (header, is, allowed) = record {
+pub next_good : (peer : Peer) (bytes : List ℕ) (line searched end : ℕ) (text : List ℕ) {told now : Option ℕ} → IsFieldsStart peer bytes line searched told → end < head_limit → NextLine bytes line end text
+    → (header : Header) × IsHeaderLine text header × ((before : List Header) → Tell before told → (field_fault before header ≡ None) × Tell (before ++ header ∷ []) now) → IsFieldsStart peer bytes (end + 1) (end + 1) now
+next_good peer bytes line searched end text p short next (header, is, allowed) = record {
   begins = p.begins;
-  good = good_more bytes line end header p.good next.at (subst (λ (t : List ℕ). IsHeaderLine t header) next.says is) allowed;
+  good = good_more peer bytes line end header p.good next.at (subst (λ (t : List ℕ). IsHeaderLine t header) next.says is) allowed;
   short = omega arith;
   in_order = omega arith;
   within = omega (arith, next.within);
   none_found = none_between bytes (end + 1);
 }
 
-pub next_bad : (bytes : List ℕ) (line searched end : ℕ) (text : List ℕ) {told : Option ℕ} (fault : Fault) → IsFieldsStart bytes line searched told → end < head_limit → NextLine bytes line end text
-    → ((before : List Header) → Tell before told → IsBadHeader before text fault) → EndsAs bytes (Fails fault)
-next_bad bytes line searched end text fault p short next bad =
-    (p.begins, fields_bad bytes line end fault short p.good next.at (λ before t. subst (λ (x : List ℕ). IsBadHeader before x fault) next.says (bad before t)))
+pub next_bad : (peer : Peer) (bytes : List ℕ) (line searched end : ℕ) (text : List ℕ) {told : Option ℕ} (fault : Fault) → IsFieldsStart peer bytes line searched told → end < head_limit → NextLine bytes line end text
+    → ((before : List Header) → Tell before told → IsBadHeader before text fault) → EndsAsFrom peer bytes (Fails fault)
+next_bad peer bytes line searched end text fault p short next bad =
+    (p.begins, fields_bad peer bytes line end fault short p.good next.at (λ before t. subst (λ (x : List ℕ). IsBadHeader before x fault) next.says (bad before t)))
 
-pub next_empty : (bytes : List ℕ) (line searched end : ℕ) (text : List ℕ) {told : Option ℕ} → IsFieldsStart bytes line searched told → end < head_limit → NextLine bytes line end text → text ≡ []
-    → IsMessageStart bytes (end + 1) (end + 1 + unwrap_or told 0)
-next_empty bytes line searched end text p short next empty = head_ends bytes line end short next.within p.begins p.good next.at (sym next.says ∙ empty)
+pub next_empty : (peer : Peer) (bytes : List ℕ) (line searched end : ℕ) (text : List ℕ) {told : Option ℕ} → IsFieldsStart peer bytes line searched told → end < head_limit → NextLine bytes line end text → text ≡ []
+    → IsMessageStart peer bytes (end + 1) (end + 1 + unwrap_or told 0)
+next_empty peer bytes line searched end text p short next empty = head_ends peer bytes line end short next.within p.begins p.good next.at (sym next.says ∙ empty)
 
-pub first_start : (bytes : List ℕ) (end : ℕ) (text : List ℕ) {method uri version : List ℕ} → BeginsMessage bytes → end < head_limit → NextLine bytes 0 end text → IsRequestLine text method uri version → IsFieldsStart bytes (end + 1) (end + 1) None
-first_start bytes end text {method} {uri} {version} begins short next is = record {
+pub first_start : (peer : Peer) (bytes : List ℕ) (end : ℕ) (text : List ℕ) (method uri version : List ℕ) → BeginsMessage bytes → end < head_limit → NextLine bytes 0 end text → IsStartLine peer text method uri version → IsFieldsStart peer bytes (end + 1) (end + 1) None
+first_start peer bytes end text method uri version begins short next is = record {
   begins = begins;
-  good = first_good bytes end next.at (subst (λ (t : List ℕ). IsRequestLine t method uri version) next.says is);
+  good = first_good peer bytes end method uri version next.at (subst (λ (t : List ℕ). IsStartLine peer t method uri version) next.says is);
   short = omega arith;
   in_order = omega arith;
   within = omega (arith, next.within);
   none_found = none_between bytes (end + 1);
 }
 
-pub first_fault : (bytes : List ℕ) (end : ℕ) (text : List ℕ) → BeginsMessage bytes → end < head_limit → NextLine bytes 0 end text → ((method uri version : List ℕ) → IsRequestLine text method uri version → ⊥) → EndsAs bytes (Fails BadLine)
-first_fault bytes end text begins short next bad =
-    (begins, first_bad bytes end short next.at (λ m u v q. bad m u v (subst (λ (t : List ℕ). IsRequestLine t m u v) (sym next.says) q)))
+pub first_fault : (peer : Peer) (bytes : List ℕ) (end : ℕ) (text : List ℕ) → BeginsMessage bytes → end < head_limit → NextLine bytes 0 end text → ((method uri version : List ℕ) → IsStartLine peer text method uri version → ⊥) → EndsAsFrom peer bytes (Fails BadLine)
+first_fault peer bytes end text begins short next bad =
+    (begins, first_bad peer bytes end short next.at (λ m u v q. bad m u v (subst (λ (t : List ℕ). IsStartLine peer t m u v) (sym next.says) q)))

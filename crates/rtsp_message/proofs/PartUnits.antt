@@ -3,6 +3,7 @@ use Rattle.std.proofs.Common.{◌≡◌, ℕ, ◌<◌, ◌≤◌, List, [], ◌�
 use Rattle.std.proofs.Math.Seq.{take-append_seam}
 use Rattle.std.proofs.lemmas.List.{take-append-le}
 use Rattle.std.proofs.lemmas.Bool.Decides.{leb_tells}
+use Rattle.rtsp_message.specs.declared.peer.Peer.TheVariants.{Client}
 use Rattle.rtsp_message.specs.declared.unit.Unit.{Unit as StreamUnit}
 use Rattle.rtsp_message.specs.Stream.{BeginsWithNoPad, IsUnit, IsUndecided, Piece, Pad, Whole, ArePieces, bytes_of, units_of, Ending, Waits, Fails, EndsAs, ReadsOn, fault_of, waiting_len}
 use Rattle.rtsp_message.specs.Parts.{AreFew}
@@ -11,7 +12,7 @@ use Rattle.rtsp_message.proofs.OneReading.{pad_begins_nothing, one_reading}
 use Rattle.rtsp_message.proofs.HandingOut.{units_take_bytes}
 
 -- a unit at the front of what waited and of more bytes is longer than what waited
-front_is_longer : (rest more a x : List ℕ) (u : StreamUnit) → IsUndecided rest → IsUnit a u → rest ++ more ≡ a ++ x → length rest < length a
+front_is_longer : (rest more a x : List ℕ) (u : StreamUnit) → IsUndecided Client rest → IsUnit a u → rest ++ more ≡ a ++ x → length rest < length a
 front_is_longer rest more a x u waits is whole = elim (leb_tells (length a) (length rest)) [
   | inl within ↦
       let below : length a ≤ length rest = within.1 in
@@ -20,7 +21,7 @@ front_is_longer rest more a x u waits is whole = elim (leb_tells (length a) (len
   | inr past ↦ omega (arith, past.1)
 ]
 
-pieces_take_bytes : (rest more x : List ℕ) (pieces : List Piece) → BeginsWithNoPad rest → IsUndecided rest → ArePieces pieces → rest ++ more ≡ bytes_of pieces ++ x → length (units_of pieces) ≤ length more
+pieces_take_bytes : (rest more x : List ℕ) (pieces : List Piece) → BeginsWithNoPad rest → IsUndecided Client rest → ArePieces pieces → rest ++ more ≡ bytes_of pieces ++ x → length (units_of pieces) ≤ length more
 pieces_take_bytes rest more x [] no_pad waits p whole = omega arith
 pieces_take_bytes [] more x (Pad byte ∷ pieces) no_pad waits p whole = omega (arith, units_take_bytes pieces p.1, ap length whole, length-append (bytes_of pieces) x)
 pieces_take_bytes (b ∷ rest) more x (Pad byte ∷ pieces) no_pad waits p whole = absurd (pad_begins_nothing ((b ∷ rest) ++ more) byte (bytes_of pieces ++ x) p.0 whole no_pad)
@@ -38,6 +39,6 @@ one_a_byte (Fails fault) m more us stands p = omega (arith, ap length p.0)
 -- if nothing waits, whole units are read as what they are: no more of them than were counted
 pub no_more_than_counted : (d m : Ending) (bytes : List ℕ) (len most : ℕ) (us : List StreamUnit) → fault_of d ≡ None → waiting_len d ≡ 0 → AreFew most bytes len → ReadsOn d (take len bytes) us m → length us ≤ most
 no_more_than_counted (Waits []) m bytes len most us none empty few p =
-    omega (arith, few.few, ap length (one_reading p (all_read bytes few.units len few.reads)).0)
+    omega (arith, few.few, ap length (one_reading Client p (all_read Client bytes few.units len (few.reads Client))).0)
 no_more_than_counted (Waits (b ∷ rest)) m bytes len most us none empty few p = absurd (omega (arith, empty))
 no_more_than_counted (Fails fault) m bytes len most us none empty few p = absurd (cc)

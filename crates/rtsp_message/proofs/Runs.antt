@@ -1,12 +1,17 @@
 -- Runs of bytes of one class: how a text is cut into them in one way only.
-use Rattle.std.proofs.Common.{◌≡◌, ℕ, ◌<◌, ◌≤◌, true, false, List, [], ◌∷◌, ◌++◌, length, take, get_or, refl, sym, ap, subst, ◌∙◌, arith}
+use Rattle.std.proofs.Common.{◌≡◌, ℕ, ◌<◌, ◌≤◌, true, false, List, [], ◌∷◌, ◌++◌, length, take, drop, get_or, refl, sym, ap, subst, ◌∙◌, arith}
 use Rattle.std.proofs.lemmas.Bool.{eqb-true, ne_eqb}
 use Rattle.std.proofs.lemmas.Bool.Decides.{nat_tests}
+use Rattle.std.proofs.Math.Seq.{drop-append_seam}
 use Rattle.std.proofs.lemmas.List.{take_all}
 use Rattle.std.proofs.lemmas.List.Elements.{All-get_or, All-from_recursion}
 use Rattle.rtsp_message.specs.declared.byte_class.ByteClass.{ByteClass}
 use Rattle.rtsp_message.specs.declared.byte_class.ByteClass.TheVariants.{Token, Visible, Space, Blank}
 use Rattle.rtsp_message.specs.Lines.{is_in, is_visible, Each, OneOrMore, BeginsOutside, IsFrontRun}
+
+-- bytes after the same bytes
+pub cancel : (a b x y : List ℕ) → a ≡ b → a ++ x ≡ b ++ y → x ≡ y
+cancel a b x y same e = sym (drop-append_seam a x) ∙ ap (drop (length a)) e ∙ ap (λ (l : List ℕ). drop (length l) (b ++ y)) same ∙ drop-append_seam b y
 
 pub false_is_true : false ≡ true → ⊥
 false_is_true e = cc

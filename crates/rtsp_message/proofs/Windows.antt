@@ -1,14 +1,15 @@
 -- What stands in the first bytes of a stream is one thing only.
 use Rattle.std.proofs.Common.{◌≡◌, ℕ, List, [], ◌∷◌, ◌++◌, None, Some, length, refl, sym, ap, subst, ◌∙◌, arith, append_assoc, append-nil, length-append}
+use Rattle.rtsp_message.specs.declared.peer.Peer.{Peer}
 use Rattle.rtsp_message.specs.declared.headers.Header.{Header}
 use Rattle.rtsp_message.specs.declared.fault.Fault.{Fault}
 use Rattle.rtsp_message.specs.declared.fault.Fault.TheVariants.{BadLine, BadHeader, BadLength, HeadTooLong, BodyTooLong}
 use Rattle.base_syntax.specs.Lines.{HasNoLf, ended, said}
 use Rattle.base_syntax.proofs.LineEnds.{same_line, no_whole_line}
-use Rattle.rtsp_message.specs.Lines.{IsRequestLine, IsHeaderLine}
+use Rattle.rtsp_message.specs.Lines.{IsStartLine, IsHeaderLine}
 use Rattle.rtsp_message.specs.Lengths.{field_fault}
 use Rattle.rtsp_message.specs.Heads.{joined, AreHeaders, IsGoodHeader, IsBadHeader, HasBadField}
-use Rattle.rtsp_message.proofs.RequestLines.{same_request_line}
+use Rattle.rtsp_message.proofs.StartLines.{same_start_line}
 use Rattle.rtsp_message.proofs.HeaderLines.{same_header_line}
 
 -- how a list of header lines stops: at the empty line with these bytes after it, at a bad line, or before a whole line
@@ -134,34 +135,34 @@ same_fields before text (l ∷ ls) (m ∷ ms) (h ∷ hs) (k ∷ ks) d e s t p q 
 -- what the first bytes of a stream are
 pub data Window : Type 0 where
   NoLine : Window
-  NoRequest : Window
+  NoStartLine : Window
   After : (method uri version : List ℕ) → (headers : List Header) → (stop : Stop) → Window
 
-abbrev pub WindowIs : List ℕ → Window → Type 0
-WindowIs w NoLine = HasNoLf w
-WindowIs w NoRequest = (line : List ℕ) × (more : List ℕ) × (w ≡ ended line ++ more) × HasNoLf line × ((m u v : List ℕ) → IsRequestLine (said line) m u v → ⊥)
-WindowIs w (After m u v headers stop) =
-    (line : List ℕ) × (rest : List ℕ) × (w ≡ ended line ++ rest) × HasNoLf line × IsRequestLine (said line) m u v
+abbrev pub WindowIs : (peer : Peer) → List ℕ → Window → Type 0
+WindowIs peer w NoLine = HasNoLf w
+WindowIs peer w NoStartLine = (line : List ℕ) × (more : List ℕ) × (w ≡ ended line ++ more) × HasNoLf line × ((m u v : List ℕ) → IsStartLine peer (said line) m u v → ⊥)
+WindowIs peer w (After m u v headers stop) =
+    (line : List ℕ) × (rest : List ℕ) × (w ≡ ended line ++ rest) × HasNoLf line × IsStartLine peer (said line) m u v
     × (lines : List (List ℕ)) × (end : List ℕ) × FieldsThen [] rest lines headers end stop
 
 after_eq : {m u v m' u' v' : List ℕ} {hs hs' : List Header} {s s' : Stop} → m ≡ m' → u ≡ u' → v ≡ v' → hs ≡ hs' → s ≡ s' → After m u v hs s ≡ After m' u' v' hs' s'
 after_eq a b c d e = cc
 
-pub same_window : (w : List ℕ) (x y : Window) → WindowIs w x → WindowIs w y → x ≡ y
-same_window w NoLine NoLine p q = refl
-same_window w NoLine NoRequest p q = absurd (no_whole_line w q.0 q.1 p q.2)
-same_window w NoLine (After m u v hs s) p q = absurd (no_whole_line w q.0 q.1 p q.2)
-same_window w NoRequest NoLine p q = absurd (no_whole_line w p.0 p.1 q p.2)
-same_window w NoRequest NoRequest p q = refl
-same_window w NoRequest (After m u v hs s) p q =
+pub same_window : (peer : Peer) (w : List ℕ) (x y : Window) → WindowIs peer w x → WindowIs peer w y → x ≡ y
+same_window peer w NoLine NoLine p q = refl
+same_window peer w NoLine NoStartLine p q = absurd (no_whole_line w q.0 q.1 p q.2)
+same_window peer w NoLine (After m u v hs s) p q = absurd (no_whole_line w q.0 q.1 p q.2)
+same_window peer w NoStartLine NoLine p q = absurd (no_whole_line w p.0 p.1 q p.2)
+same_window peer w NoStartLine NoStartLine p q = refl
+same_window peer w NoStartLine (After m u v hs s) p q =
     let l = same_line p.0 p.1 q.0 q.1 p.3 q.3 (sym p.2 ∙ q.2) in
-    absurd (p.4 m u v (subst (λ (x : List ℕ). IsRequestLine (said x) m u v) (sym l.0) q.4))
-same_window w (After m u v hs s) NoLine p q = absurd (no_whole_line w p.0 p.1 q p.2)
-same_window w (After m u v hs s) NoRequest p q =
+    absurd (p.4 m u v (subst (λ (x : List ℕ). IsStartLine peer (said x) m u v) (sym l.0) q.4))
+same_window peer w (After m u v hs s) NoLine p q = absurd (no_whole_line w p.0 p.1 q p.2)
+same_window peer w (After m u v hs s) NoStartLine p q =
     let l = same_line p.0 p.1 q.0 q.1 p.3 q.3 (sym p.2 ∙ q.2) in
-    absurd (q.4 m u v (subst (λ (x : List ℕ). IsRequestLine (said x) m u v) l.0 p.4))
-same_window w (After m u v hs s) (After m' u' v' hs' s') p q =
+    absurd (q.4 m u v (subst (λ (x : List ℕ). IsStartLine peer (said x) m u v) l.0 p.4))
+same_window peer w (After m u v hs s) (After m' u' v' hs' s') p q =
     let l = same_line p.0 p.1 q.0 q.1 p.3 q.3 (sym p.2 ∙ q.2) in
-    let request = same_request_line (subst (λ (x : List ℕ). IsRequestLine (said x) m u v) l.0 p.4) q.4 in
+    let request = same_start_line peer (said q.0) m u v m' u' v' (subst (λ (x : List ℕ). IsStartLine peer (said x) m u v) l.0 p.4) q.4 in
     let fields = same_fields [] q.1 p.5 q.5 hs hs' p.6 q.6 s s' (subst (λ (x : List ℕ). FieldsThen [] x p.5 hs p.6 s) l.1 p.7) q.7 in
     after_eq request.0 request.1 request.2 fields.0 fields.1

@@ -6,8 +6,10 @@ use Rattle.rtsp_message.specs.declared.headers.Header.{Header}
 use Rattle.rtsp_message.specs.declared.request.Request.{Request}
 use Rattle.rtsp_message.specs.declared.fault.Fault.{Fault}
 use Rattle.rtsp_message.specs.declared.fault.Fault.TheVariants.{BadLine, BadHeader, BadLength, HeadTooLong, BodyTooLong}
+use Rattle.rtsp_message.specs.declared.peer.Peer.{Peer}
+use Rattle.rtsp_message.specs.declared.peer.Peer.TheVariants.{Client}
 use Rattle.rtsp_message.specs.Limits.{head_limit}
-use Rattle.rtsp_message.specs.Lines.{IsRequestLine, IsHeaderLine}
+use Rattle.rtsp_message.specs.Lines.{IsStartLine, IsHeaderLine}
 use Rattle.rtsp_message.specs.Headers.{cseq_of}
 use Rattle.rtsp_message.specs.Lengths.{field_fault}
 
@@ -40,7 +42,7 @@ IsBadHeader before text BodyTooLong = HasBadField before text BodyTooLong
 IsBadHeader before text BadLine = ⊥
 IsBadHeader before text HeadTooLong = ⊥
 
--- What follows a request line: these header fields, and an empty line.
+-- What follows a start line: these header fields, and an empty line.
 pub record EndsHeaders (text : List ℕ) (headers : List Header) : Type 0 where
   pub lines : List (List ℕ)
   pub last : List ℕ
@@ -49,7 +51,7 @@ pub record EndsHeaders (text : List ℕ) (headers : List Header) : Type 0 where
   pub last_unbroken : HasNoLf last
   pub last_empty : said last ≡ []
 
--- What follows a request line: header fields, and then a bad line.
+-- What follows a start line: header fields, and then a bad line.
 pub record BreaksHeaders (text : List ℕ) (fault : Fault) : Type 0 where
   pub lines : List (List ℕ)
   pub headers : List Header
@@ -60,7 +62,7 @@ pub record BreaksHeaders (text : List ℕ) (fault : Fault) : Type 0 where
   pub unbroken : HasNoLf line
   pub bad : IsBadHeader headers (said line) fault
 
--- What follows a request line: header fields, and a line that hasn't come whole.
+-- What follows a start line: header fields, and a line that hasn't come whole.
 pub record LeavesHeaders (text : List ℕ) : Type 0 where
   pub lines : List (List ℕ)
   pub headers : List Header
@@ -69,27 +71,31 @@ pub record LeavesHeaders (text : List ℕ) : Type 0 where
   pub are_headers : AreHeaders [] lines headers
   pub unfinished : HasNoLf tail
 
--- The head of a message: a request line, header lines, and an empty line (RFC 2326, 6). It says nothing of the body.
-pub record IsHead (bytes : List ℕ) (request : Request) : Type 0 where
+-- The head of a message: a start line, header lines, and an empty line (RFC 2326, 6 and 7). It says nothing of the body.
+pub record IsHeadFrom (peer : Peer) (bytes : List ℕ) (request : Request) : Type 0 where
   pub first : List ℕ
   pub rest : List ℕ
   pub whole : bytes ≡ ended first ++ rest
   pub first_unbroken : HasNoLf first
-  pub request_line : IsRequestLine (said first) request.method request.uri request.version
+  pub request_line : IsStartLine peer (said first) request.method request.uri request.version
   pub fields : EndsHeaders rest request.headers
   pub cseq : request.cseq ≡ cseq_of request.headers
   pub short : length bytes ≤ head_limit
 
--- The first line has come whole, and is no request line.
-pub record HasBadRequestLine (bytes : List ℕ) : Type 0 where
+-- the head of a client's message: its start line is a request line
+abbrev pub IsHead : List ℕ → Request → Type 0
+IsHead bytes request = IsHeadFrom Client bytes request
+
+-- The first line has come whole, and is no start line.
+pub record HasBadStartLine (peer : Peer) (bytes : List ℕ) : Type 0 where
   pub line : List ℕ
   pub more : List ℕ
   pub whole : bytes ≡ ended line ++ more
   pub unbroken : HasNoLf line
-  pub bad : (method uri version : List ℕ) → IsRequestLine (said line) method uri version → ⊥
+  pub bad : (method uri version : List ℕ) → IsStartLine peer (said line) method uri version → ⊥
 
--- A request line, after which the text is so.
-pub record HasRequestLine (bytes : List ℕ) (then : List ℕ → Type 0) : Type 0 where
+-- A start line, after which the text is so.
+pub record HasStartLine (peer : Peer) (bytes : List ℕ) (then : List ℕ → Type 0) : Type 0 where
   pub first : List ℕ
   pub rest : List ℕ
   pub method : List ℕ
@@ -97,21 +103,21 @@ pub record HasRequestLine (bytes : List ℕ) (then : List ℕ → Type 0) : Type
   pub version : List ℕ
   pub whole : bytes ≡ ended first ++ rest
   pub first_unbroken : HasNoLf first
-  pub request_line : IsRequestLine (said first) method uri version
+  pub request_line : IsStartLine peer (said first) method uri version
   pub after : then rest
 
 -- the bytes hold neither a bad line nor the end of a head
-abbrev pub GoesOn : List ℕ → Type 0
-GoesOn bytes = HasNoLf bytes ⊎ HasRequestLine bytes LeavesHeaders
+abbrev pub GoesOn : Peer → List ℕ → Type 0
+GoesOn peer bytes = HasNoLf bytes ⊎ HasStartLine peer bytes LeavesHeaders
 
 -- The first bad line of the first 8,192 bytes decides. Where these hold neither a bad line nor the end of the head, it is too long.
-abbrev pub HasFault : List ℕ → Fault → Type 0
-HasFault bytes BadLine = HasBadRequestLine (take head_limit bytes)
-HasFault bytes BadHeader = HasRequestLine (take head_limit bytes) (λ rest. BreaksHeaders rest BadHeader)
-HasFault bytes BadLength = HasRequestLine (take head_limit bytes) (λ rest. BreaksHeaders rest BadLength)
-HasFault bytes BodyTooLong = HasRequestLine (take head_limit bytes) (λ rest. BreaksHeaders rest BodyTooLong)
-HasFault bytes HeadTooLong = GoesOn (take head_limit bytes) × (head_limit ≤ length bytes)
+abbrev pub HasFault : Peer → List ℕ → Fault → Type 0
+HasFault peer bytes BadLine = HasBadStartLine peer (take head_limit bytes)
+HasFault peer bytes BadHeader = HasStartLine peer (take head_limit bytes) (λ rest. BreaksHeaders rest BadHeader)
+HasFault peer bytes BadLength = HasStartLine peer (take head_limit bytes) (λ rest. BreaksHeaders rest BadLength)
+HasFault peer bytes BodyTooLong = HasStartLine peer (take head_limit bytes) (λ rest. BreaksHeaders rest BodyTooLong)
+HasFault peer bytes HeadTooLong = GoesOn peer (take head_limit bytes) × (head_limit ≤ length bytes)
 
 -- a head that may still go on
-abbrev pub IsUnfinished : List ℕ → Type 0
-IsUnfinished bytes = GoesOn bytes × (length bytes < head_limit)
+abbrev pub IsUnfinished : Peer → List ℕ → Type 0
+IsUnfinished peer bytes = GoesOn peer bytes × (length bytes < head_limit)

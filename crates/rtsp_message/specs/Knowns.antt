@@ -13,18 +13,19 @@ use Rattle.rtsp_message.specs.declared.judging.Judged.TheVariants as judges
 use Rattle.rtsp_message.specs.Limits.{head_limit, waiting_limit}
 use Rattle.rtsp_message.specs.Headers.{value_of}
 use Rattle.rtsp_message.specs.Lengths.{announced, body_len, field_fault}
-use Rattle.rtsp_message.specs.Lines.{IsRequestLine, IsHeaderLine}
-use Rattle.rtsp_message.specs.Heads.{joined, AreHeaders, IsBadHeader, IsHead}
+use Rattle.rtsp_message.specs.declared.peer.Peer.{Peer}
+use Rattle.rtsp_message.specs.Lines.{IsStartLine, IsHeaderLine}
+use Rattle.rtsp_message.specs.Heads.{joined, AreHeaders, IsBadHeader, IsHeadFrom}
 use Rattle.rtsp_message.specs.Stores.{between}
-use Rattle.rtsp_message.specs.Stream.{is_pad, BeginsMessage, BeginsFrame, EndsAs, Waits, Fails}
+use Rattle.rtsp_message.specs.Stream.{is_pad, BeginsMessage, BeginsFrame, EndsAsFrom, Waits, Fails}
 
 -- The header fields announce this length; where they announce none, none of them is a Content-Length field.
 pub record Tell (headers : List Header) (told : Option ℕ) : Type 0 where
   pub length_is : announced headers ≡ told
   pub none : told ≡ None → value_of headers (codes "Content-Length") ≡ None
 
--- A request line, and header lines whose fields announce this length.
-pub record AreGoodLines (bytes : List ℕ) (told : Option ℕ) : Type 0 where
+-- A start line, and header lines whose fields announce this length.
+pub record AreGoodLines (peer : Peer) (bytes : List ℕ) (told : Option ℕ) : Type 0 where
   pub first : List ℕ
   pub method : List ℕ
   pub uri : List ℕ
@@ -33,7 +34,7 @@ pub record AreGoodLines (bytes : List ℕ) (told : Option ℕ) : Type 0 where
   pub headers : List Header
   pub whole : bytes ≡ ended first ++ joined lines
   pub first_unbroken : HasNoLf first
-  pub request_line : IsRequestLine (said first) method uri version
+  pub request_line : IsStartLine peer (said first) method uri version
   pub are_headers : AreHeaders [] lines headers
   pub tell : Tell headers told
 
@@ -51,38 +52,38 @@ pub record IsFirstLineStart (bytes : List ℕ) (searched : ℕ) : Type 0 where
   pub none_found : HasNoLf (between bytes 0 searched)
 
 -- A message begins with these lines, and after them no LF was found so far.
-pub record IsFieldsStart (bytes : List ℕ) (line searched : ℕ) (told : Option ℕ) : Type 0 where
+pub record IsFieldsStart (peer : Peer) (bytes : List ℕ) (line searched : ℕ) (told : Option ℕ) : Type 0 where
   pub begins : BeginsMessage bytes
-  pub good : AreGoodLines (take line bytes) told
+  pub good : AreGoodLines peer (take line bytes) told
   pub short : line ≤ head_limit
   pub in_order : line ≤ searched
   pub within : searched ≤ length bytes
   pub none_found : HasNoLf (between bytes line searched)
 
 -- A message of this length begins with this head.
-pub record IsMessageStart (bytes : List ℕ) (head len : ℕ) : Type 0 where
+pub record IsMessageStart (peer : Peer) (bytes : List ℕ) (head len : ℕ) : Type 0 where
   pub begins : BeginsMessage bytes
   pub within : head ≤ length bytes
   pub request : Request
-  pub is_head : IsHead (take head bytes) request
+  pub is_head : IsHeadFrom peer (take head bytes) request
   pub len_is : len ≡ head + body_len request.headers
 
 -- what is known of the bytes is so
-abbrev pub IsKnown : List ℕ → Known → Type 0
-IsKnown bytes knows.Nothing = Unit {0}
-IsKnown bytes knows.Dollar = BeginsFrame bytes
-IsKnown bytes (knows.Frame len) = IsFrameStart bytes len
-IsKnown bytes (knows.FirstLine searched) = IsFirstLineStart bytes searched
-IsKnown bytes (knows.Fields line searched told) = IsFieldsStart bytes line searched told
-IsKnown bytes (knows.Message head len) = IsMessageStart bytes head len
+abbrev pub IsKnown : Peer → List ℕ → Known → Type 0
+IsKnown peer bytes knows.Nothing = Unit {0}
+IsKnown peer bytes knows.Dollar = BeginsFrame bytes
+IsKnown peer bytes (knows.Frame len) = IsFrameStart bytes len
+IsKnown peer bytes (knows.FirstLine searched) = IsFirstLineStart bytes searched
+IsKnown peer bytes (knows.Fields line searched told) = IsFieldsStart peer bytes line searched told
+IsKnown peer bytes (knows.Message head len) = IsMessageStart peer bytes head len
 
 -- what was found at the front of the bytes is so
-abbrev pub IsLook : List ℕ → Look → Type 0
-IsLook bytes looks.Pad = (0 < length bytes) × (is_pad (slice_index bytes 0) ≡ true)
-IsLook bytes (looks.Frame len) = FrameBegins bytes len
-IsLook bytes (looks.Message head len) = (len ≤ length bytes) × IsMessageStart bytes head len
-IsLook bytes (looks.Bad fault) = EndsAs bytes (Fails fault)
-IsLook bytes (looks.Waits known) = EndsAs bytes (Waits bytes) × (length bytes < waiting_limit) × IsKnown bytes known
+abbrev pub IsLook : Peer → List ℕ → Look → Type 0
+IsLook peer bytes looks.Pad = (0 < length bytes) × (is_pad (slice_index bytes 0) ≡ true)
+IsLook peer bytes (looks.Frame len) = FrameBegins bytes len
+IsLook peer bytes (looks.Message head len) = (len ≤ length bytes) × IsMessageStart peer bytes head len
+IsLook peer bytes (looks.Bad fault) = EndsAsFrom peer bytes (Fails fault)
+IsLook peer bytes (looks.Waits known) = EndsAsFrom peer bytes (Waits bytes) × (length bytes < waiting_limit) × IsKnown peer bytes known
 
 -- At most so many looks it took to know that: one at the first byte, three more at the head of a frame; in a head one at
 -- each byte in search of an LF, and one at each byte of a judged line.

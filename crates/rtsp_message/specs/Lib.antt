@@ -11,5 +11,7 @@ pub mod Parts
 pub mod ReaderStates
 pub mod Readers
 pub mod Reply
+pub mod Statuses
+pub mod ServerStream
 pub mod Intakes
 pub mod IntakeFields

@@ -1,6 +1,7 @@
 //! Whole frames at the front of a stream, cut out of one block.
 ghost use Rattle.std.specs.Prelude.{◌≡◌, ◌*◌, ◌<◌, ◌≤◌, length, take, drop, IfOk, IfSome};
 ghost use Rattle.interleaved.specs.Frame.{IsFrame};
+ghost use Rattle.rtsp_message.specs.declared.peer.Peer.{Peer};
 ghost use Rattle.rtsp_message.specs.Stream.{ReadsSoFar};
 ghost use Rattle.rtsp_message.specs.Parts.{AreFew};
 
@@ -44,7 +45,7 @@ pub fn frames_at(bytes: &[u8], most: usize, most_bytes: usize) -> Frames
 /// The frames of a piece that is whole frames and nothing else. It is copied into a block once, and the data of each frame is
 /// a part of that. `None` if the piece holds anything else.
 pub fn cut_frames(alloc: Global, piece: &[u8]) -> Result<Option<Vec<Unit>>, AllocError>
-    ensures reads { IfOk result (λ found. IfSome found (λ units. ReadsSoFar piece.now units.items (length piece.now))) }
+    ensures reads { IfOk result (λ found. IfSome found (λ units. (peer : Peer) → ReadsSoFar peer piece.now units.items (length piece.now))) }
     ensures few { IfOk result (λ found. IfSome found (λ units. 4 * length units.items ≤ length piece.now)) }
 {
     let frames = frames_at(piece, usize::MAX, usize::MAX);
@@ -61,7 +62,7 @@ fn parts_of(
     block: &bytes::Bytes,
     count: usize,
 ) -> Result<Option<Vec<Unit>>, AllocError>
-    ensures reads { IfOk result (λ found. IfSome found (λ units. ReadsSoFar block.now units.items (length block.now))) }
+    ensures reads { IfOk result (λ found. IfSome found (λ units. (peer : Peer) → ReadsSoFar peer block.now units.items (length block.now))) }
     ensures few { IfOk result (λ found. IfSome found (λ units. 4 * length units.items ≤ length block.now)) }
 {
     let mut units = Vec::with_capacity(alloc, count)?;

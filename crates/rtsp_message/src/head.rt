@@ -1,8 +1,8 @@
 //! The head of a message, read from the front of a stream.
 ghost use Rattle.std.specs.Prelude.{◌≡◌, ◌<◌, None, length, take, IfOk, MatchResult};
 ghost use Rattle.rtsp_message.specs.declared.headers.Header.{Header};
-ghost use Rattle.rtsp_message.specs.Lines.{IsRequestLine, IsHeaderLine};
-ghost use Rattle.rtsp_message.specs.Heads.{GoesOn, IsBadHeader, HasRequestLine};
+ghost use Rattle.rtsp_message.specs.Lines.{IsHeaderLine};
+ghost use Rattle.rtsp_message.specs.Heads.{GoesOn, IsBadHeader};
 ghost use Rattle.rtsp_message.specs.Headers.{cseq_of};
 ghost use Rattle.rtsp_message.specs.Lengths.{field_fault, length_fault as fault_in_length};
 ghost use Rattle.rtsp_message.specs.Fronts.{IsHeadFront, IsBlock};
@@ -10,7 +10,8 @@ ghost use Rattle.rtsp_message.specs.Limits.{head_limit};
 
 use crate::fault::Fault;
 use crate::headers::{Header, Headers, announced, header_value};
-use crate::lines::{RequestLine, read_header_line, read_request_line};
+use crate::lines::{StartLine, read_header_line, read_start_line};
+use crate::peer::Peer;
 use crate::request::Request;
 use crate::{MAX_BODY, MAX_HEAD};
 use base_syntax::{Bytes, first_line, is_numeral, is_same_name, read_number};
@@ -26,7 +27,7 @@ pub enum HeadFront {
     Unfinished,
 }
 
-/// What stands after a request line.
+/// What stands after a start line.
 #[derive(Drop)]
 pub enum HeaderBlock {
     /// Header fields and the empty line that ends a head, `len` bytes in all.
@@ -35,15 +36,16 @@ pub enum HeaderBlock {
     Unfinished,
 }
 
-/// Reads the head at the front of the bytes (RFC 2326, 6). It looks at no more than the first `MAX_HEAD` bytes.
-pub fn read_head(alloc: Global, bytes: &[u8]) -> Result<HeadFront, AllocError>
-    ensures { IfOk result (IsHeadFront bytes.now) }
+/// Reads the head of a message from this peer at the front of the bytes (RFC 2326, 6 and 7). It looks at no more than the first
+/// `MAX_HEAD` bytes.
+pub fn read_head(alloc: Global, peer: Peer, bytes: &[u8]) -> Result<HeadFront, AllocError>
+    ensures { IfOk result (IsHeadFront peer bytes.now) }
 {
     let window = head_window(bytes);
     let Some((line, rest)) = first_line(window) else {
-        return Ok(unfinished(bytes));
+        return Ok(unfinished(peer, bytes));
     };
-    let Some(start) = read_request_line(line) else {
+    let Some(start) = read_start_line(peer, line) else {
         return Ok(HeadFront::Bad(Fault::BadLine));
     };
     match read_headers(alloc, rest)? {
@@ -53,7 +55,7 @@ pub fn read_head(alloc: Global, bytes: &[u8]) -> Result<HeadFront, AllocError>
             Ok(HeadFront::Whole { request, len })
         }
         HeaderBlock::Bad(fault) => Ok(HeadFront::Bad(fault)),
-        HeaderBlock::Unfinished => Ok(unfinished(bytes)),
+        HeaderBlock::Unfinished => Ok(unfinished(peer, bytes)),
     }
 }
 
@@ -69,9 +71,9 @@ fn head_window(bytes: &[u8]) -> &[u8]
 }
 
 /// A head that goes on: more of it may come, unless it is too long already.
-fn unfinished(bytes: &[u8]) -> HeadFront
-    requires { GoesOn (take head_limit bytes.now) }
-    ensures { IsHeadFront bytes.now result }
+fn unfinished(peer: Peer, bytes: &[u8]) -> HeadFront
+    requires { GoesOn peer (take head_limit bytes.now) }
+    ensures { IsHeadFront peer bytes.now result }
 {
     let is_long = bytes.len() >= MAX_HEAD;
     if is_long {
@@ -139,11 +141,7 @@ pub fn length_fault(before: Option<u32>, value: &[u8]) -> Option<Fault>
     }
 }
 
-fn new_request(
-    alloc: Global,
-    start: RequestLine<'_>,
-    headers: Headers,
-) -> Result<Request, AllocError>
+fn new_request(alloc: Global, start: StartLine<'_>, headers: Headers) -> Result<Request, AllocError>
     ensures method { IfOk result (λ request. request.method ≡ start.entry.method.now) }
     ensures uri { IfOk result (λ request. request.uri ≡ start.entry.uri.now) }
     ensures version { IfOk result (λ request. request.version ≡ start.entry.version.now) }

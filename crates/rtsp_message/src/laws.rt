@@ -4,7 +4,9 @@ ghost use Rattle.std.specs.Prelude.{◌≡◌, ◌++◌, [], List, ℕ};
 ghost use Rattle.std.specs.List.{concat};
 ghost use Rattle.rtsp_message.specs.declared.unit.Unit.{Unit as StreamUnit};
 ghost use Rattle.rtsp_message.specs.declared.fault.Fault.{Fault};
-ghost use Rattle.rtsp_message.specs.Stream.{Ending, Waits, Fails, Reads, ReadsOn, ReadsPieces};
+ghost use Rattle.rtsp_message.specs.declared.peer.Peer.TheVariants.{Server};
+ghost use Rattle.rtsp_message.specs.Stream.{Ending, Waits, Fails, IsUnitFrom, Reads, ReadsOn, ReadsPieces};
+ghost use Rattle.rtsp_message.specs.ServerStream.{IsReceived, received};
 
 /// A stream reads in one way: its units, the bytes that wait and the fault are determined.
 pub fn one_reading()
@@ -20,4 +22,9 @@ pub fn readings_compose()
 /// Whatever the pieces are that a stream comes in, it reads as its bytes do in one piece.
 pub fn any_pieces()
     ensures { (pieces : List (List ℕ)) (units : List StreamUnit) (e : Ending) → ReadsPieces (Waits []) pieces units e → Reads (concat pieces) units e }
+{}
+
+/// What a client receives from a server: the bytes of a unit are those of what is made of it, a reply, a request or a frame.
+pub fn servers()
+    ensures { (bytes : List ℕ) (content : StreamUnit) → IsUnitFrom Server bytes content → IsReceived bytes (received content) }
 {}

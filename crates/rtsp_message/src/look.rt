@@ -1,6 +1,7 @@
 //! What stands at the front of a stream, told from what is known of it and the bytes that came since.
 ghost use Rattle.std.specs.Prelude.{◌≡◌, ◌+◌, ◌-◌, ◌*◌, ◌<◌, ◌≤◌, length, take, drop, IfSome, IfNone};
 ghost use Rattle.base_syntax.specs.Lines.{HasNoLf};
+ghost use Rattle.rtsp_message.specs.declared.peer.Peer.{Peer};
 ghost use Rattle.rtsp_message.specs.Limits.{head_limit};
 ghost use Rattle.rtsp_message.specs.Stream.{is_pad as is_pad_byte, BeginsFrame, BeginsMessage};
 ghost use Rattle.rtsp_message.specs.Stores.{IsFirstLf, LooksOnly};
@@ -10,37 +11,38 @@ use crate::MAX_HEAD;
 use crate::fault::Fault;
 use crate::judging::{Judged, judge_line};
 use crate::known::{Known, Look};
-use crate::lines::read_request_line;
+use crate::lines::read_start_line;
+use crate::peer::Peer;
 use crate::store::Store;
 use base_syntax::without_cr;
 use interleaved::{FRAME_HEAD, frame_len};
 
-/// Tells what stands at this place of the stream.
-pub fn look(store: &mut Store, from: usize, known: Known) -> Look
+/// Tells what stands at this place of the stream of this peer.
+pub fn look(store: &mut Store, peer: Peer, from: usize, known: Known) -> Look
     requires some { from < length store.old.bytes }
-    requires known { IsKnown (drop from store.old.bytes) known }
-    ensures found { IsLook (drop from store.old.bytes) result }
+    requires known { IsKnown peer (drop from store.old.bytes) known }
+    ensures found { IsLook peer (drop from store.old.bytes) result }
     ensures counts { LooksOnly store.old store.new (looks_for known) (looks_to_find (length (drop from store.old.bytes)) result) }
 {
     let size = store.len() - from;
     match known {
-        Known::Nothing => look_first(store, from),
+        Known::Nothing => look_first(store, peer, from),
         Known::Dollar => look_frame_head(store, from),
         Known::Frame { len } => look_frame(size, len),
-        Known::FirstLine { searched } => look_first_line(store, from, searched),
+        Known::FirstLine { searched } => look_first_line(store, peer, from, searched),
         Known::Fields {
             line,
             searched,
             told,
-        } => look_fields(store, from, line, searched, told),
+        } => look_fields(store, peer, from, line, searched, told),
         Known::Message { head, len } => look_message(size, head, len),
     }
 }
 
 /// Tells what stands at a place where nothing was looked at.
-fn look_first(store: &mut Store, from: usize) -> Look
+fn look_first(store: &mut Store, peer: Peer, from: usize) -> Look
     requires { from < length store.old.bytes }
-    ensures found { IsLook (drop from store.old.bytes) result }
+    ensures found { IsLook peer (drop from store.old.bytes) result }
     ensures counts { LooksOnly store.old store.new 0 (looks_to_find (length (drop from store.old.bytes)) result) }
 {
     let first = store.at(from);
@@ -50,7 +52,7 @@ fn look_first(store: &mut Store, from: usize) -> Look
     if first == b'$' {
         look_frame_head(store, from)
     } else {
-        look_first_line(store, from, 0)
+        look_first_line(store, peer, from, 0)
     }
 }
 
@@ -58,7 +60,7 @@ fn look_first(store: &mut Store, from: usize) -> Look
 fn look_frame_head(store: &mut Store, from: usize) -> Look
     requires start { from < length store.old.bytes }
     requires begins { BeginsFrame (drop from store.old.bytes) }
-    ensures found { IsLook (drop from store.old.bytes) result }
+    ensures found { (peer : Peer) → IsLook peer (drop from store.old.bytes) result }
     ensures counts { LooksOnly store.old store.new 1 (looks_to_find (length (drop from store.old.bytes)) result) }
 {
     let size = store.len() - from;
@@ -96,18 +98,18 @@ fn look_message(size: usize, head: usize, len: usize) -> Look
 }
 
 /// Tells what a message is that begins here, where no LF stands below `searched`.
-fn look_first_line(store: &mut Store, from: usize, searched: usize) -> Look
+fn look_first_line(store: &mut Store, peer: Peer, from: usize, searched: usize) -> Look
     requires start { from < length store.old.bytes }
     requires known { IsFirstLineStart (drop from store.old.bytes) searched }
-    ensures found { IsLook (drop from store.old.bytes) result }
+    ensures found { IsLook peer (drop from store.old.bytes) result }
     ensures counts { LooksOnly store.old store.new (1 + searched) (looks_to_find (length (drop from store.old.bytes)) result) }
 {
     let size = store.len() - from;
     let Some(end) = line_end(store, from, searched) else {
         return unended(size, Known::FirstLine { searched: size });
     };
-    match read_request_line(without_cr(store.line(from, from + end))) {
-        Some(_) => look_fields(store, from, end + 1, end + 1, None),
+    match read_start_line(peer, without_cr(store.line(from, from + end))) {
+        Some(_) => look_fields(store, peer, from, end + 1, end + 1, None),
         None => Look::Bad(Fault::BadLine),
     }
 }
@@ -115,14 +117,15 @@ fn look_first_line(store: &mut Store, from: usize, searched: usize) -> Look
 /// Tells what a message is that begins here with lines below `line` that are good, and has no LF from there to `searched`.
 fn look_fields(
     store: &mut Store,
+    peer: Peer,
     from: usize,
     mut line: usize,
     mut searched: usize,
     mut told: Option<u32>,
 ) -> Look
     requires start { from < length store.old.bytes }
-    requires known { IsFieldsStart (drop from store.old.bytes) line searched told }
-    ensures found { IsLook (drop from store.old.bytes) result }
+    requires known { IsFieldsStart peer (drop from store.old.bytes) line searched told }
+    ensures found { IsLook peer (drop from store.old.bytes) result }
     ensures counts { LooksOnly store.old store.new (1 + searched + line) (looks_to_find (length (drop from store.old.bytes)) result) }
 {
     let size = store.len() - from;

@@ -1,75 +1,38 @@
-//! A stream read in the pieces that it comes in.
-ghost use Rattle.std.specs.Prelude.{◌≡◌, ◌+◌, ◌*◌, ◌<◌, ◌≤◌, ◌++◌, [], length, drop, OnOk, OnErr, IfOk, IfSome};
-ghost use Rattle.rtsp_message.specs.Stream.{Waits, ReadsOn, fault_of, waiting_len, IsScan};
-ghost use Rattle.rtsp_message.specs.Stores.{counted, LooksOnly};
-ghost use Rattle.rtsp_message.specs.Knowns.{IsKnown, looks_for};
-ghost use Rattle.rtsp_message.specs.ReaderStates.{left, read_len, IsRead, NeedsMore};
+//! A client's stream, read in the pieces that it comes in.
+ghost use Rattle.std.specs.Prelude.{◌≡◌, ◌*◌, ◌<◌, ◌≤◌, [], length, OnOk, OnErr, IfOk, IfSome};
+ghost use Rattle.rtsp_message.specs.Stream.{Waits, ReadsOn, fault_of, waiting_len};
+ghost use Rattle.rtsp_message.specs.Stores.{counted};
+ghost use Rattle.rtsp_message.specs.ReaderStates.{NeedsMore};
 
-use crate::cutting::{cut_frame, cut_message};
 use crate::fault::Fault;
-use crate::frames::cut_frames;
-use crate::known::{Known, Look};
-use crate::look::look;
-use crate::store::Store;
-use crate::unit::Unit;
-use interleaved::FRAME_HEAD;
+use crate::peer::Peer;
+use crate::peer_reader::{Fed, PeerReader};
 use std::alloc::{AllocError, Global};
 use std::marker::Model;
 
-/// What a piece of the stream has brought.
-#[derive(Drop)]
-pub struct Fed {
-    /// The units that are whole now, in their order.
-    pub units: Vec<Unit>,
-    /// Why the stream can't be read on. It comes after the units.
-    pub fault: Option<Fault>,
-}
-
-/// Reads the units of a stream, in whatever pieces its bytes come (RFC 2326, 4, 6 and 10.12).
+/// Reads the units of a client's stream, in whatever pieces its bytes come (RFC 2326, 4, 6 and 10.12).
 ///
 /// It keeps the bytes that wait for more, fewer than 73,728 of them, in at most twice the room that they need, and what it
 /// knows of them, so that it doesn't look at them again for each piece. Once there was a fault it keeps that alone, and no
 /// room.
 pub struct Reader {
-    store: Store,
-    known: Known,
-    fed: u64,
-    fault: Option<Fault>,
+    stream: PeerReader,
 }
 
 impl Model for Reader {
-    ghost use Rattle.rtsp_message.specs.ReaderStates.{ReaderState};
+    ghost use Rattle.rtsp_message.specs.ReaderStates.{ReaderState, IsClients};
 
     ghost Value = { ReaderState };
 
-    ghost use Rattle.rtsp_message.specs.Readers.{state_of, IsReader};
+    ghost view = { λ r. r.stream.state };
 
-    ghost view = { state_of };
-
-    ghost invariant = { IsReader };
+    ghost invariant = { λ r. IsClients r.stream };
 }
 
 impl Drop for Reader {
     fn drop(self) {
-        let Reader {
-            store: _,
-            known: _,
-            fed: _,
-            fault: _,
-        } = self;
+        let Reader { stream: _ } = self;
     }
-}
-
-/// The units at the front of some bytes, and how far they go.
-#[derive(Drop)]
-struct Scan {
-    units: Vec<Unit>,
-    /// The bytes that the units take, and those between them.
-    len: usize,
-    /// What is known of the bytes after them.
-    known: Known,
-    /// What is wrong with the bytes after them.
-    fault: Option<Fault>,
 }
 
 impl Reader {
@@ -77,10 +40,7 @@ impl Reader {
         ensures { result ≡ record { reading = Waits []; looked = 0; fed = 0; room = 0 } }
     {
         Reader {
-            store: Store::new(alloc),
-            known: Known::Nothing,
-            fed: 0,
-            fault: None,
+            stream: PeerReader::new(alloc, Peer::Client),
         }
     }
 
@@ -88,7 +48,7 @@ impl Reader {
     pub fn fault(&self) -> Option<Fault>
         ensures { result ≡ fault_of self.now.reading }
     {
-        self.fault
+        self.stream.fault()
     }
 
     /// How many bytes wait for more, none once a fault was answered.
@@ -96,19 +56,14 @@ impl Reader {
         ensures value { result ≡ waiting_len self.now.reading }
         ensures most { result < 73_728 }
     {
-        self.store.len()
+        self.stream.waiting()
     }
 
     /// At least how many bytes more the frame needs that is under way. `None` if none is.
     pub(crate) fn missing(&self) -> Option<usize>
         ensures { IfSome result (NeedsMore self.now.reading) }
     {
-        let len = match self.known {
-            Known::Dollar => FRAME_HEAD,
-            Known::Frame { len } => len,
-            _ => return None,
-        };
-        Some(len.saturating_sub(self.store.len()))
+        self.stream.missing()
     }
 
     /// How many looks at bytes were made. The count stays at 2^64 - 1 once it is there.
@@ -116,14 +71,14 @@ impl Reader {
         ensures value { result ≡ self.now.looked }
         ensures most { result ≤ 6 * self.now.fed }
     {
-        self.store.looked()
+        self.stream.looked()
     }
 
     /// How many bytes were fed and not refused. The count stays at 2^64 - 1 once it is there.
     pub fn fed(&self) -> u64
         ensures { result ≡ self.now.fed }
     {
-        self.fed
+        self.stream.fed()
     }
 
     /// For how many bytes the reader holds memory: at most twice as many as wait for more.
@@ -131,7 +86,7 @@ impl Reader {
         ensures value { result ≡ self.now.room }
         ensures bound { result ≤ 2 * waiting_len self.now.reading }
     {
-        self.store.room()
+        self.stream.room()
     }
 
     /// Reads on with the next piece of the stream.
@@ -149,146 +104,6 @@ impl Reader {
         ensures fed { OnOk result (self.new.fed ≡ counted self.old.fed (length piece.now)) }
         ensures err { OnErr result (self.new ≡ self.old) }
     {
-        let alloc = self.store.allocator();
-        let fed = self.fed.saturating_add(piece.len() as u64);
-        if let Some(fault) = self.fault {
-            self.fed = fed;
-            return Ok(Fed {
-                units: Vec::new(alloc),
-                fault: Some(fault),
-            });
-        }
-        if self.store.len() == 0 {
-            if let Some(units) = cut_frames(alloc, piece)? {
-                // Twice at the four bytes of each head.
-                self.store.count(8 * units.len());
-                self.fed = fed;
-                return Ok(Fed { units, fault: None });
-            }
-        }
-        let scan = read_piece(alloc, &mut self.store, self.known, piece)?;
-        let Scan {
-            units,
-            known,
-            fault,
-            ..
-        } = scan;
-        self.known = known;
-        self.fed = fed;
-        self.fault = fault;
-        Ok(Fed { units, fault })
+        self.stream.feed(piece)
     }
-}
-
-/// Puts the piece after what waits and reads on. What is refused leaves the store as it was.
-fn read_piece(
-    alloc: Global,
-    store: &mut Store,
-    known: Known,
-    piece: &[u8],
-) -> Result<Scan, AllocError>
-    requires known { IsKnown store.old.bytes known }
-    requires room { store.old.room ≤ 2 * length store.old.bytes }
-    ensures ok { IfOk result (λ scan. IsRead (store.old.bytes ++ piece.now) store.old.looked store.new known scan.units.items scan.fault scan.known) }
-    ensures err { OnErr result (store.new ≡ store.old) }
-{
-    let len = store.len();
-    let looked = store.looked();
-    let before = store.put(piece)?;
-    match read_on(alloc, store, known) {
-        Ok(scan) => Ok(scan),
-        Err(error) => {
-            store.take_back(before, len);
-            store.back_to(looked);
-            Err(error)
-        }
-    }
-}
-
-/// Reads units from the front of the store, and keeps what comes after them.
-fn read_on(alloc: Global, store: &mut Store, known: Known) -> Result<Scan, AllocError>
-    requires known { IsKnown store.old.bytes known }
-    requires room { store.old.room ≤ 2 * length store.old.bytes }
-    ensures ok { IfOk result (λ scan. IsRead store.old.bytes store.old.looked store.new known scan.units.items scan.fault scan.known) }
-    ensures bytes { OnErr result (store.new.bytes ≡ store.old.bytes) }
-    ensures room { OnErr result (store.new.room ≡ store.old.room) }
-{
-    let scan = read_units(alloc, store, known)?;
-    keep_rest(store, scan.len, scan.fault)?;
-    Ok(scan)
-}
-
-/// Lets the first bytes go, and after a fault all of them. Where no unit was cut out, the bytes stay where they are.
-fn keep_rest(store: &mut Store, len: usize, fault: Option<Fault>) -> Result<(), AllocError>
-    requires within { len ≤ length store.old.bytes }
-    requires room { store.old.room ≤ 2 * length store.old.bytes }
-    ensures bytes { OnOk result (store.new.bytes ≡ left fault (drop len store.old.bytes)) }
-    ensures room { OnOk result (store.new.room ≤ 2 * length store.new.bytes) }
-    ensures looked { store.new.looked ≡ store.old.looked }
-    ensures err { OnErr result (store.new ≡ store.old) }
-{
-    if fault.is_some() {
-        store.clear();
-        return Ok(());
-    }
-    if len > 0 {
-        store.cut(len)?;
-    }
-    Ok(())
-}
-
-/// Reads units from the front of the bytes, as far as they are whole.
-fn read_units(alloc: Global, store: &mut Store, known: Known) -> Result<Scan, AllocError>
-    requires { IsKnown store.old.bytes known }
-    ensures scan { IfOk result (λ scan. IsScan store.old.bytes scan.units.items scan.len scan.fault) }
-    ensures known { IfOk result (λ scan. IsKnown (left scan.fault (drop scan.len store.old.bytes)) scan.known) }
-    ensures counts { IfOk result (λ scan. LooksOnly store.old store.new (looks_for known) (6 * read_len (length store.old.bytes) scan.len scan.fault + looks_for scan.known)) }
-    ensures bytes { store.new.bytes ≡ store.old.bytes }
-    ensures room { store.new.room ≡ store.old.room }
-{
-    let mut units = Vec::new(alloc);
-    let mut len = 0;
-    let mut known = known;
-    while len < store.len() {
-        match look(store, len, known) {
-            Look::Pad => {
-                len += 1;
-                known = Known::Nothing;
-            }
-            Look::Frame { len: size } => {
-                let frame = cut_frame(alloc, store, len, size)?;
-                units.push(Unit::Frame(frame))?;
-                len += size;
-                known = Known::Nothing;
-            }
-            Look::Message { head, len: size } => {
-                let request = cut_message(alloc, store, len, head, size)?;
-                units.push(Unit::Message(request))?;
-                len += size;
-                known = Known::Nothing;
-            }
-            Look::Bad(fault) => {
-                return Ok(Scan {
-                    units,
-                    len,
-                    known: Known::Nothing,
-                    fault: Some(fault),
-                });
-            }
-            Look::Waits(known) => {
-                return Ok(Scan {
-                    units,
-                    len,
-                    known,
-                    fault: None,
-                });
-            }
-        }
-    }
-    Ok(Scan {
-        units,
-        len,
-        known,
-        fault: None,
-    })
 }

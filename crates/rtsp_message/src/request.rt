@@ -3,6 +3,7 @@ ghost use Rattle.std.specs.Prelude.{◌≡◌, IfOk};
 ghost use Rattle.std.specs.Option.{option_copied};
 
 use crate::headers::{Headers, copy_headers, header_value};
+use crate::response::{Response, read_status};
 use base_syntax::Bytes;
 use std::alloc::{AllocError, Global};
 
@@ -33,6 +34,7 @@ impl Drop for Request {
 
 impl Request {
     ghost use Rattle.rtsp_message.specs.Headers.{value_of};
+    ghost use Rattle.rtsp_message.specs.ServerStream.{response_of};
 
     /// The value of the first header field of that name, whatever the case of its ASCII letters.
     pub fn header(&self, name: &[u8]) -> Option<&Bytes>
@@ -53,5 +55,27 @@ impl Request {
             headers: copy_headers(alloc, &self.headers)?,
             body: Bytes::from_slice(alloc, self.body.as_slice())?,
         })
+    }
+
+    /// The reply that it is, if its start line is a status line.
+    pub(crate) fn into_response(self) -> Response
+        ensures { result ≡ response_of self }
+    {
+        let Request {
+            method,
+            uri,
+            version,
+            cseq,
+            headers,
+            body,
+        } = self;
+        Response {
+            version: method,
+            status: read_status(uri.as_slice()),
+            reason: version,
+            cseq,
+            headers,
+            body,
+        }
     }
 }

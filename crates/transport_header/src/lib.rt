@@ -20,6 +20,6 @@ pub use chosen::{Chosen, choose, put_transport};
 pub use point::Point;
 pub use read::read_transport;
 pub use rtp_info::{InfoEntry, put_rtp_info};
-pub use session::{put_session, read_session};
+pub use session::{put_session, read_session, read_session_timeout};
 pub use spec::{ChannelPair, Mode, Protocol, Spec};
 pub use track_channels::{MOST_TRACKS, TrackChannels};

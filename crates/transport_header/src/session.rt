@@ -1,9 +1,10 @@
 //! The Session header (RFC 2326, 3.4 and 12.37).
 ghost use Rattle.std.specs.Prelude.{◌≡◌, ◌+◌, ◌<◌, ◌++◌, OnOk, OnErr, vec_len, vec_capacity, false};
-ghost use Rattle.transport_header.specs.Session.{eight_digits, identifier_text, identifier_in};
+ghost use Rattle.transport_header.specs.Session.{eight_digits, identifier_text, identifier_in, timeout_in};
 ghost use Rattle.std.specs.Fmt.{digit_glyph};
 
-use base_syntax::{cut, trim};
+use crate::parameter::parameter;
+use base_syntax::{cut, cut_unquoted, read_number, trim};
 use std::alloc::AllocError;
 
 // The hexadecimal digit of a number below 16, in lower case.
@@ -58,4 +59,16 @@ pub fn read_session(text: &[u8]) -> &[u8]
     ensures { result.now ≡ identifier_in text.now }
 {
     trim(cut(text, b';').0)
+}
+
+/// Returns after how many seconds without a request the server ends the session, by a Session header's value: its parameter
+/// `timeout`, 0 to 4294967295 (RFC 2326, 12.37). `None` if there is none, or if it is no number in that range. Of several the
+/// first counts.
+#[tactic(auto, unfolding(crate::specs::Session::timeout_in))]
+pub fn read_session_timeout(text: &[u8]) -> Option<u32>
+    ensures { result ≡ timeout_in text.now }
+{
+    let (_, parameters) = cut_unquoted(text, b';');
+    let value = parameter(parameters, b"timeout")?;
+    read_number(value, 4_294_967_295)
 }

@@ -1,4 +1,4 @@
-use Rattle.std.proofs.Common.{◌+◌, List, [], ◌∷◌, length, sym, ap, subst, arith, length-append, length-take, drop}
+use Rattle.std.proofs.Common.{◌+◌, List, [], ◌∷◌, length, sym, ap, subst, arith, length-append, length-drop, length-take, drop}
 use Rattle.rtsp_message.specs.declared.unit.Unit.{Unit as StreamUnit}
 use Rattle.rtsp_message.specs.declared.unit.Unit.TheVariants.{Frame}
 use Rattle.rtsp_message.specs.Stream.{ReadsSoFar}
@@ -15,6 +15,7 @@ loop-from-preserved c =
     let frame = rw c.in-Some.is at c.in_ok-frame.ensures.frame in
     let pushed = c.in_ok-push.ensures.items in
     let size = length-append c.loop-from.units.items (content ∷ []) in (
-      subst (λ (us : List StreamUnit). ReadsSoFar block us (from + len)) (sym pushed) (unit_more content len c.loop-from.invariant.0 within frame),
+      λ peer. subst (λ (us : List StreamUnit). ReadsSoFar peer block us (from + len)) (sym pushed) (unit_more peer content len (c.loop-from.invariant.0 peer) within frame),
       omega (arith, c.loop-from.invariant.1, ap length pushed, size, ap length frame.2, length-take len (drop from block)),
+      omega (arith, within, length-drop from block, c.loop-from.invariant.2),
     )

@@ -7,4 +7,4 @@ use Rattle.rtsp_message.proofs.head.unfinished.Goals as goal
 pub returns-else-is_long : goal.returns-else-is_long
 returns-else-is_long c =
     let short : length c.args.bytes.now ≤ head_limit = omega arith in
-    (subst GoesOn (take_all head_limit c.args.bytes.now short) c.requires, c.if-is_long.false)
+    (subst (GoesOn c.args.peer) (take_all head_limit c.args.bytes.now short) c.requires, c.if-is_long.false)

@@ -14,9 +14,9 @@ pub returns-in-Empty-clause-found : goal.returns-in-Empty-clause-found
 returns-in-Empty-clause-found c =
     let bytes = drop c.args.from c.args.store.now.bytes in
     let end = c.in-Some.end in
-    let start = next_empty bytes c.loop-end.line c.loop-end.searched end c.without_cr.result.now c.loop-end.invariant.0 c.in-Some.ensures.some.1 (next (goal.at.returns-in-Empty-clause-found c).After-judge_line) c.in-Empty.ensures in
-    let message : IsMessageStart bytes (end + 1) (end + 1 + c.unwrap_or.result) = subst (λ n. IsMessageStart bytes (end + 1) (end + 1 + n)) (sym c.unwrap_or.ensures) start in
-    message_looked bytes (end + 1) (end + 1 + c.unwrap_or.result) (c.len.result - c.args.from) c.look_message.result message (omega (arith, length-drop c.args.from c.args.store.now.bytes)) c.look_message.ensures.whole c.look_message.ensures.waits
+    let start = next_empty c.args.peer bytes c.loop-end.line c.loop-end.searched end c.without_cr.result.now c.loop-end.invariant.0 c.in-Some.ensures.some.1 (next (goal.at.returns-in-Empty-clause-found c).After-judge_line) c.in-Empty.ensures in
+    let message : IsMessageStart c.args.peer bytes (end + 1) (end + 1 + c.unwrap_or.result) = subst (λ n. IsMessageStart c.args.peer bytes (end + 1) (end + 1 + n)) (sym c.unwrap_or.ensures) start in
+    message_looked c.args.peer bytes (end + 1) (end + 1 + c.unwrap_or.result) (c.len.result - c.args.from) c.look_message.result message (omega (arith, length-drop c.args.from c.args.store.now.bytes)) c.look_message.ensures.whole c.look_message.ensures.waits
 
 pub returns-in-Empty-clause-counts : goal.returns-in-Empty-clause-counts
 returns-in-Empty-clause-counts c =
@@ -28,14 +28,14 @@ returns-in-Empty-clause-counts c =
 
 pub returns-in-Bad-clause-found : goal.returns-in-Bad-clause-found
 returns-in-Bad-clause-found c =
-    next_bad (drop c.args.from c.args.store.now.bytes) c.loop-end.line c.loop-end.searched c.in-Some.end c.without_cr.result.now c.in-Bad.fault c.loop-end.invariant.0 c.in-Some.ensures.some.1
+    next_bad c.args.peer (drop c.args.from c.args.store.now.bytes) c.loop-end.line c.loop-end.searched c.in-Some.end c.without_cr.result.now c.in-Bad.fault c.loop-end.invariant.0 c.in-Some.ensures.some.1
     (next (goal.at.returns-in-Bad-clause-found c).After-judge_line) c.in-Bad.ensures
 
 pub loop-end-preserved : goal.loop-end-preserved
 loop-end-preserved c =
     let end = c.in-Some.end in
     let line = next (goal.at.loop-end-preserved c).After-judge_line in (
-      next_good (drop c.args.from c.args.store.now.bytes) c.loop-end.line c.loop-end.searched end c.without_cr.result.now c.loop-end.invariant.0 c.in-Some.ensures.some.1 line c.in-Header.ensures,
+      next_good c.args.peer (drop c.args.from c.args.store.now.bytes) c.loop-end.line c.loop-end.searched end c.without_cr.result.now c.loop-end.invariant.0 c.in-Some.ensures.some.1 line c.in-Header.ensures,
       looks_add c.args.store.now c.loop-end.store c.line_end.new.store c.line.follows.lender-at-none _ _ _ _ (c.args.from + end - (c.args.from + c.loop-end.line)) _ _
           c.loop-end.invariant.1 c.in-Some.ensures.counts c.line.follows.holds-at-none (omega (arith, line.low)),
     )
@@ -43,7 +43,7 @@ loop-end-preserved c =
 pub returns-clause-found : goal.returns-clause-found
 returns-clause-found c =
     let bytes = drop c.args.from c.args.store.now.bytes in
-    fields_looked bytes c.loop-end.line c.loop-end.searched (c.len.result - c.args.from) c.unended.result c.loop-end.invariant.0
+    fields_looked c.args.peer bytes c.loop-end.line c.loop-end.searched (c.len.result - c.args.from) c.unended.result c.loop-end.invariant.0
     (rw c.loop-end.invariant.1.bytes at c.in_default.ensures.none) (omega (arith, length-drop c.args.from c.args.store.now.bytes)) c.unended.ensures.long c.unended.ensures.short
 
 pub returns-clause-counts : goal.returns-clause-counts
