@@ -1,6 +1,6 @@
 -- No parameter of a field that is read has a control character in its value.
-use Rattle.std.proofs.Common.{◌≡◌, ◌==◌, ℕ, Bool, true, false, cond, List, [], ◌∷◌, ◌++◌, Option, None, Some, length, refl, sym, subst, ◌∙◌, ⊎_elim}
-use Rattle.std.specs.Prelude.{nat_lt, IfSome, codes}
+use Rattle.std.proofs.Common.{◌≡◌, ◌==◌, ℕ, Bool, true, false, cond, List, [], ◌∷◌, ◌++◌, Option, None, Some, refl, sym, subst, ◌∙◌, ⊎_elim}
+use Rattle.std.specs.Prelude.{IfSome, codes}
 use Rattle.std.specs.List.{AllByRecursion, flat_map}
 use Rattle.std.specs.Option.{option_and_then, option_map}
 use Rattle.std.proofs.lemmas.Bool.{cases_Bool, cond-false, cond-true}
@@ -78,8 +78,7 @@ flat_clean made h [] = tt
 flat_clean made h (text ∷ texts) = append_clean (made text) (flat_map made texts) (h text) (flat_clean made h texts)
 
 field_clean : (field : List ℕ) → AllClean (field_items field)
-field_clean field =
-    either (nat_lt 4096 (length field)) [] (flat_map items_in (pieces field)) tt (flat_clean items_in (λ piece. text_clean (trimmed piece)) (pieces field))
+field_clean field = flat_clean items_in (λ piece. text_clean (trimmed piece)) (pieces field)
 
 -- the challenge
 named_clean : (name : List ℕ) (all : List Item) → AllClean all → (value : List ℕ) → value_named name all ≡ Some value → HasNoControl value

@@ -1,5 +1,8 @@
+pub mod Appended
+pub mod BareValues
 pub mod CleanItems
 pub mod CleanValues
+pub mod Counts
 pub mod Cutting
 pub mod Firsts
 pub mod Joined

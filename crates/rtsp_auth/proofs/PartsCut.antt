@@ -1,7 +1,7 @@
 -- The parts of a field are its pieces.
-use Rattle.std.proofs.Common.{◌≡◌, ◌≤◌, ◌==◌, ℕ, Bool, true, false, List, [], ◌∷◌, ◌++◌, Option, None, Some, length, map, refl, ap, sym, subst, ◌∙◌, ⊎_elim}
+use Rattle.std.proofs.Common.{◌≡◌, ◌==◌, ℕ, Bool, true, false, List, [], ◌∷◌, ◌++◌, Option, None, Some, map, refl, ap, sym, subst, ◌∙◌, ⊎_elim}
 use Rattle.std.specs.List.{AllByRecursion, flat_map}
-use Rattle.std.proofs.lemmas.Bool.{cond-false, le-ltb, true≢false}
+use Rattle.std.proofs.lemmas.Bool.{cond-false, true≢false}
 use Rattle.std.proofs.lemmas.Bool.Decides.{eqb_tells}
 use Rattle.base_syntax.specs.Blanks.{is_blank}
 use Rattle.rtsp_auth.specs.declared.place.Place.{Place}
@@ -10,7 +10,9 @@ use Rattle.rtsp_auth.specs.Answers.{quoted_byte}
 use Rattle.rtsp_auth.specs.Commas.{ArePieces, IsUncut, place_behind}
 use Rattle.rtsp_auth.specs.Items.{field_items, items_in}
 use Rattle.rtsp_auth.specs.Pieces.{cuts, pieces, place_after}
+use Rattle.rtsp_auth.specs.Values.{is_bare_byte}
 use Rattle.rtsp_auth.specs.Written.{AreBlanks, IsPart, IsScheme, IsValue, Part, parameter_text, part_items, part_text, parts_text, scheme_text, value_text}
+use Rattle.rtsp_auth.proofs.BareValues.{bare_byte}
 use Rattle.rtsp_auth.proofs.Joined.{only}
 use Rattle.rtsp_auth.proofs.PartsRead.{part_read}
 use Rattle.rtsp_auth.proofs.Tokens.{AreTokenBytes, comma_unfit, differs, quote_unfit}
@@ -41,6 +43,12 @@ leads_plain byte bytes no_comma no_quote k = leads_byte places.Outside places.Ou
 leads_token : (text : List ℕ) → AreTokenBytes text → Leads places.Outside text places.Outside
 leads_token [] h = leads_nothing places.Outside
 leads_token (byte ∷ bytes) h = leads_plain byte bytes (differs 44 byte comma_unfit h.0) (differs 34 byte quote_unfit h.0) (leads_token bytes h.1)
+
+leads_bare : (text : List ℕ) → AllByRecursion (λ byte. is_bare_byte byte ≡ true) text → Leads places.Outside text places.Outside
+leads_bare [] h = leads_nothing places.Outside
+leads_bare (byte ∷ bytes) h =
+    let plain = bare_byte byte h.0 in
+    leads_plain byte bytes plain.no_comma plain.no_quote (leads_bare bytes h.1)
 
 not_blank : (mark byte : ℕ) → is_blank mark ≡ false → is_blank byte ≡ true → (byte == mark) ≡ false
 not_blank mark byte unfit fit = ⊎_elim
@@ -77,7 +85,7 @@ leads_value : (is_quoted : Bool) (value : List ℕ) → IsValue is_quoted value 
 leads_value true value h =
     leads_byte places.Outside places.Quoted places.Outside 34 (flat_map quoted_byte value ++ 34 ∷ []) refl refl
     (leads_append places.Quoted places.Quoted places.Outside (flat_map quoted_byte value) (34 ∷ []) (leads_quoted value) (record { uncut = (refl, tt); behind_is = refl }))
-leads_value false value h = leads_token value h.1
+leads_value false value h = leads_bare value h.bytes
 
 leads_scheme : (scheme : Option (List ℕ)) → IsScheme scheme → Leads places.Outside (scheme_text scheme) places.Outside
 leads_scheme None h = leads_nothing places.Outside
@@ -104,5 +112,5 @@ cut_read : (parts : List Part) → AllByRecursion IsPart parts → flat_map item
 cut_read [] h = refl
 cut_read (part ∷ parts) h = ap (flat_map items_in) (only (part_text part ∷ map part_text parts) (are_pieces part parts h)) ∙ all_read (part ∷ parts) h
 
-pub field_read : (parts : List Part) → AllByRecursion IsPart parts → length (parts_text parts) ≤ 4096 → field_items (parts_text parts) ≡ flat_map part_items parts
-field_read parts h short = cond-false _ _ _ (le-ltb 4096 (length (parts_text parts)) short) ∙ cut_read parts h
+pub field_read : (parts : List Part) → AllByRecursion IsPart parts → field_items (parts_text parts) ≡ flat_map part_items parts
+field_read parts h = cut_read parts h

@@ -1,6 +1,6 @@
 -- A part of a field is read as what was written.
 use Rattle.std.proofs.Common.{◌≡◌, ℕ, Bool, true, false, List, [], ◌∷◌, ◌++◌, Option, None, Some, refl, ap, sym, ◌∙◌, arith, append_assoc, append-nil}
-use Rattle.std.specs.List.{flat_map, list_all}
+use Rattle.std.specs.List.{flat_map}
 use Rattle.std.proofs.lemmas.Bool.{cond-true, cond-false}
 use Rattle.base_syntax.specs.Blanks.{is_blank, trimmed}
 use Rattle.rtsp_auth.specs.declared.item.Item.{Item}
@@ -10,27 +10,24 @@ use Rattle.rtsp_auth.specs.Items.{item_with, items_behind, items_in, items_of_te
 use Rattle.rtsp_auth.specs.Values.{value_in}
 use Rattle.rtsp_auth.specs.Words.{behind_word, is_token_byte, word_of}
 use Rattle.rtsp_auth.specs.Written.{AreBlanks, IsPart, IsScheme, IsToken, IsValue, Part, part_items, part_text, scheme_items, scheme_text, value_text}
-use Rattle.rtsp_auth.proofs.Tokens.{AreTokenBytes, EndsBare, behind_is, differs, ends_behind, ends_token, equals_unfit, not_blank, quote_unfit, space_unfit, trimmed_bare, trimmed_between, word_is}
+use Rattle.rtsp_auth.proofs.BareValues.{all_bare, bare_byte, bare_ends, bare_start}
+use Rattle.rtsp_auth.proofs.Tokens.{EndsBare, behind_is, differs, ends_behind, equals_unfit, not_blank, space_unfit, trimmed_bare, trimmed_between, word_is}
 use Rattle.rtsp_auth.proofs.WrittenAgain.{read_again}
 
 -- a value
-all_token : (text : List ℕ) → AreTokenBytes text → list_all is_token_byte text ≡ true
-all_token [] h = refl
-all_token (byte ∷ bytes) h = rw (h.0, all_token bytes h.1) refl
-
 pub value_read : (is_quoted : Bool) (value : List ℕ) → IsValue is_quoted value → value_in (trimmed (value_text is_quoted value)) ≡ Some value
 value_read true value h =
     ap value_in (trimmed_bare 34 (flat_map quoted_byte value ++ 34 ∷ []) refl (ends_behind (34 ∷ flat_map quoted_byte value) (34 ∷ []) refl)) ∙ read_again value h
-value_read false [] h = absurd (omega arith)
+value_read false [] h = absurd (omega (arith, h.some))
 value_read false (byte ∷ bytes) h =
-    ap value_in (trimmed_bare byte bytes (not_blank byte h.1.0) (ends_token byte bytes h.1))
-    ∙ cond-false _ _ _ (differs 34 byte quote_unfit h.1.0)
-    ∙ cond-true _ _ _ (all_token (byte ∷ bytes) h.1)
+    ap value_in (trimmed_bare byte bytes (bare_start byte bytes h) (bare_ends byte bytes h))
+    ∙ cond-false _ _ _ (bare_byte byte h.bytes.0).no_quote
+    ∙ cond-true _ _ _ (all_bare (byte ∷ bytes) h.bytes)
 
 value_ends : (is_quoted : Bool) (value : List ℕ) → IsValue is_quoted value → EndsBare (61 ∷ value_text is_quoted value)
 value_ends true value h = ends_behind (61 ∷ 34 ∷ flat_map quoted_byte value) (34 ∷ []) refl
-value_ends false [] h = absurd (omega arith)
-value_ends false (byte ∷ bytes) h = ends_token byte bytes h.1
+value_ends false [] h = absurd (omega (arith, h.some))
+value_ends false (byte ∷ bytes) h = bare_ends byte bytes h
 
 -- a parameter: its text, and what is read of it
 abbrev text_of : (name : List ℕ) (is_quoted : Bool) (value : List ℕ) → List ℕ

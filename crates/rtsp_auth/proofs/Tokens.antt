@@ -77,7 +77,7 @@ pub ends_token : (byte : ℕ) (bytes : List ℕ) → AreTokenBytes (byte ∷ byt
 ends_token byte [] h = not_blank byte h.0
 ends_token byte (next ∷ bytes) h = ends_token next bytes h.1
 
-last_bare : (byte : ℕ) (bytes : List ℕ) → EndsBare (byte ∷ bytes) → is_blank (get_or (byte ∷ bytes) (length (byte ∷ bytes) - 1) 0) ≡ false
+pub last_bare : (byte : ℕ) (bytes : List ℕ) → EndsBare (byte ∷ bytes) → is_blank (get_or (byte ∷ bytes) (length (byte ∷ bytes) - 1) 0) ≡ false
 last_bare byte [] h = h
 last_bare byte (next ∷ bytes) h =
     let place : length (byte ∷ next ∷ bytes) - 1 ≡ suc (length (next ∷ bytes) - 1) = omega arith in

@@ -1,7 +1,7 @@
 -- What a field of challenges has, in order (RFC 7235, 2.1: challenge = auth-scheme [ 1*SP ( token68 / #auth-param ) ];
 -- 4.1: WWW-Authenticate = 1#challenge).
-use Rattle.std.specs.Prelude.{ℕ, ◌==◌, nat_lt, if◌then◌else◌, List, [], ◌∷◌, Option, None, Some, length, codes}
-use Rattle.std.specs.List.{flat_map}
+use Rattle.std.specs.Prelude.{ℕ, ◌==◌, Bool, nat_lt, if◌then◌else◌, List, [], ◌∷◌, Option, None, Some, length, codes}
+use Rattle.std.specs.List.{flat_map, list_any}
 use Rattle.base_syntax.specs.Blanks.{trimmed}
 use Rattle.base_syntax.specs.Names.{same_name}
 use Rattle.rtsp_auth.specs.declared.item.Item.{Item}
@@ -54,10 +54,14 @@ items_of_text (byte ∷ bytes) = items_behind (word_of (byte ∷ bytes)) (behind
 abbrev pub items_in : (piece : List ℕ) → List Item
 items_in piece = items_of_text (trimmed piece)
 
--- what a field has: one of more than 4,096 bytes is passed over
+-- what a field has
 abbrev pub field_items : (field : List ℕ) → List Item
-field_items field = if nat_lt 4096 (length field) then [] else flat_map items_in (pieces field)
+field_items field = flat_map items_in (pieces field)
 
 -- several fields are as one, with commas between them (RFC 7230, 3.2.2)
 abbrev pub fields_items : (fields : List (List ℕ)) → List Item
 fields_items fields = flat_map field_items fields
+
+-- a field of a server has more than 4,096 bytes
+abbrev pub has_long : (fields : List (List ℕ)) → Bool
+has_long fields = list_any (λ field. nat_lt 4096 (length field)) fields

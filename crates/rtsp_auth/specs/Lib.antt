@@ -3,13 +3,16 @@ pub mod Attempts
 pub mod Choices
 pub mod Clean
 pub mod Commas
+pub mod Credentials
 pub mod Digest
+pub mod Faults
 pub mod First
 pub mod Fronts
 pub mod Items
 pub mod Parameters
 pub mod Pieces
 pub mod Plain
+pub mod Trials
 pub mod Values
 pub mod Words
 pub mod Written

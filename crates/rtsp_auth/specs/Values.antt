@@ -1,11 +1,10 @@
--- The value of a parameter: token / quoted-string (RFC 7235, 2.1).
-use Rattle.std.specs.Prelude.{ℕ, ◌==◌, Bool, true, false, if◌then◌else◌, List, [], ◌∷◌, Option, None, Some}
+-- The value of a parameter: token / quoted-string (RFC 7235, 2.1), or a text without quotes that is no token.
+use Rattle.std.specs.Prelude.{ℕ, ◌==◌, ◌&&◌, not, Bool, true, false, if◌then◌else◌, List, [], ◌∷◌, Option, None, Some}
 use Rattle.std.specs.Char.{is_ascii_control}
 use Rattle.std.specs.List.{list_all}
 use Rattle.std.specs.Option.{option_map}
 use Rattle.rtsp_auth.specs.declared.values.Mark.{Mark}
 use Rattle.rtsp_auth.specs.declared.values.Mark.TheVariants as marks
-use Rattle.rtsp_auth.specs.Words.{is_token_byte}
 
 -- what a byte after an opening quote is: a backslash makes the next byte one of the value (RFC 7230, 3.2.6: qdtext, quoted-pair)
 abbrev pub mark_of : (is_escaped : Bool) → ℕ → Mark
@@ -37,10 +36,16 @@ unquoted_from is_escaped (byte ∷ bytes) =
 abbrev pub unquoted : List ℕ → Option (List ℕ)
 unquoted text = unquoted_from false text
 
-abbrev pub token_in : List ℕ → Option (List ℕ)
-token_in text = if list_all is_token_byte text then Some text else None
+-- A byte of a value without quotes. RFC 7235 has a token there. Cameras write a realm with blanks so, as `realm=IP Camera`: the value ends at
+-- the comma, and blanks in it are a part of it. It has no control character, no comma, no double quote and no equals sign: with one of
+-- these it could be more than one value, as if a comma is missing in `realm=IP Camera nonce=1`.
+abbrev pub is_bare_byte : ℕ → Bool
+is_bare_byte byte = ((not (is_ascii_control byte) && not (byte == 34)) && not (byte == 44)) && not (byte == 61)
+
+abbrev pub bare_in : List ℕ → Option (List ℕ)
+bare_in text = if list_all is_bare_byte text then Some text else None
 
 -- the value that a text spells, without the quotes and the backslashes of a quoted string
 abbrev pub value_in : List ℕ → Option (List ℕ)
 value_in [] = None
-value_in (byte ∷ bytes) = if byte == 34 then unquoted bytes else token_in (byte ∷ bytes)
+value_in (byte ∷ bytes) = if byte == 34 then unquoted bytes else bare_in (byte ∷ bytes)

@@ -2,11 +2,12 @@
 use Rattle.std.specs.Prelude.{◌≡◌, ◌<◌, ℕ, Bool, true, false, List, [], ◌∷◌, ◌++◌, Option, None, Some, length, map, codes}
 use Rattle.std.specs.Char.{is_ascii_control}
 use Rattle.std.specs.List.{AllByRecursion, flat_map, join_with_byte}
-use Rattle.base_syntax.specs.Blanks.{is_blank}
+use Rattle.base_syntax.specs.Blanks.{HasBareEnds, is_blank}
 use Rattle.rtsp_auth.specs.declared.item.Item.{Item}
 use Rattle.rtsp_auth.specs.declared.item.Item.TheVariants as items
 use Rattle.rtsp_auth.specs.Answers.{quoted_byte}
 use Rattle.rtsp_auth.specs.Items.{scheme_of}
+use Rattle.rtsp_auth.specs.Values.{is_bare_byte}
 use Rattle.rtsp_auth.specs.Words.{is_token_byte}
 
 -- token = 1*tchar
@@ -28,6 +29,12 @@ pub record Part : Type 0 where
   pub value : List ℕ
   pub back : List ℕ
 
+-- One or more bytes of a value without quotes, with no blank at the ends. RFC 7235 has tokens, which are such texts.
+pub record IsBare (value : List ℕ) : Type 0 where
+  pub some : 0 < length value
+  pub bytes : AllByRecursion (λ byte. is_bare_byte byte ≡ true) value
+  pub ends : HasBareEnds value
+
 -- token / quoted-string
 abbrev pub value_text : (is_quoted : Bool) (value : List ℕ) → List ℕ
 value_text true value = codes "\"" ++ (flat_map quoted_byte value ++ codes "\"")
@@ -38,7 +45,7 @@ abbrev pub scheme_text : Option (List ℕ) → List ℕ
 scheme_text None = []
 scheme_text (Some scheme) = scheme ++ codes " "
 
--- auth-param = token "=" ( token / quoted-string )
+-- auth-param = token "=" ( token / quoted-string ), where a text with blanks may be in place of a token
 abbrev pub parameter_text : Part → List ℕ
 parameter_text part = part.name ++ (codes "=" ++ value_text part.is_quoted part.value)
 
@@ -55,7 +62,7 @@ IsScheme (Some scheme) = IsToken scheme
 
 abbrev pub IsValue : (is_quoted : Bool) (value : List ℕ) → Type 0
 IsValue true value = HasNoControl value
-IsValue false value = IsToken value
+IsValue false value = IsBare value
 
 -- The part can be written.
 pub record IsPart (part : Part) : Type 0 where

@@ -1,178 +1,104 @@
-//! What requests are sent with, and which 401 is answered.
-ghost use Rattle.std.specs.Prelude.{◌≡◌, ◌++◌, IfOk, OnOk, OnErr};
+//! Which 401 is answered.
+ghost use Rattle.std.specs.Prelude.{◌≡◌, ◌++◌, ◌⊎◌, false, Some, IfOk, IfErr, OnOk, OnErr};
 ghost use Rattle.std.specs.Bool.{OnTrue, OnFalse};
-ghost use Rattle.rtsp_auth.specs.declared.attempt.Attempt.TheVariants as attempts;
-ghost use Rattle.rtsp_auth.specs.Answers.{digest_text};
-ghost use Rattle.rtsp_auth.specs.Attempts.{accepted, answered, field_text, has_field, is_answered, is_digest, is_renewal, one_more, sent_once_more, sent_with};
+ghost use Rattle.rtsp_auth.specs.declared.answer.Answer.TheVariants.{Nothing};
+ghost use Rattle.rtsp_auth.specs.declared.field_fault.FieldFault.TheVariants.{OutOfMemory};
+ghost use Rattle.rtsp_auth.specs.Attempts as spec;
+ghost use Rattle.rtsp_auth.specs.Faults.{IsField};
 
-use crate::basic::put_basic;
-use crate::challenge::{Challenge, DigestChallenge};
+use crate::answer::Answer;
+use crate::challenge::Challenge;
 use crate::credentials::Credentials;
-use crate::digest::put_digest;
+use crate::field_fault::FieldFault;
 use crate::request::Request;
-use std::alloc::AllocError;
+use std::mem;
 
-/// An answer of Digest that requests are sent with.
+/// What the requests of a connection are sent with, and whether a 401 for the request that was begun last is answered.
 #[derive(Debug, Drop)]
-pub struct DigestAttempt {
-    /// The challenge that is answered.
-    pub challenge: DigestChallenge,
-    /// How many requests were sent with its nonce, `nc` of the last one (RFC 7616, 3.4). It stays at 2^32 - 1.
-    pub count: u32,
-    /// Whether the request was sent with another nonce before, and refused.
-    pub is_renewed: bool,
+pub struct Attempt {
+    /// What requests are sent with.
+    pub answer: Answer,
+    /// Whether a 401 for the request that was begun last was answered. Then no other 401 for it is.
+    pub is_spent: bool,
 }
 
-/// What the requests of a connection are sent with.
-#[derive(Debug, Drop)]
-pub enum Attempt {
-    /// No Authorization field.
-    Nothing,
-    /// User name and password, as they are.
-    Basic,
-    /// An answer to this challenge of Digest.
-    Digest(DigestAttempt),
-}
-
-/// Returns whether the server wants the same password with another nonce.
-fn is_renewal(sent: &DigestChallenge, challenge: &DigestChallenge) -> bool
-    ensures { result ≡ is_renewal sent.now challenge.now }
+/// Returns whether an answer to a challenge may go to the host of a request.
+fn may_go(challenge: &Challenge, credentials: &Credentials, request: &Request) -> bool
+    ensures { result ≡ spec.may_go challenge.now credentials.now request.now }
 {
-    challenge.is_stale || sent.nonce.as_slice() != challenge.nonce.as_slice()
-}
-
-impl DigestAttempt {
-    /// Returns whether a challenge that refuses it is answered.
-    fn is_answered(&self, challenge: &Challenge) -> bool
-        ensures { result ≡ is_answered (attempts.Digest self.now) challenge.now }
-    {
-        match challenge {
-            Challenge::Basic => false,
-            Challenge::Digest(challenge) => !self.is_renewed
-                && is_renewal(&self.challenge, challenge),
-        }
-    }
-
-    /// Returns how many requests were sent with the nonce of a challenge.
-    fn sent_with(&self, challenge: &DigestChallenge) -> u32
-        ensures { result ≡ sent_with (attempts.Digest self.now) challenge.now }
-    {
-        if self.challenge.nonce.as_slice() == challenge.nonce.as_slice() {
-            self.count
-        } else {
-            0
-        }
-    }
-
-    /// Appends the answer for one more request. After an error `out` and the count are as before.
-    fn put(
-        &mut self,
-        out: &mut Vec<u8>,
-        credentials: &Credentials,
-        request: &Request,
-        cnonce: &[u8],
-    ) -> Result<(), AllocError>
-        ensures sent { OnOk result (self.new ≡ one_more self.old) }
-        ensures text { OnOk result (out.new.items ≡ out.old.items ++ digest_text self.new.challenge credentials.now request.now self.new.count cnonce.now) }
-        ensures unsent { OnErr result (self.new ≡ self.old) }
-        ensures err { OnErr result (out.new.items ≡ out.old.items) }
-    {
-        let count = self.count.saturating_add(1);
-        put_digest(out, &self.challenge, credentials, request, count, cnonce)?;
-        self.count = count;
-        Ok(())
+    match challenge {
+        Challenge::Basic => credentials.is_for(request.host),
+        Challenge::Digest(_) => true,
     }
 }
 
 impl Attempt {
-    /// Returns whether a challenge is answered that comes with a 401 for a request sent so.
-    fn is_answered(&self, challenge: &Challenge) -> bool
-        ensures { result ≡ is_answered self.now challenge.now }
+    /// A connection on which no request was sent.
+    pub fn new() -> Attempt
+        ensures answer { result.answer ≡ Nothing }
+        ensures begun { result.is_spent ≡ false }
     {
-        match self {
-            Attempt::Nothing => true,
-            Attempt::Basic => false,
-            Attempt::Digest(sent) => sent.is_answered(challenge),
+        Attempt {
+            answer: Answer::Nothing,
+            is_spent: false,
         }
     }
 
-    /// Returns whether it is an answer of Digest.
-    fn is_digest(&self) -> bool
-        ensures { result ≡ is_digest self.now }
+    /// Another request begins, so that its first 401 can be answered. The caller says so once for each request, and not when it sends
+    /// the request again with an answer. Without it no further 401 is answered.
+    pub fn begin(&mut self)
+        ensures { self.new ≡ spec.begun self.old }
     {
-        matches!(self, Attempt::Digest(_))
+        self.is_spent = false;
     }
 
-    /// Returns how many requests were sent with the nonce of a challenge.
-    fn sent_with(&self, challenge: &DigestChallenge) -> u32
-        ensures { result ≡ sent_with self.now challenge.now }
-    {
-        match self {
-            Attempt::Nothing => 0,
-            Attempt::Basic => 0,
-            Attempt::Digest(sent) => sent.sent_with(challenge),
-        }
-    }
-
-    /// Takes in the challenge of a 401, and returns whether the request is to be sent again with an answer to it. It is if nothing was
-    /// sent before, or a challenge of Digest is refused for its nonce: the new challenge says `stale`, or has another nonce. This
-    /// happens once, until a request is accepted (`accept`). Otherwise the password is refused, and nothing changes.
-    pub fn answer(&mut self, challenge: Challenge) -> bool
-        ensures value { result ≡ is_answered self.old challenge }
-        ensures yes { OnTrue result (self.new ≡ answered self.old challenge) }
+    /// Takes in the challenge of a 401 for a request, and returns whether the request is to be sent again with an answer to it. It is
+    /// if no 401 for this request was answered, whatever other replies came between, and either nothing was sent with the request, or a
+    /// challenge of Digest refuses it for its nonce: the new challenge says `stale`, or has another nonce. Basic is answered only if the
+    /// request goes to the host of the credentials. Otherwise the password is refused, and nothing changes.
+    pub fn answer(
+        &mut self,
+        challenge: Challenge,
+        credentials: &Credentials,
+        request: &Request,
+    ) -> bool
+        ensures value { result ≡ spec.is_answered self.old challenge credentials.now request.now }
+        ensures yes { OnTrue result (self.new ≡ spec.answered self.old challenge) }
         ensures no { OnFalse result (self.new ≡ self.old) }
     {
-        if !self.is_answered(&challenge) {
+        if self.is_spent
+            || !self.answer.is_open(&challenge)
+            || !may_go(&challenge, credentials, request)
+        {
             return false;
         }
-        *self = match challenge {
-            Challenge::Basic => Attempt::Basic,
-            Challenge::Digest(challenge) => Attempt::Digest(DigestAttempt {
-                count: self.sent_with(&challenge),
-                challenge,
-                is_renewed: self.is_digest(),
-            }),
-        };
+        let before = mem::replace(&mut self.answer, Answer::Nothing);
+        self.answer = before.after(challenge);
+        self.is_spent = true;
         true
     }
 
-    /// A request was accepted: its reply isn't a 401.
-    pub fn accept(&mut self)
-        ensures { self.new ≡ accepted self.old }
-    {
-        if let Attempt::Digest(sent) = self {
-            sent.is_renewed = false;
-        }
-    }
-
     /// Appends the value of the Authorization field of one more request. Returns whether the request has that field: if not, nothing
-    /// is appended. An answer of Digest has the count of this request, which is one more than that of the last one.
+    /// is appended. An answer of Digest has the count of this request, which is one more than that of the last one with its nonce. An
+    /// answer of Basic is written only if the request goes to the host of the credentials.
     ///
-    /// `cnonce` is what the client draws for the request (RFC 7616, 3.4). The only error is out of memory; after it `out` and the
-    /// count are as before.
+    /// `cnonce` is what the client draws for the request (RFC 7616, 3.4). The value has no byte below 0x20, no 0x7F and at most
+    /// `MOST_FIELD_BYTES`; if it can't be so, a fault names why. After a fault `out` and the count are as before.
     pub fn put_authorization(
         &mut self,
         out: &mut Vec<u8>,
         credentials: &Credentials,
         request: &Request,
         cnonce: &[u8],
-    ) -> Result<bool, AllocError>
-        ensures value { IfOk result (λ is_there. is_there ≡ has_field self.old) }
-        ensures sent { OnOk result (self.new ≡ sent_once_more self.old) }
-        ensures text { OnOk result (out.new.items ≡ out.old.items ++ field_text self.new credentials.now request.now cnonce.now) }
+    ) -> Result<bool, FieldFault>
+        ensures value { IfOk result (λ is_there. is_there ≡ spec.has_field self.old.answer credentials.now request.now) }
+        ensures sent { OnOk result (self.new ≡ spec.sent self.old) }
+        ensures text { OnOk result (out.new.items ≡ out.old.items ++ spec.field_text self.new.answer credentials.now request.now cnonce.now) }
+        ensures fits { OnOk result (IsField (spec.field_text self.new.answer credentials.now request.now cnonce.now)) }
+        ensures fault { IfErr result (λ fault. (fault ≡ OutOfMemory) ⊎ (spec.field_fault self.old.answer credentials.now request.now cnonce.now ≡ Some fault)) }
         ensures unsent { OnErr result (self.new ≡ self.old) }
         ensures err { OnErr result (out.new.items ≡ out.old.items) }
     {
-        match self {
-            Attempt::Nothing => Ok(false),
-            Attempt::Basic => {
-                put_basic(out, credentials)?;
-                Ok(true)
-            }
-            Attempt::Digest(sent) => {
-                sent.put(out, credentials, request, cnonce)?;
-                Ok(true)
-            }
-        }
+        self.answer.put(out, credentials, request, cnonce)
     }
 }

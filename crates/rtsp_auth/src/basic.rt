@@ -1,8 +1,12 @@
 //! An answer of Basic (RFC 7617).
-ghost use Rattle.std.specs.Prelude.{◌≡◌, ◌++◌, length, take, IfOk, OnOk, OnErr};
+ghost use Rattle.std.specs.Prelude.{◌≡◌, ◌++◌, ◌⊎◌, length, take, Some, IfOk, IfErr, OnOk, OnErr};
+ghost use Rattle.rtsp_auth.specs.declared.field_fault.FieldFault.TheVariants.{OutOfMemory};
 ghost use Rattle.rtsp_auth.specs.Answers.{basic_text, user_pass};
+ghost use Rattle.rtsp_auth.specs.Faults.{IsField, text_fault};
 
 use crate::credentials::Credentials;
+use crate::field_fault::FieldFault;
+use crate::settling::settle;
 use base64::engine::general_purpose::STANDARD;
 use std::alloc::{AllocError, Global};
 
@@ -30,15 +34,15 @@ fn write_basic(out: &mut Vec<u8>, credentials: &Credentials) -> Result<(), Alloc
     out.extend_from_slice(encoded.as_bytes())
 }
 
-/// Appends the answer. The only error is out of memory; after it `out` is as before.
-pub(crate) fn put_basic(out: &mut Vec<u8>, credentials: &Credentials) -> Result<(), AllocError>
+/// Appends the answer. After an error `out` is as before.
+#[tactic(auto, using(crate::proofs::Appended::appended))]
+pub(crate) fn put_basic(out: &mut Vec<u8>, credentials: &Credentials) -> Result<(), FieldFault>
     ensures ok { OnOk result (out.new.items ≡ out.old.items ++ basic_text credentials.now) }
+    ensures fits { OnOk result (IsField (basic_text credentials.now)) }
+    ensures fault { IfErr result (λ fault. (fault ≡ OutOfMemory) ⊎ (text_fault (basic_text credentials.now) ≡ Some fault)) }
     ensures err { OnErr result (out.new.items ≡ out.old.items) }
 {
     let before = out.len();
     let written = write_basic(out, credentials);
-    if written.is_err() {
-        out.truncate(before);
-    }
-    written
+    settle(out, before, written)
 }

@@ -1,4 +1,6 @@
 //! Challenges of a server that can be answered.
+ghost use Rattle.std.specs.Prelude.{◌≡◌};
+
 use crate::algorithm::Algorithm;
 use base_syntax::Bytes;
 
@@ -19,6 +21,15 @@ pub struct DigestChallenge {
     pub has_qop: bool,
     /// Whether the server says that the refused answer was right, but for a nonce that is too old.
     pub is_stale: bool,
+}
+
+impl DigestChallenge {
+    /// Returns its nonce.
+    pub(crate) fn into_nonce(self) -> Bytes
+        ensures { result ≡ self.nonce }
+    {
+        self.nonce
+    }
 }
 
 /// A challenge that can be answered.

@@ -1,11 +1,13 @@
 //! Which challenge is answered.
-ghost use Rattle.std.specs.Prelude.{◌≡◌, IfOk};
+ghost use Rattle.std.specs.Prelude.{◌≡◌, ◌⊎◌, true, false, Err, IfOk, IfErr, OnOk};
+ghost use Rattle.rtsp_auth.specs.declared.choice_fault.ChoiceFault.TheVariants.{LongField, OutOfMemory};
 ghost use Rattle.rtsp_auth.specs.Choices.{basic_at, chosen, digest_at, first_digest, has_basic};
-ghost use Rattle.rtsp_auth.specs.Items.{fields_items};
+ghost use Rattle.rtsp_auth.specs.Items.{fields_items, has_long};
 
 use crate::challenge::Challenge;
+use crate::choice_fault::ChoiceFault;
 use crate::item::{Item, Scheme};
-use crate::items::read_fields;
+use crate::items::{has_long, read_fields};
 use crate::offer::Offer;
 use crate::parameters::has_fault;
 use base_syntax::Bytes;
@@ -79,14 +81,21 @@ fn chosen(alloc: Global, items: &[Item]) -> Result<Option<Challenge>, AllocError
 /// Digest that can be answered, or else Basic. `None` if none can be answered. `fields` are the values of these fields, in order.
 ///
 /// A challenge of Digest can be answered if it has a realm and a nonce, names no algorithm, MD5 or SHA-256, and has no `qop` or one
-/// with `auth`. A field of more than `MOST_FIELD_BYTES` is passed over. So is a challenge whose realm, nonce or opaque has more than
-/// `MOST_VALUE_BYTES`, and one with a malformed parameter: its value is neither a token nor a quoted string without control characters.
-/// Of several parameters with the same name the first counts.
+/// with `auth`. A challenge whose realm, nonce or opaque has more than `MOST_VALUE_BYTES` is passed over, and so is one with a malformed
+/// parameter: its value is no quoted string without control characters, and has no quotes and a comma, an equals sign or a control
+/// character. Of several parameters with the same name the first counts.
 ///
-/// The only error is out of memory.
-pub fn choose(alloc: Global, fields: &[Bytes]) -> Result<Option<Challenge>, AllocError>
-    ensures { IfOk result (λ challenge. challenge ≡ chosen (fields_items fields.now)) }
+/// If a field has more than `MOST_FIELD_BYTES`, the fault is `LongField`, and no other field is read in its place. The other fault is out
+/// of memory.
+pub fn choose(alloc: Global, fields: &[Bytes]) -> Result<Option<Challenge>, ChoiceFault>
+    ensures ok { IfOk result (λ challenge. challenge ≡ chosen (fields_items fields.now)) }
+    ensures short { OnOk result (has_long fields.now ≡ false) }
+    ensures long { has_long fields.now ≡ true → result ≡ Err LongField }
+    ensures fault { IfErr result (λ fault. (fault ≡ OutOfMemory) ⊎ ((fault ≡ LongField) × (has_long fields.now ≡ true))) }
 {
+    if has_long(fields) {
+        return Err(ChoiceFault::LongField);
+    }
     let items = read_fields(alloc, fields)?;
-    chosen(alloc, &items)
+    Ok(chosen(alloc, &items)?)
 }

@@ -1,15 +1,19 @@
 //! An answer of Digest (RFC 7616, 3.4).
-ghost use Rattle.std.specs.Prelude.{◌≡◌, ◌++◌, length, take, OnOk, OnErr};
+ghost use Rattle.std.specs.Prelude.{◌≡◌, ◌++◌, ◌⊎◌, length, take, Some, IfErr, OnOk, OnErr};
 ghost use Rattle.std.specs.Option.{option_copied};
+ghost use Rattle.rtsp_auth.specs.declared.field_fault.FieldFault.TheVariants.{OutOfMemory};
 ghost use Rattle.rtsp_auth.specs.Answers.{algorithm_name, algorithm_part, count_part, digest_text, opaque_part, request_part, user_part};
+ghost use Rattle.rtsp_auth.specs.Faults.{IsField, text_fault};
 
 use crate::algorithm::Algorithm;
 use crate::challenge::DigestChallenge;
 use crate::credentials::Credentials;
+use crate::field_fault::FieldFault;
 use crate::front::Front;
 use crate::quoting::write_quoted;
 use crate::request::Request;
 use crate::responses::response;
+use crate::settling::settle;
 use base_syntax::Bytes;
 use std::alloc::AllocError;
 
@@ -131,7 +135,8 @@ fn write_digest(
     write_count(out, challenge.has_qop, count, cnonce)
 }
 
-/// Appends the answer. The only error is out of memory; after it `out` is as before.
+/// Appends the answer. After an error `out` is as before.
+#[tactic(auto, using(crate::proofs::Appended::appended))]
 pub(crate) fn put_digest(
     out: &mut Vec<u8>,
     challenge: &DigestChallenge,
@@ -139,14 +144,13 @@ pub(crate) fn put_digest(
     request: &Request,
     count: u32,
     cnonce: &[u8],
-) -> Result<(), AllocError>
+) -> Result<(), FieldFault>
     ensures ok { OnOk result (out.new.items ≡ out.old.items ++ digest_text challenge.now credentials.now request.now count cnonce.now) }
+    ensures fits { OnOk result (IsField (digest_text challenge.now credentials.now request.now count cnonce.now)) }
+    ensures fault { IfErr result (λ fault. (fault ≡ OutOfMemory) ⊎ (text_fault (digest_text challenge.now credentials.now request.now count cnonce.now) ≡ Some fault)) }
     ensures err { OnErr result (out.new.items ≡ out.old.items) }
 {
     let before = out.len();
     let written = write_digest(out, challenge, credentials, request, count, cnonce);
-    if written.is_err() {
-        out.truncate(before);
-    }
-    written
+    settle(out, before, written)
 }

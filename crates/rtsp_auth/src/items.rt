@@ -1,8 +1,6 @@
 //! Reading the fields of challenges (RFC 7235, 2.1 and 4.1).
 ghost use Rattle.std.specs.Prelude.{◌≡◌, ◌++◌, ◌∷◌, [], IfOk, OnOk};
-ghost use Rattle.std.specs.List.{flat_map};
-ghost use Rattle.rtsp_auth.specs.Items.{field_items, fields_items, items_behind, items_in, parameter_in, parameter_item, scheme_item};
-ghost use Rattle.rtsp_auth.specs.Pieces.{pieces};
+ghost use Rattle.rtsp_auth.specs.Items.{field_items, fields_items, has_long, items_behind, items_in, parameter_in, parameter_item, scheme_item};
 
 use crate::item::{Item, Parameter, scheme_of};
 use crate::pieces::cut_piece;
@@ -11,8 +9,15 @@ use crate::words::cut_word;
 use base_syntax::{Bytes, trim};
 use std::alloc::{AllocError, Global};
 
-/// The longest field that is read, in bytes. A longer one is passed over.
+/// The longest field that is read or written, in bytes.
 pub const MOST_FIELD_BYTES: usize = 4_096;
+
+/// Returns whether a field is too long.
+pub(crate) fn has_long(fields: &[Bytes]) -> bool
+    ensures { result ≡ has_long fields.now }
+{
+    fields.iter().any(|field| field.len() > MOST_FIELD_BYTES)
+}
 
 /// Returns the start of a challenge whose scheme has this name.
 fn scheme_item(name: &[u8]) -> Item
@@ -98,16 +103,6 @@ fn push_items(items: &mut Vec<Item>, alloc: Global, piece: &[u8]) -> Result<(), 
 /// Adds what a field has.
 fn push_field(items: &mut Vec<Item>, alloc: Global, field: &[u8]) -> Result<(), AllocError>
     ensures { OnOk result (items.new.items ≡ items.old.items ++ field_items field.now) }
-{
-    if field.len() > MOST_FIELD_BYTES {
-        return Ok(());
-    }
-    push_pieces(items, alloc, field)
-}
-
-/// Adds what a field's pieces have.
-fn push_pieces(items: &mut Vec<Item>, alloc: Global, field: &[u8]) -> Result<(), AllocError>
-    ensures { OnOk result (items.new.items ≡ items.old.items ++ flat_map items_in (pieces field.now)) }
 {
     let mut rest = Some(field);
     while let Some(text) = rest {

@@ -1,10 +1,12 @@
-//! What an answer of Digest is for.
+//! What an answer is for.
 
-/// The request that an answer is for, as its request line has it (RFC 2326, 6.1).
+/// The request that an answer is for.
 #[derive(Clone, Copy, Debug, PartialEq, Eq)]
 pub struct Request<'a> {
-    /// Its method, as `DESCRIBE`.
+    /// Its method, as `DESCRIBE` (RFC 2326, 6.1).
     pub method: &'a [u8],
-    /// Its URI, byte for byte.
+    /// The URI of its request line, byte for byte.
     pub uri: &'a [u8],
+    /// The host that it is sent to: after a redirect (RFC 2326, 10.10) that of the new URL.
+    pub host: &'a [u8],
 }

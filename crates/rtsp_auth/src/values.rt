@@ -1,8 +1,8 @@
-//! Values of parameters: tokens and quoted strings (RFC 7235, 2.1; RFC 7230, 3.2.6).
+//! Values of parameters: quoted strings (RFC 7235, 2.1; RFC 7230, 3.2.6) and texts without quotes.
 ghost use Rattle.std.specs.Prelude.{◌≡◌, IfOk, map};
-ghost use Rattle.rtsp_auth.specs.Values.{closed, mark_of, token_in, unquoted, value_in};
+ghost use Rattle.std.specs.List.{list_all};
+ghost use Rattle.rtsp_auth.specs.Values.{bare_in, closed, is_bare_byte, mark_of, unquoted, value_in};
 
-use crate::words::is_word;
 use base_syntax::{Bytes, Items};
 use std::alloc::{AllocError, Global};
 
@@ -69,25 +69,39 @@ fn read_quoted(alloc: Global, text: &[u8]) -> Result<Option<Bytes>, AllocError>
     Ok(None)
 }
 
-/// Returns a token as a value.
-fn read_token(alloc: Global, text: &[u8]) -> Result<Option<Bytes>, AllocError>
-    ensures { IfOk result (λ value. value ≡ token_in text.now) }
+/// Returns whether a byte may be in a value without quotes.
+fn is_bare_byte(byte: u8) -> bool
+    ensures { result ≡ is_bare_byte byte }
 {
-    if is_word(text) {
+    !byte.is_ascii_control() && byte != b'"' && byte != b',' && byte != b'='
+}
+
+/// Returns whether each byte may be in a value without quotes.
+fn is_bare(text: &[u8]) -> bool
+    ensures { result ≡ list_all is_bare_byte text.now }
+{
+    text.iter().all(|byte| is_bare_byte(*byte))
+}
+
+/// Returns a value without quotes.
+fn read_bare(alloc: Global, text: &[u8]) -> Result<Option<Bytes>, AllocError>
+    ensures { IfOk result (λ value. value ≡ bare_in text.now) }
+{
+    if is_bare(text) {
         Ok(Some(Bytes::from_slice(alloc, text)?))
     } else {
         Ok(None)
     }
 }
 
-/// Returns the value that a text after an equals sign spells. `None` if it is neither a token nor a quoted string without control
-/// characters.
+/// Returns the value that a text after an equals sign spells: a quoted string without control characters, or a text without quotes,
+/// commas, equals signs and control characters. `None` for another text.
 pub(crate) fn read_value(alloc: Global, text: &[u8]) -> Result<Option<Bytes>, AllocError>
     ensures { IfOk result (λ value. value ≡ value_in text.now) }
 {
     match text {
         [] => Ok(None),
         [b'"', behind @ ..] => read_quoted(alloc, behind),
-        _ => read_token(alloc, text),
+        _ => read_bare(alloc, text),
     }
 }

@@ -1,6 +1,6 @@
 //! Tokens (RFC 7230, 3.2.6; RFC 2326, 15.1).
 ghost use Rattle.std.specs.Prelude.{◌≡◌, ◌≤◌, ◌==◌, length};
-ghost use Rattle.std.specs.List.{list_all, list_any, prefix_len};
+ghost use Rattle.std.specs.List.{list_any, prefix_len};
 ghost use Rattle.rtsp_auth.specs.Words.{behind_word, is_token_byte, token_marks, word_of};
 
 use base_syntax::trim;
@@ -47,11 +47,4 @@ pub(crate) fn cut_word(text: &[u8]) -> (&[u8], &[u8])
 {
     let len = word_len(text);
     (&text[..len], trim(&text[len..]))
-}
-
-/// Returns whether each byte may be in a token.
-pub(crate) fn is_word(text: &[u8]) -> bool
-    ensures { result ≡ list_all is_token_byte text.now }
-{
-    text.iter().all(|byte| is_token_byte(*byte))
 }

@@ -1,9 +1,9 @@
 -- What is read of a text isn't longer than the text.
-use Rattle.std.proofs.Common.{◌≡◌, ℕ, ◌+◌, ◌-◌, ◌<◌, ◌≤◌, Bool, true, false, if◌then◌else◌, List, [], ◌∷◌, Option, None, Some, Result, Ok, Err, length, map, filter, drop, codes, refl, sym, ap, ◌∙◌, inl, inr, arith, length-append, length-take, length-drop}
+use Rattle.std.proofs.Common.{◌≡◌, ℕ, ◌+◌, ◌-◌, ◌<◌, ◌≤◌, Bool, true, false, not, if◌then◌else◌, List, [], ◌∷◌, Option, None, Some, Result, Ok, Err, length, map, filter, drop, codes, refl, sym, ap, ◌∙◌, inl, inr, arith, length-append, length-take, length-drop}
 use Rattle.std.specs.List.{slice_split, onto_first, suffix_len, sum_by, find}
 use Rattle.std.specs.Option.{option_map}
 use Rattle.std.specs.Str.{bytes_eq}
-use Rattle.std.proofs.lemmas.Bool.{cases_Bool}
+use Rattle.std.proofs.lemmas.Bool.{and_parts, cases_Bool}
 use Rattle.std.proofs.lemmas.List.Sums.{sum_by-cons, sum_by_push}
 use Rattle.base_syntax.specs.Lines.{has_bytes}
 use Rattle.sdp.specs.Fields.{is_field, is_media, is_control, control_among}
@@ -16,7 +16,8 @@ use Rattle.source_sdp.specs.declared.reason.Reason.TheVariants.{Unreadable, Othe
 use Rattle.source_sdp.specs.declared.description.SourceDescription.{SourceDescription}
 use Rattle.source_sdp.specs.declared.sorting.Sorted.{Sorted}
 use Rattle.source_sdp.specs.Usable.{are_formats, describes_format}
-use Rattle.source_sdp.specs.Lines.{is_lf, without_padding, is_padding, lines_in}
+use Rattle.source_sdp.specs.Lines.{is_lf, without_padding, is_padding, is_kept_line, lines_in}
+use Rattle.source_sdp.specs.Control.{is_base, names_track, control_of}
 use Rattle.source_sdp.specs.Section.{Section, before_media, sections_of, whole_section}
 use Rattle.source_sdp.specs.Heading.{media_named, heading_for, heading_by, heading_of}
 use Rattle.source_sdp.specs.Sorting.{reason_after, track_of, leaving_out, taking, with_heading, with_section, sorted_from}
@@ -57,31 +58,43 @@ padding_size (line ∷ lines) =
 
 lines_size : (text : List ℕ) → size_of_lines (lines_in text) ≤ length text
 lines_size text =
-    omega (arith, kept_size is_field (map without_padding (slice_split is_lf text)), padding_size (slice_split is_lf text), split_size is_lf text)
+    omega (arith, kept_size is_kept_line (map without_padding (slice_split is_lf text)), padding_size (slice_split is_lf text), split_size is_lf text)
 
 words_size : (text : List ℕ) → size_of_lines (words text) ≤ length text
 words_size text = omega (arith, kept_size has_bytes (slice_split is_space text), split_size is_space text)
 
--- the control of lines, and those among them that describe formats
-control_size : (lines : List (List ℕ)) → size_of_text (control_among lines) ≤ size_of_lines lines
-control_size [] = omega arith
-control_size (line ∷ lines) =
-    let rest = control_size lines in
+-- the control of a session
+session_size : (lines : List (List ℕ)) → size_of_text (control_among lines) ≤ size_of_lines lines
+session_size [] = omega arith
+session_size (line ∷ lines) =
+    let rest = session_size lines in
     elim (is_control line) as (λ c. size_of_text (option_map (drop 10) (if c then Some line else find is_control lines)) ≤ size_of_lines (line ∷ lines)) [
       | true ↦ omega (arith, next_size line lines, length-drop 10 line)
       | false ↦ omega (arith, rest, next_size line lines)
     ]
 
-undescribed : (line : List ℕ) → is_control line ≡ true → describes_format line ≡ false
-undescribed line h = elim (cases_Bool (describes_format line)) [ inl described ↦ absurd (true_false (sym h ∙ (plain line described).1)) | inr other ↦ other ]
+-- the control of a track, and those of its lines that describe formats
+control_size : (lines : List (List ℕ)) → size_of_text (control_of lines) ≤ size_of_lines lines
+control_size [] = omega arith
+control_size (line ∷ lines) =
+    let rest = control_size lines in
+    elim (names_track line) as (λ c. size_of_text (option_map (drop 10) (if c then Some line else find names_track lines)) ≤ size_of_lines (line ∷ lines)) [
+      | true ↦ omega (arith, next_size line lines, length-drop 10 line)
+      | false ↦ omega (arith, rest, next_size line lines)
+    ]
 
-section_size : (lines : List (List ℕ)) → size_of_lines (filter describes_format lines) + size_of_text (control_among lines) ≤ size_of_lines lines
+undescribed : (line : List ℕ) → names_track line ≡ true → describes_format line ≡ false
+undescribed line h =
+    let control = (and_parts (is_control line) (not (is_base (drop 10 line))) h).0 in
+    elim (cases_Bool (describes_format line)) [ inl described ↦ absurd (true_false (sym control ∙ (plain line described).1)) | inr other ↦ other ]
+
+section_size : (lines : List (List ℕ)) → size_of_lines (filter describes_format lines) + size_of_text (control_of lines) ≤ size_of_lines lines
 section_size [] = omega arith
-section_size (line ∷ lines) = go (is_control line) (describes_format line) refl refl (section_size lines)
+section_size (line ∷ lines) = go (names_track line) (describes_format line) refl refl (section_size lines)
   where
-    go : (control described : Bool) → is_control line ≡ control → describes_format line ≡ described
-        → size_of_lines (filter describes_format lines) + size_of_text (control_among lines) ≤ size_of_lines lines
-        → size_of_lines (filter describes_format (line ∷ lines)) + size_of_text (control_among (line ∷ lines)) ≤ size_of_lines (line ∷ lines)
+    go : (control described : Bool) → names_track line ≡ control → describes_format line ≡ described
+        → size_of_lines (filter describes_format lines) + size_of_text (control_of lines) ≤ size_of_lines lines
+        → size_of_lines (filter describes_format (line ∷ lines)) + size_of_text (control_of (line ∷ lines)) ≤ size_of_lines (line ∷ lines)
     go true true e f rest = absurd (true_false (sym f ∙ undescribed line e))
     go true false e f rest = rw (e, f) (omega (arith, kept_size describes_format lines, next_size line lines, length-drop 10 line))
     go false true e f rest = rw (e, f) (omega (arith, rest, next_size line lines, next_size line (filter describes_format lines)))
@@ -105,7 +118,11 @@ formats_by (media ∷ port ∷ proto ∷ formats) heading e =
     omega (arith, same, next_size media (port ∷ proto ∷ formats), next_size port (proto ∷ formats), next_size proto formats)
 
 formats_size : (line : List ℕ) (heading : Heading) → heading_of line ≡ Ok heading → size_of_lines heading.formats ≤ length line
-formats_size line heading e = omega (arith, formats_by (words (drop 2 line)) heading e, words_size (drop 2 line), length-drop 2 line)
+formats_size line heading e = go (is_field line) e
+  where
+    go : (field : Bool) → (if field then heading_by (words (drop 2 line)) else Err Unreadable) ≡ Ok heading → size_of_lines heading.formats ≤ length line
+    go true f = omega (arith, formats_by (words (drop 2 line)) heading f, words_size (drop 2 line), length-drop 2 line)
+    go false f = absurd (cc)
 
 -- what sorting holds
 abbrev held : Sorted → ℕ
@@ -169,5 +186,5 @@ pub bounded : (text : List ℕ) (description : SourceDescription) → IsReading 
 bounded text description p =
     let lines : List (List ℕ) = lines_in text in
     let whole : Fits lines (record { tracks = []; left_out = [] }) 0 = all_held lines (record { tracks = []; left_out = [] }) 0 in
-    let control : size_of_text description.control ≤ size_of_lines (before_media lines) = rw p.control (control_size (before_media lines)) in
+    let control : size_of_text description.control ≤ size_of_lines (before_media lines) = rw p.control (session_size (before_media lines)) in
     omega (arith, whole, control, lines_size text, ap (sum_by size_of_track) p.tracks, ap length p.left_out)

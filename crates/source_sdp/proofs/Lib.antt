@@ -10,3 +10,6 @@ pub mod Which
 pub mod Bounds
 pub mod LineLaws
 pub mod Each
+pub mod KeptTracks
+pub mod TextSizes
+pub mod AllLeft

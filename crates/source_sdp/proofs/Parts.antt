@@ -4,8 +4,7 @@ use Rattle.std.specs.List.{before_first, onto_first, slice_split}
 use Rattle.std.proofs.lemmas.List.Splits.{slice_split_first, slice_split-cons_no}
 use Rattle.base_syntax.specs.Cuts.{HasNone, behind_first}
 use Rattle.base_syntax.proofs.Cuts.{found_or_missing}
-use Rattle.sdp.specs.Fields.{is_field}
-use Rattle.source_sdp.specs.Lines.{is_lf, without_padding, understood, lines_in}
+use Rattle.source_sdp.specs.Lines.{is_lf, without_padding, is_kept_line, kept_lines, lines_in}
 
 -- the lines of what is left of a text, if something is
 abbrev pub lines_left : Option (List ℕ) → List (List ℕ)
@@ -27,21 +26,21 @@ first_part text = elim (found_or_missing 10 text) [
   | inr r ↦ rw (r.none, r.all) (one_line text r.unbroken)
 ]
 
-pub understood-cons : (line : List ℕ) (lines : List (List ℕ)) → understood (line ∷ lines) ≡ understood (line ∷ []) ++ understood lines
-understood-cons line lines = go (is_field (without_padding line)) refl
+pub kept_lines-cons : (line : List ℕ) (lines : List (List ℕ)) → kept_lines (line ∷ lines) ≡ kept_lines (line ∷ []) ++ kept_lines lines
+kept_lines-cons line lines = go (is_kept_line (without_padding line)) refl
   where
-    go : (field : Bool) → is_field (without_padding line) ≡ field → understood (line ∷ lines) ≡ understood (line ∷ []) ++ understood lines
+    go : (kept : Bool) → is_kept_line (without_padding line) ≡ kept → kept_lines (line ∷ lines) ≡ kept_lines (line ∷ []) ++ kept_lines lines
     go true e = rw e refl
     go false e = rw e refl
 
-understood_left : (rest : Option (List ℕ)) → understood (parts_left rest) ≡ lines_left rest
-understood_left None = refl
-understood_left (Some text) = refl
+kept_lines_left : (rest : Option (List ℕ)) → kept_lines (parts_left rest) ≡ lines_left rest
+kept_lines_left None = refl
+kept_lines_left (Some text) = refl
 
--- the lines of a text are its first line, if that is understood, and those of the rest
-pub first_line : (text line : List ℕ) (rest : Option (List ℕ)) → line ≡ before_first is_lf text → rest ≡ behind_first 10 text → lines_in text ≡ understood (line ∷ []) ++ lines_left rest
+-- the lines of a text are its first line, if that is kept_lines, and those of the rest
+pub first_line : (text line : List ℕ) (rest : Option (List ℕ)) → line ≡ before_first is_lf text → rest ≡ behind_first 10 text → lines_in text ≡ kept_lines (line ∷ []) ++ lines_left rest
 first_line text line rest e f =
-    ap understood (first_part text) ∙ understood-cons (before_first is_lf text) (parts_left (behind_first 10 text))
-    ∙ ap (λ (l : List ℕ). understood (l ∷ []) ++ understood (parts_left (behind_first 10 text))) (sym e)
-    ∙ ap (λ (r : Option (List ℕ)). understood (line ∷ []) ++ understood (parts_left r)) (sym f)
-    ∙ ap (λ (ls : List (List ℕ)). understood (line ∷ []) ++ ls) (understood_left rest)
+    ap kept_lines (first_part text) ∙ kept_lines-cons (before_first is_lf text) (parts_left (behind_first 10 text))
+    ∙ ap (λ (l : List ℕ). kept_lines (l ∷ []) ++ kept_lines (parts_left (behind_first 10 text))) (sym e)
+    ∙ ap (λ (r : Option (List ℕ)). kept_lines (line ∷ []) ++ kept_lines (parts_left r)) (sym f)
+    ∙ ap (λ (ls : List (List ℕ)). kept_lines (line ∷ []) ++ ls) (kept_lines_left rest)

@@ -14,7 +14,7 @@ use Rattle.source_sdp.specs.declared.reason.Reason.TheVariants.{Unreadable, Othe
 use Rattle.source_sdp.specs.declared.sorting.Sorted.{Sorted}
 use Rattle.source_sdp.specs.declared.track.SourceTrack.{SourceTrack}
 use Rattle.source_sdp.specs.Usable.{are_formats, describes_format, is_usable, AreUsable}
-use Rattle.source_sdp.specs.Lines.{is_lf, without_padding, lines_in}
+use Rattle.source_sdp.specs.Lines.{is_lf, without_padding, is_kept_line, lines_in}
 use Rattle.source_sdp.specs.Section.{Section, before_media, sections_of}
 use Rattle.source_sdp.specs.Heading.{media_named, heading_for, heading_by, heading_of}
 use Rattle.source_sdp.specs.Sorting.{reason_after, track_of, taking, with_heading, with_section, sorted_from}
@@ -36,22 +36,31 @@ filter_passes p (x ∷ xs) = go (p x) refl (filter_passes p xs)
     go true e others = rw e (rw e others)
     go false e others = rw e others
 
-front_all : (p : List ℕ → Bool) (lines : List (List ℕ)) → list_all p lines ≡ true → list_all p (before_media lines) ≡ true
-front_all p [] h = refl
-front_all p (line ∷ lines) h =
-    let parts = and_parts (p line) (list_all p lines) h in
-    elim (is_media line) as (λ b. list_all p (if b then [] else line ∷ before_media lines) ≡ true) [ true ↦ refl | false ↦ rw parts.0 (front_all p lines parts.1) ]
+-- a line that is kept and opens no section is of the form <type>=<value>
+other_field : (line : List ℕ) → is_kept_line line ≡ true → is_media line ≡ false → is_field line ≡ true
+other_field line kept e = rw e at kept
+
+front_fields : (lines : List (List ℕ)) → list_all is_kept_line lines ≡ true → list_all is_field (before_media lines) ≡ true
+front_fields [] h = refl
+front_fields (line ∷ lines) h = go (is_media line) refl (front_fields lines parts.1)
+  where
+    parts : (is_kept_line line ≡ true) × (list_all is_kept_line lines ≡ true)
+    parts = and_parts (is_kept_line line) (list_all is_kept_line lines) h
+
+    go : (opens : Bool) → is_media line ≡ opens → list_all is_field (before_media lines) ≡ true → list_all is_field (before_media (line ∷ lines)) ≡ true
+    go true e others = rw e refl
+    go false e others = rw e (rw (other_field line parts.0 e) others)
 
 abbrev has_fields : Section → Bool
 has_fields section = list_all is_field section.lines
 
-section_fields : (lines : List (List ℕ)) → list_all is_field lines ≡ true → list_all has_fields (sections_of lines) ≡ true
+section_fields : (lines : List (List ℕ)) → list_all is_kept_line lines ≡ true → list_all has_fields (sections_of lines) ≡ true
 section_fields [] h = refl
 section_fields (line ∷ lines) h =
-    let parts = and_parts (is_field line) (list_all is_field lines) h in
+    let parts = and_parts (is_kept_line line) (list_all is_kept_line lines) h in
     let others = section_fields lines parts.1 in
     let section : Section = record { head = line; lines = before_media lines } in
-    let first : has_fields section ≡ true = front_all is_field lines parts.1 in
+    let first : has_fields section ≡ true = front_fields lines parts.1 in
     elim (is_media line) as (λ b. list_all has_fields (if b then section ∷ sections_of lines else sections_of lines) ≡ true) [ true ↦ rw first others | false ↦ others ]
 
 abbrev read_as : Media → List (List ℕ) → Bool → Bool → Result Heading Reason
@@ -73,6 +82,13 @@ formats_by [] heading e = absurd (cc)
 formats_by (media ∷ []) heading e = absurd (cc)
 formats_by (media ∷ port ∷ []) heading e = absurd (cc)
 formats_by (media ∷ port ∷ proto ∷ formats) heading e = formats_for (media_named media) proto formats heading e
+
+formats_if_read : (line : List ℕ) (heading : Heading) (field : Bool) → (if field then heading_by (words (drop 2 line)) else Err Unreadable) ≡ Ok heading → are_formats heading.formats ≡ true
+formats_if_read line heading true e = formats_by (words (drop 2 line)) heading e
+formats_if_read line heading false e = absurd (cc)
+
+formats_of : (line : List ℕ) (heading : Heading) → heading_of line ≡ Ok heading → are_formats heading.formats ≡ true
+formats_of line heading e = formats_if_read line heading (is_field line) e
 
 abbrev first_reason : Bool → Bool → Bool → Option Reason
 first_reason a b c = if a then Some SendOnly else (if b then Some NoControl else (if c then Some TooManyTracks else None))
@@ -100,7 +116,7 @@ one_more sorted place section p fields = go (heading_of section.head) refl
     taken heading e (Some reason) f = p
     taken heading e None f =
         let track : SourceTrack = track_of heading section.lines in
-        let usable : is_usable track ≡ true = usable_track heading section.lines (formats_by (words (drop 2 section.head)) heading e) fields in
+        let usable : is_usable track ≡ true = usable_track heading section.lines (formats_of section.head heading e) fields in
         record {
           each = both_pass is_usable sorted.tracks (track ∷ []) p.each (rw usable refl);
           few = omega (arith, few_before sorted.tracks section.lines f, length-append sorted.tracks (track ∷ []));
@@ -119,4 +135,4 @@ usable_from sorted place (section ∷ sections) p h =
 pub usable_in : (text : List ℕ) → AreUsable (sorted_in text).tracks
 usable_in text =
     usable_from (record { tracks = []; left_out = [] }) 0 (sections_of (lines_in text)) (record { each = refl; few = omega arith })
-    (section_fields (lines_in text) (filter_passes is_field (map without_padding (slice_split is_lf text))))
+    (section_fields (lines_in text) (filter_passes is_kept_line (map without_padding (slice_split is_lf text))))

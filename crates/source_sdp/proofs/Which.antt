@@ -5,7 +5,6 @@ use Rattle.std.specs.List.{list_any, filter_map}
 use Rattle.std.proofs.lemmas.Bool.Decides.{leb_tells}
 use Rattle.std.proofs.lemmas.List.{take_all, take_at}
 use Rattle.std.proofs.lemmas.List.Folds.{list_any-append}
-use Rattle.sdp.specs.Fields.{control_among}
 use Rattle.sdp.proofs.Cuts.{true_false}
 use Rattle.source_sdp.specs.declared.heading.Heading.{Heading}
 use Rattle.source_sdp.specs.declared.reason.Reason.{Reason}
@@ -13,6 +12,7 @@ use Rattle.source_sdp.specs.declared.reason.Reason.TheVariants.{SendOnly, NoCont
 use Rattle.source_sdp.specs.declared.sorting.Sorted.{Sorted}
 use Rattle.source_sdp.specs.declared.track.SourceTrack.{SourceTrack}
 use Rattle.source_sdp.specs.Section.{Section}
+use Rattle.source_sdp.specs.Control.{control_of}
 use Rattle.source_sdp.specs.Heading.{heading_of}
 use Rattle.source_sdp.specs.Sorting.{is_sendonly, lacks_control, reason_after, track_of, leaving_out, taking, with_heading, with_section, sorted_from, sorted_out}
 use Rattle.source_sdp.specs.Tracks.{offered_by, offered, controlled, told_apart, tracks_among}
@@ -93,7 +93,7 @@ has_room : (taken : List SourceTrack) → nat_le 16 (length taken) ≡ false →
 has_room taken h = elim (leb_tells 16 (length taken)) [ inl many ↦ absurd (true_false (sym many.0 ∙ h)) | inr less ↦ less.1 ]
 
 readable : (sorted : Sorted) (place : ℕ) (heading : Heading) (lines : List (List ℕ)) (sections : List Section) → length sorted.tracks ≤ 16 → Others (place + 1) sections
-    → (s b f : Bool) → list_any is_sendonly lines ≡ s → (is_none (control_among lines) && list_any lacks_control sorted.tracks) ≡ b → nat_le 16 (length sorted.tracks) ≡ f
+    → (s b f : Bool) → list_any is_sendonly lines ≡ s → (is_none (control_of lines) && list_any lacks_control sorted.tracks) ≡ b → nat_le 16 (length sorted.tracks) ≡ f
     → Sorts sorted place heading lines sections
 readable sorted place heading lines sections few others true b f e g h = rw e (others (leaving_out sorted place SendOnly) few)
 readable sorted place heading lines sections few others false true f e g h =
@@ -121,7 +121,7 @@ one_section sorted place section sections few others = go (heading_of section.he
         let found : offered section ≡ offered_by (Ok heading) section.lines = ap (λ (h : Result Heading Reason). offered_by h section.lines) e in
         ap (λ (h : Result Heading Reason). (sorted_from (with_heading sorted place section.lines h) (place + 1) sections).tracks) e
         ∙ readable sorted place heading section.lines sections few others (list_any is_sendonly section.lines)
-        (is_none (control_among section.lines) && list_any lacks_control sorted.tracks) (nat_le 16 (length sorted.tracks)) refl refl refl
+        (is_none (control_of section.lines) && list_any lacks_control sorted.tracks) (nat_le 16 (length sorted.tracks)) refl refl refl
         ∙ ap (with_more sorted.tracks) (sym (offered-cons (offered_by (Ok heading) section.lines) section sections found))
 
 all_sections : (sections : List Section) (place : ℕ) → Others place sections

@@ -1,6 +1,7 @@
 -- What an `m=` line of a server says (RFC 4566, 5.14: m=<media> <port> <proto> <fmt> ..).
 use Rattle.std.specs.Prelude.{ℕ, if◌then◌else◌, List, [], ◌∷◌, drop, codes, Option, None, Some, Result, Ok, Err}
 use Rattle.std.specs.Str.{bytes_eq}
+use Rattle.sdp.specs.Fields.{is_field}
 use Rattle.sdp.specs.Media.{words}
 use Rattle.source_sdp.specs.declared.media.Media.{Media}
 use Rattle.source_sdp.specs.declared.media.Media.TheVariants.{Audio, Video}
@@ -30,6 +31,6 @@ heading_by (media ∷ []) = Err Unreadable
 heading_by (media ∷ port ∷ []) = Err Unreadable
 heading_by (media ∷ port ∷ proto ∷ formats) = heading_for (media_named media) proto formats
 
--- what an `m=` line says
+-- what an `m=` line says. One with a NUL or a CR says nothing (RFC 4566, 9: byte-string).
 abbrev pub heading_of : List ℕ → Result Heading Reason
-heading_of line = heading_by (words (drop 2 line))
+heading_of line = if is_field line then heading_by (words (drop 2 line)) else Err Unreadable

@@ -1,11 +1,15 @@
 pub mod Media
 pub mod Usable
 pub mod Announced
+pub mod Kept
+pub mod Refusals
 pub mod Lines
 pub mod Section
+pub mod Control
 pub mod Reason
 pub mod Heading
 pub mod Sorting
 pub mod Tracks
+pub mod Alone
 pub mod Readings
 pub mod Sizes

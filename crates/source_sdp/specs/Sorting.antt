@@ -2,12 +2,12 @@
 use Rattle.std.specs.Prelude.{ℕ, ◌+◌, Bool, ◌&&◌, nat_le, if◌then◌else◌, List, [], ◌∷◌, ◌++◌, length, filter, codes, Option, None, Some, Result, Ok, Err, is_none}
 use Rattle.std.specs.List.{list_any}
 use Rattle.std.specs.Str.{bytes_eq}
-use Rattle.sdp.specs.Fields.{control_among}
 use Rattle.source_sdp.specs.declared.heading.Heading.{Heading}
 use Rattle.source_sdp.specs.declared.reason.Reason.{Reason}
 use Rattle.source_sdp.specs.declared.reason.Reason.TheVariants.{SendOnly, NoControl, TooManyTracks}
 use Rattle.source_sdp.specs.declared.sorting.Sorted.{Sorted}
 use Rattle.source_sdp.specs.declared.track.SourceTrack.{SourceTrack}
+use Rattle.source_sdp.specs.Control.{control_of}
 use Rattle.source_sdp.specs.Heading.{heading_of}
 use Rattle.source_sdp.specs.Section.{Section}
 use Rattle.source_sdp.specs.Usable.{describes_format}
@@ -24,7 +24,7 @@ lacks_control track = is_none track.control
 abbrev pub reason_after : List SourceTrack → (lines : List (List ℕ)) → Option Reason
 reason_after taken lines =
     if list_any is_sendonly lines then Some SendOnly
-    else (if is_none (control_among lines) && list_any lacks_control taken then Some NoControl
+    else (if is_none (control_of lines) && list_any lacks_control taken then Some NoControl
     else (if nat_le 16 (length taken) then Some TooManyTracks else None))
 
 -- the track that a section is
@@ -33,7 +33,7 @@ track_of heading lines = record {
   media = heading.media;
   formats = heading.formats;
   attributes = filter describes_format lines;
-  control = control_among lines;
+  control = control_of lines;
 }
 
 -- one more section is left out

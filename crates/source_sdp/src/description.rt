@@ -1,14 +1,20 @@
 //! The description of a server.
-ghost use Rattle.std.specs.Prelude.{◌≡◌, ◌<◌, length, IfOk};
+ghost use Rattle.std.specs.Prelude.{◌≡◌, ◌↔◌, ◌<◌, ◌≤◌, [], length, IfOk, Err};
 ghost use Rattle.source_sdp.specs.Usable.{AreUsable};
 ghost use Rattle.sdp.specs.Readings.{Reads};
 ghost use Rattle.source_sdp.specs.Announced.{announced_sections, announced_text};
+ghost use Rattle.source_sdp.specs.Kept.{kept_among};
+ghost use Rattle.source_sdp.specs.declared.announce_error.AnnounceError.TheVariants.{NoTrack, TooLong};
 
+use crate::MAX_ANNOUNCED_BYTES;
+use crate::announce_error::AnnounceError;
+use crate::keeping::keeps_track;
 use crate::left_out::LeftOut;
+use crate::room::after_tracks;
 use crate::track::SourceTrack;
 use crate::writing::write_tracks;
 use base_syntax::{Bytes, Items};
-use std::alloc::{AllocError, Global};
+use std::alloc::Global;
 
 /// What a server's description offers. It may have no track.
 #[derive(Drop)]
@@ -23,13 +29,23 @@ pub struct SourceDescription {
 }
 
 impl SourceDescription {
-    /// Returns the description that is announced for the tracks, or out of memory. If there is a track, `sdp::read` reads it as exactly
-    /// these tracks.
-    pub fn announced(&self, alloc: Global) -> Result<Vec<u8>, AllocError>
-        ensures text { IfOk result (λ text. text.items ≡ announced_text self.now.tracks) }
-        ensures accepted { 0 < length self.now.tracks → IfOk result (λ text. Reads text.items (announced_sections self.now.tracks)) }
+    /// Returns the description that is announced for the tracks that go on: those whose flag in `kept` is true, by their places. A track
+    /// without a flag doesn't go on. The controls are `trackID=0`, `trackID=1` and so on, counted over the tracks that go on, in their
+    /// order. `sdp::read` reads the text as exactly these tracks.
+    pub fn announced(&self, alloc: Global, kept: &[bool]) -> Result<Vec<u8>, AnnounceError>
+        ensures text { IfOk result (λ text. text.items ≡ announced_text (kept_among self.now.tracks kept.now)) }
+        ensures accepted { IfOk result (λ text. Reads text.items (announced_sections (kept_among self.now.tracks kept.now))) }
+        ensures fits { IfOk result (λ text. length text.items ≤ MAX_ANNOUNCED_BYTES) }
+        ensures none { (kept_among self.now.tracks kept.now ≡ []) ↔ (result ≡ Err NoTrack) }
+        ensures long { MAX_ANNOUNCED_BYTES < length (announced_text (kept_among self.now.tracks kept.now)) ↔ (result ≡ Err TooLong) }
     {
-        let text = write_tracks(alloc, self.tracks.as_slice())?;
-        Ok(text)
+        let tracks = self.tracks.as_slice();
+        if !keeps_track(tracks, kept) {
+            return Err(AnnounceError::NoTrack);
+        }
+        if after_tracks(MAX_ANNOUNCED_BYTES, tracks, kept).is_none() {
+            return Err(AnnounceError::TooLong);
+        }
+        Ok(write_tracks(alloc, tracks, kept)?)
     }
 }

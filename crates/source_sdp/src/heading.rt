@@ -6,6 +6,7 @@ ghost use Rattle.source_sdp.specs.Usable.{is_format_byte as may_stand, is_format
 ghost use Rattle.source_sdp.specs.Heading.{media_named as named, heading_for, heading_by, heading_of};
 ghost use Rattle.source_sdp.specs.declared.reason.Reason.TheVariants.{Unreadable};
 
+use crate::field::is_field;
 use crate::media::Media;
 use crate::reason::Reason;
 use crate::words::{next_word, read_words};
@@ -103,6 +104,9 @@ pub(crate) fn read_heading(
     requires { 2 ≤ length line.now }
     ensures { IfOk result (λ heading. heading ≡ heading_of line.now) }
 {
+    if !is_field(line) {
+        return Ok(Err(Reason::Unreadable));
+    }
     match find_words(&line[2..]) {
         Some((media, proto, formats)) => judge_words(alloc, media, proto, formats),
         None => Ok(Err(Reason::Unreadable)),

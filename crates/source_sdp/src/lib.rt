@@ -2,9 +2,12 @@
 //! description that is announced for it, which `sdp::read` accepts.
 #![tactic(auto)]
 
+mod announce_error;
+mod control;
 mod description;
 mod field;
 mod heading;
+mod keeping;
 pub mod laws;
 mod left_out;
 mod lines;
@@ -12,12 +15,14 @@ mod media;
 mod read_error;
 mod reading;
 mod reason;
+mod room;
 mod section;
 mod sorting;
 mod track;
 mod words;
 mod writing;
 
+pub use announce_error::AnnounceError;
 pub use description::SourceDescription;
 pub use left_out::LeftOut;
 pub use media::Media;
@@ -28,6 +33,9 @@ pub use track::SourceTrack;
 
 /// The most bytes of a description that is read.
 pub const MAX_DESCRIPTION_BYTES: usize = 65_536;
+
+/// The most bytes of a description that is announced: a relay takes no longer one.
+pub const MAX_ANNOUNCED_BYTES: usize = 65_536;
 
 /// The most tracks that are taken from a description: as many as `sdp::read` accepts.
 pub const MAX_TRACKS: usize = 16;

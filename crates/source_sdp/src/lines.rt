@@ -1,8 +1,8 @@
 //! The lines of a server's description (RFC 4566, 5).
 ghost use Rattle.std.specs.Prelude.{◌≡◌, ◌++◌, ◌∷◌, [], IfOk, OnOk};
-ghost use Rattle.source_sdp.specs.Lines.{is_padding as may_be_dropped, without_padding as unpadded, understood, lines_in};
+ghost use Rattle.source_sdp.specs.Lines.{is_padding as may_be_dropped, without_padding as unpadded, is_kept_line as may_count, kept_lines, lines_in};
 
-use crate::field::is_field;
+use crate::field::{is_field, is_media};
 use base_syntax::{Bytes, Items, cut};
 use std::alloc::{AllocError, Global};
 
@@ -24,18 +24,25 @@ fn without_padding(line: &[u8]) -> &[u8]
     &line[..end]
 }
 
-/// Adds a line, if it is understood.
+/// Whether a line is kept.
+fn is_kept_line(line: &[u8]) -> bool
+    ensures { result ≡ may_count line.now }
+{
+    is_media(line) || is_field(line)
+}
+
+/// Adds a line, if it is kept.
 fn add_line(lines: &mut Items<Bytes>, alloc: Global, line: &[u8]) -> Result<(), AllocError>
-    ensures { OnOk result (lines.new ≡ lines.old ++ understood (line.now ∷ [])) }
+    ensures { OnOk result (lines.new ≡ lines.old ++ kept_lines (line.now ∷ [])) }
 {
     let line = without_padding(line);
-    if is_field(line) {
+    if is_kept_line(line) {
         lines.push(Bytes::from_slice(alloc, line)?)?;
     }
     Ok(())
 }
 
-/// The lines of a text that are understood.
+/// The lines of a text that are kept.
 pub(crate) fn read_lines(alloc: Global, text: &[u8]) -> Result<Items<Bytes>, AllocError>
     ensures { IfOk result (λ lines. lines ≡ lines_in text.now) }
 {

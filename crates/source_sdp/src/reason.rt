@@ -6,7 +6,7 @@ use std::fmt;
 /// Why a media section is left out.
 #[derive(Clone, Copy, Debug, PartialEq, Eq, Drop)]
 pub enum Reason {
-    /// Its `m=` line names no media, port, protocol and formats (RFC 4566, 5.14).
+    /// Its `m=` line has a NUL or a CR inside, or names no media, port, protocol and formats (RFC 4566, 5.14 and 9).
     Unreadable,
     /// It is neither audio nor video.
     OtherMedia,
@@ -14,7 +14,7 @@ pub enum Reason {
     OtherProtocol,
     /// It has `a=sendonly`, so it is for the client to send (RFC 4566, 6).
     SendOnly,
-    /// It has no control, and neither has an earlier track (RFC 2326, C.1.1).
+    /// It has no control that names a track, and neither has an earlier track (RFC 2326, C.1.1).
     NoControl,
     /// `MAX_TRACKS` tracks are before it.
     TooManyTracks,

@@ -1,8 +1,6 @@
 //! The lines of a media section (RFC 4566, 5.14).
 ghost use Rattle.std.specs.Prelude.{◌≡◌, filter, IfOk};
 ghost use Rattle.std.specs.List.{list_any};
-ghost use Rattle.std.specs.Option.{option_copied};
-ghost use Rattle.sdp.specs.Fields.{control_among};
 ghost use Rattle.source_sdp.specs.Usable.{describes_format as is_attribute};
 ghost use Rattle.source_sdp.specs.Section.{before_media as front};
 ghost use Rattle.source_sdp.specs.Sorting.{is_sendonly as is_for_client};
@@ -23,18 +21,6 @@ pub(crate) fn before_media(lines: &[Bytes]) -> &[Bytes]
     lines
 }
 
-/// The value of the first control attribute (RFC 2326, C.1.1).
-pub(crate) fn find_control(lines: &[Bytes]) -> Option<&[u8]>
-    ensures { option_copied result ≡ control_among lines.now }
-{
-    for line in lines {
-        if let Some(control) = line.as_slice().strip_prefix(b"a=control:") {
-            return Some(control);
-        }
-    }
-    None
-}
-
 /// Whether a line says that the section is for the client to send.
 pub(crate) fn has_sendonly(lines: &[Bytes]) -> bool
     ensures { result ≡ list_any is_for_client lines.now }
@@ -53,14 +39,4 @@ pub(crate) fn read_attributes(alloc: Global, lines: &[Bytes]) -> Result<Items<By
         }
     }
     Ok(attributes)
-}
-
-/// The control of a section, copied.
-pub(crate) fn read_control(alloc: Global, lines: &[Bytes]) -> Result<Option<Bytes>, AllocError>
-    ensures { IfOk result (λ control. control ≡ control_among lines.now) }
-{
-    match find_control(lines) {
-        Some(control) => Ok(Some(Bytes::from_slice(alloc, control)?)),
-        None => Ok(None),
-    }
 }

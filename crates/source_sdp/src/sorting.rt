@@ -5,11 +5,12 @@ ghost use Rattle.source_sdp.specs.Section.{sections_of};
 ghost use Rattle.source_sdp.specs.Sorting.{lacks_control, reason_after as reason_for, track_of, leaving_out, taking, with_heading, with_section, sorted_out};
 
 use crate::MAX_TRACKS;
+use crate::control::{copied, track_control};
 use crate::field::is_media;
 use crate::heading::{Heading, read_heading};
 use crate::left_out::LeftOut;
 use crate::reason::Reason;
-use crate::section::{before_media, find_control, has_sendonly, read_attributes, read_control};
+use crate::section::{before_media, has_sendonly, read_attributes};
 use crate::track::SourceTrack;
 use base_syntax::{Bytes, Items};
 use std::alloc::{AllocError, Global};
@@ -34,7 +35,7 @@ fn reason_after(taken: &[SourceTrack], lines: &[Bytes]) -> Option<Reason>
 {
     if has_sendonly(lines) {
         Some(Reason::SendOnly)
-    } else if find_control(lines).is_none() && has_bare(taken) {
+    } else if track_control(lines).is_none() && has_bare(taken) {
         Some(Reason::NoControl)
     } else if taken.len() >= MAX_TRACKS {
         Some(Reason::TooManyTracks)
@@ -52,7 +53,7 @@ fn read_track(alloc: Global, heading: Heading, lines: &[Bytes]) -> Result<Source
         media,
         formats,
         attributes: read_attributes(alloc, lines)?,
-        control: read_control(alloc, lines)?,
+        control: copied(alloc, track_control(lines))?,
     })
 }
 

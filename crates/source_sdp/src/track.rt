@@ -12,6 +12,7 @@ pub struct SourceTrack {
     pub formats: Items<Bytes>,
     /// The lines that describe the formats, as they were given: `a=rtpmap`, `a=fmtp`, `a=framerate` and `a=ptime` (RFC 4566, 6).
     pub attributes: Items<Bytes>,
-    /// The value of the first `a=control` line, by which SETUP asks for the track (RFC 2326, C.1.1).
+    /// The value of the first `a=control` line that names a track, by which SETUP asks for it (RFC 2326, C.1.1). An empty value and `*`
+    /// name none: they stand for the base URL.
     pub control: Option<Bytes>,
 }

@@ -4,14 +4,29 @@ ghost use Rattle.std.specs.List.{flat_map};
 ghost use Rattle.sdp.specs.Sections.{lines_of};
 ghost use Rattle.sdp.specs.Written.{written};
 ghost use Rattle.source_sdp.specs.Announced.{announced_text, control_line, media_line, session_lines, spaced, track_lines, tracks_from};
+ghost use Rattle.source_sdp.specs.Kept.{kept_among};
 
+use crate::keeping::is_kept;
 use crate::track::SourceTrack;
 use base_syntax::Bytes;
 use itoa::Buffer;
 use std::alloc::{AllocError, Global};
 
 /// The lines before the first track. They say nothing of the source.
-const SESSION: &[u8] = b"v=0\r\no=- 0 0 IN IP4 0.0.0.0\r\ns=-\r\nc=IN IP4 0.0.0.0\r\nt=0 0\r\n";
+pub(crate) const SESSION: &[u8] =
+    b"v=0\r\no=- 0 0 IN IP4 0.0.0.0\r\ns=-\r\nc=IN IP4 0.0.0.0\r\nt=0 0\r\n";
+
+/// What an `m=` line begins with, before the media.
+pub(crate) const MEDIA: &[u8] = b"m=";
+
+/// What is between the media and the formats of an `m=` line: no port, and the protocol.
+pub(crate) const PROTOCOL: &[u8] = b" 0 RTP/AVP";
+
+/// What a control begins with, before the number of its track.
+pub(crate) const CONTROL: &[u8] = b"a=control:trackID=";
+
+/// What ends a line.
+pub(crate) const LINE_END: &[u8] = b"\r\n";
 
 /// Appends formats, each with the space before it.
 fn write_formats(out: &mut Vec<u8>, formats: &[Bytes]) -> Result<(), AllocError>
@@ -28,11 +43,11 @@ fn write_formats(out: &mut Vec<u8>, formats: &[Bytes]) -> Result<(), AllocError>
 fn write_media_line(out: &mut Vec<u8>, track: &SourceTrack) -> Result<(), AllocError>
     ensures { OnOk result (out.new.items ≡ out.old.items ++ written (media_line track.now)) }
 {
-    out.extend_from_slice(b"m=")?;
+    out.extend_from_slice(MEDIA)?;
     out.extend_from_slice(track.media.text())?;
-    out.extend_from_slice(b" 0 RTP/AVP")?;
+    out.extend_from_slice(PROTOCOL)?;
     write_formats(out, track.formats.as_slice())?;
-    out.extend_from_slice(b"\r\n")
+    out.extend_from_slice(LINE_END)
 }
 
 /// Appends lines, each with CRLF.
@@ -41,7 +56,7 @@ fn write_lines(out: &mut Vec<u8>, lines: &[Bytes]) -> Result<(), AllocError>
 {
     for line in lines {
         out.extend_from_slice(line.as_slice())?;
-        out.extend_from_slice(b"\r\n")?;
+        out.extend_from_slice(LINE_END)?;
     }
     Ok(())
 }
@@ -51,9 +66,9 @@ fn write_control(out: &mut Vec<u8>, number: usize) -> Result<(), AllocError>
     ensures { OnOk result (out.new.items ≡ out.old.items ++ written (control_line number)) }
 {
     let mut digits = Buffer::new();
-    out.extend_from_slice(b"a=control:trackID=")?;
+    out.extend_from_slice(CONTROL)?;
     out.extend_from_slice(digits.format(number).as_bytes())?;
-    out.extend_from_slice(b"\r\n")
+    out.extend_from_slice(LINE_END)
 }
 
 /// Appends the track with a number.
@@ -66,14 +81,22 @@ fn write_track(out: &mut Vec<u8>, number: usize, track: &SourceTrack) -> Result<
     Ok(())
 }
 
-/// Returns the text that is announced for tracks, in their order. The track of number k, counted from 0, has the control `trackID=k`.
-/// Each line ends with CRLF.
-pub(crate) fn write_tracks(alloc: Global, tracks: &[SourceTrack]) -> Result<Vec<u8>, AllocError>
-    ensures { IfOk result (λ out. out.items ≡ announced_text tracks.now) }
+/// Returns the text that is announced for the tracks that go on, in their order. The one of number k among them, counted from 0, has the
+/// control `trackID=k`. Each line ends with CRLF.
+pub(crate) fn write_tracks(
+    alloc: Global,
+    tracks: &[SourceTrack],
+    kept: &[bool],
+) -> Result<Vec<u8>, AllocError>
+    ensures { IfOk result (λ out. out.items ≡ announced_text (kept_among tracks.now kept.now)) }
 {
     let mut out = Vec::from_slice(alloc, SESSION)?;
-    for (number, track) in tracks.iter().enumerate() {
-        write_track(&mut out, number, track)?;
+    let mut number = 0usize;
+    for (place, track) in tracks.iter().enumerate() {
+        if is_kept(kept, place) {
+            write_track(&mut out, number, track)?;
+            number += 1;
+        }
     }
     Ok(out)
 }

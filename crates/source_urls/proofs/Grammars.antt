@@ -2,7 +2,7 @@
 use Rattle.std.proofs.Common.{◌≡◌, ℕ, false, List, [], ◌∷◌, ◌++◌, Option, None, Some, Ok, refl, subst}
 use Rattle.base_syntax.specs.Cuts.{HasNone}
 use Rattle.source_urls.specs.Grammar.{IsUser, IsWritten, user_text, written}
-use Rattle.source_urls.specs.Parts.{address, has_password, has_password_in, location, rest, user}
+use Rattle.source_urls.specs.Parts.{address, can_have_password, has_password, has_password_in, location, rest, user}
 use Rattle.source_urls.specs.Source.{accepted_port, request_uri}
 use Rattle.source_urls.proofs.Cutting.{none_back, none_from_any, none_front}
 use Rattle.source_urls.proofs.Sources.{accepted, location_splits, resource_bare, resource_ends, whole}
@@ -33,7 +33,7 @@ user_named text bare =
     (none_front 35 (location text) (rest text) (subst (HasNone 35) e.whole (resource_bare text))) e.no_slash e.no_question s.no_at bare
 
 pub parts : (text : List ℕ) (number : ℕ) → accepted_port text ≡ Ok number → IsWritten text (written text) number
-unfolding written
+unfolding written can_have_password
 parts text number h =
     let a = accepted text number h in
     let e = resource_ends text in
@@ -46,6 +46,7 @@ parts text number h =
       host = a.host;
       port = a.port;
       begins = e.begins;
+      clear = a.clear;
       bare = none_back 35 (location text) (rest text) (subst (HasNone 35) e.whole (resource_bare text));
     }
 

@@ -9,4 +9,6 @@ pub mod Grammars
 pub mod OnlyParts
 pub mod Requests
 pub mod Controls
+pub mod Schemes
+pub mod Passwords
 pub mod Targets

@@ -9,7 +9,7 @@ use Rattle.base_syntax.specs.Cuts.{HasNone, behind_first}
 use Rattle.base_syntax.specs.Names.{same_name}
 use Rattle.base_syntax.proofs.Cuts.{cut_behind, uncut}
 use Rattle.source_urls.specs.Grammar.{IsUser, IsWritten, Written, fragment_text, user_text, written}
-use Rattle.source_urls.specs.Parts.{address, fragment, has_password, has_password_in, host, host_in, location, port, resource, rest, scheme_part, user}
+use Rattle.source_urls.specs.Parts.{address, can_have_password, fragment, has_password, has_password_in, host, host_in, location, port, resource, rest, scheme_part, user}
 use Rattle.source_urls.specs.Source.{accepted_port}
 use Rattle.source_urls.proofs.Cutting.{none_any, none_append}
 use Rattle.source_urls.proofs.Hosts.{HasNoMark, host_is, host_unmarked, no_mark-append, port_form, port_unmarked}
@@ -48,6 +48,13 @@ scheme_is text w n i =
 behind_is : (text : List ℕ) (w : Written) (n : ℕ) → IsWritten text w n → drop 7 text ≡ behind_scheme w
 behind_is text w n i =
     ap (λ (m : ℕ). drop m text) (sym (seven text w n i)) ∙ front_rest text w.scheme (behind_scheme w) (whole text w n i)
+
+degrouped : (u h p r f : List ℕ) → ((u ++ (h ++ p)) ++ r) ++ f ≡ u ++ (h ++ (p ++ (r ++ f)))
+degrouped u h p r f = simp append_assoc
+
+pub behind_parts : (text : List ℕ) (w : Written) (n : ℕ) → IsWritten text w n → drop 7 text ≡ user_text w.user ++ (w.host ++ (w.port ++ (w.rest ++ fragment_text w.fragment)))
+unfolding behind_scheme location_of
+behind_parts text w n i = behind_is text w n i ∙ degrouped (user_text w.user) w.host w.port w.rest (fragment_text w.fragment)
 
 -- no mark is in the address, and none of `#`, `/` and `?` in the location
 
@@ -157,12 +164,17 @@ password_is : (text : List ℕ) (w : Written) (n : ℕ) → IsWritten text w n �
 unfolding has_password
 password_is text w n i = ap has_password_in (user_eq text w n i) ∙ no_password w.user i.user
 
+clear_is : (text : List ℕ) (w : Written) (n : ℕ) → IsWritten text w n → can_have_password text ≡ false
+unfolding can_have_password
+clear_is text w n i = rw (user_eq text w n i, port_eq text w n i, rest_is text w n i, fragment_is text w n i) i.clear
+
 pub accepted : (text : List ℕ) (w : Written) (n : ℕ) → IsWritten text w n → accepted_port text ≡ Ok n
 accepted text w n i = from_accepted text n (record {
   short = i.short;
   visible = i.visible;
   scheme = ap (λ (l : List ℕ). same_name l (codes "rtsp://")) (scheme_is text w n i) ∙ i.scheme;
   bare = password_is text w n i;
+  clear = clear_is text w n i;
   host = rw (host_eq text w n i) i.host;
   port = rw (port_eq text w n i) i.port;
 })

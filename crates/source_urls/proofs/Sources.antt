@@ -7,7 +7,7 @@ use Rattle.base_syntax.proofs.Cuts.{is_cut}
 use Rattle.source_urls.specs.declared.fault.UrlFault.{UrlFault}
 use Rattle.source_urls.specs.Grammar.{fragment_text, user_text}
 use Rattle.source_urls.specs.Host.{is_host}
-use Rattle.source_urls.specs.Parts.{address, fragment, has_bracket, has_password, has_scheme, host, location, port, resource, rest, scheme_part, user}
+use Rattle.source_urls.specs.Parts.{address, can_have_password, fragment, has_bracket, has_password, has_scheme, host, location, port, resource, rest, scheme_part, user}
 use Rattle.source_urls.specs.Port.{port_number}
 use Rattle.source_urls.specs.Source.{accepted_port, front_fault, port_or_fault, unless_fault}
 use Rattle.source_urls.specs.UriText.{has_uri_bytes, is_long}
@@ -22,6 +22,7 @@ pub record Accepted (text : List ℕ) (number : ℕ) : Type 0 where
   pub visible : has_uri_bytes text ≡ true
   pub scheme : has_scheme (codes "rtsp://") text ≡ true
   pub bare : has_password text ≡ false
+  pub clear : can_have_password text ≡ false
   pub host : is_host (host text) ≡ true
   pub port : port_number (port text) ≡ Some number
 
@@ -41,19 +42,21 @@ accepted text number h =
     let visible = guard_not (has_uri_bytes text) _ _ short.1 in
     let scheme = guard_not (has_scheme (codes "rtsp://") text) _ _ visible.1 in
     let bare = guard (has_password text) _ _ scheme.1 in
-    let named = guard_not (is_host (host text)) _ _ bare.1 in
+    let clear = guard (can_have_password text) _ _ bare.1 in
+    let named = guard_not (is_host (host text)) _ _ clear.1 in
     record {
       short = short.0;
       visible = visible.0;
       scheme = scheme.0;
       bare = bare.0;
+      clear = clear.0;
       host = named.0;
       port = has_port (port_number (port text)) number all.1;
     }
 
 pub from_accepted : (text : List ℕ) (number : ℕ) → Accepted text number → accepted_port text ≡ Ok number
 unfolding accepted_port front_fault
-from_accepted text number a = rw (a.short, a.visible, a.scheme, a.bare, a.host, a.port) refl
+from_accepted text number a = rw (a.short, a.visible, a.scheme, a.bare, a.clear, a.host, a.port) refl
 
 -- the parts of any text
 

@@ -8,6 +8,7 @@ use Rattle.base_syntax.specs.Blanks.{trimmed}
 use Rattle.source_urls.specs.declared.control_fault.ControlFault.{ControlFault}
 use Rattle.source_urls.specs.declared.control_fault.ControlFault.TheVariants as faults
 use Rattle.source_urls.specs.Parts.{has_scheme}
+use Rattle.source_urls.specs.Scheme.{has_other_scheme}
 use Rattle.source_urls.specs.UriText.{has_uri_bytes, is_long, is_slash_last, slash}
 
 -- the text, if it isn't empty
@@ -52,6 +53,7 @@ abbrev pub text_fault : (control : List ℕ) → Option ControlFault
 text_fault control =
     if is_long control then Some faults.LongControl
     else if not (has_uri_bytes control) then Some faults.BadControl
+    else if has_other_scheme control then Some faults.OtherScheme
     else None
 
 -- the first thing that is wrong with a base and a control

@@ -55,6 +55,7 @@ pub record IsWritten (text : List ℕ) (written : Written) (number : ℕ) : Type
   pub port : port_number written.port ≡ Some number
   pub begins : BeginsRest written.rest
   pub bare : HasNone 35 written.rest
+  pub clear : parts.is_unclear written.user written.port written.rest written.fragment ≡ false
 
 -- The text has the parts of a source, and they say this: the user's name is decoded (RFC 3986, 2.1), the host has no brackets, and the URI
 -- of requests has all parts but the user and the fragment.
@@ -80,6 +81,10 @@ pub record IsTarget (text : List ℕ) (target : Target) : Type 0 where
   pub alone : HasPathAlone parts
   pub host : target.host ≡ bare_host parts.host
   pub uri : target.uri ≡ text
+
+-- a URL with a user, a colon, a password of any bytes and an `@`
+abbrev pub with_password : (scheme user password behind : List ℕ) → List ℕ
+with_password scheme user password behind = scheme ++ (user ++ 58 ∷ (password ++ 64 ∷ behind))
 
 -- the parts that a source is read as
 unfoldable pub written : List ℕ → Written

@@ -4,6 +4,7 @@ pub mod Grammar
 pub mod Host
 pub mod Parts
 pub mod Port
+pub mod Scheme
 pub mod Source
 pub mod Target
 pub mod UriText

@@ -1,6 +1,6 @@
 -- The parts of a URL as it is written: "rtsp://" [user [":" password] "@"] host [":" port] path ["?" query] ["#" fragment]
 -- (RFC 2326, 3.2: rtsp_URL; RFC 1808, 2.1: the user and the fragment; 2.4: in which order the parts are found).
-use Rattle.std.specs.Prelude.{ℕ, ◌+◌, ◌==◌, Bool, false, if◌then◌else◌, List, Option, None, Some, length, take, drop, slice_index, unwrap_or}
+use Rattle.std.specs.Prelude.{ℕ, ◌+◌, ◌==◌, ◌&&◌, ◌||◌, Bool, false, not, nat_lt, is_some, if◌then◌else◌, List, Option, None, Some, length, take, drop, slice_index, unwrap_or}
 use Rattle.std.specs.List.{before_first, list_any}
 use Rattle.base_syntax.specs.Cuts.{behind_first}
 use Rattle.base_syntax.specs.Names.{same_name}
@@ -70,3 +70,20 @@ host text = host_in (address text)
 -- the port with its colon, or nothing
 unfoldable pub port : List ℕ → List ℕ
 port text = drop (length (host text)) (address text)
+
+abbrev pub has_at : List ℕ → Bool
+has_at text = list_any (λ b. b == 64) text
+
+abbrev pub fragment_has_at : (fragment : Option (List ℕ)) → Bool
+fragment_has_at None = false
+fragment_has_at (Some fragment) = has_at fragment
+
+-- Parts that may be meant as others: there is no user, a colon is behind the host, and an `@` is in the path, the query or the fragment. So
+-- `admin:12/34@host/x` has a host `admin`, a port 12 and a path `/34@host/x` (RFC 1808, 2.4), and may be meant as a user `admin` with a
+-- password `12/34`, whose slash has to be percent-encoded (RFC 3986, 3.2.1). What is behind the colon doesn't tell them apart, since a
+-- password can begin as a port does.
+abbrev pub is_unclear : (user : Option (List ℕ)) (port rest : List ℕ) (fragment : Option (List ℕ)) → Bool
+is_unclear user port rest fragment = (not (is_some user) && nat_lt 0 (length port)) && (has_at rest || fragment_has_at fragment)
+
+unfoldable pub can_have_password : List ℕ → Bool
+can_have_password text = is_unclear (user text) (port text) (rest text) (fragment text)

@@ -6,7 +6,7 @@ use Rattle.source_urls.specs.declared.fault.UrlFault.{UrlFault}
 use Rattle.source_urls.specs.declared.fault.UrlFault.TheVariants as faults
 use Rattle.source_urls.specs.declared.source.Source.{Source}
 use Rattle.source_urls.specs.Host.{bare_host, is_host}
-use Rattle.source_urls.specs.Parts.{has_password, has_scheme, host, port, rest, scheme_part, user}
+use Rattle.source_urls.specs.Parts.{can_have_password, has_password, has_scheme, host, port, rest, scheme_part, user}
 use Rattle.source_urls.specs.Port.{port_number}
 use Rattle.source_urls.specs.UriText.{has_uri_bytes, is_long}
 
@@ -21,6 +21,7 @@ front_fault text =
     else if not (has_uri_bytes text) then Some faults.BadByte
     else if not (has_scheme (codes "rtsp://") text) then Some (scheme_fault text)
     else if has_password text then Some faults.HasPassword
+    else if can_have_password text then Some faults.UnencodedPassword
     else if not (is_host (host text)) then Some faults.BadHost
     else None
 

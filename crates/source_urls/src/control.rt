@@ -6,6 +6,7 @@ ghost use Rattle.source_urls.specs.UriText.{IsRequestUri};
 
 use crate::control_fault::ControlFault;
 use crate::parts::has_scheme;
+use crate::scheme::has_other_scheme;
 use crate::uri_text::{has_uri_bytes, is_long, is_slash_last};
 use base_syntax::{Bytes, trim};
 use std::alloc::{AllocError, Global};
@@ -88,6 +89,8 @@ fn text_fault(control: &[u8]) -> Option<ControlFault>
         Some(ControlFault::LongControl)
     } else if !has_uri_bytes(control) {
         Some(ControlFault::BadControl)
+    } else if has_other_scheme(control) {
+        Some(ControlFault::OtherScheme)
     } else {
         None
     }
@@ -122,7 +125,8 @@ fn accepted_uri(alloc: Global, base: &[u8], control: Option<&[u8]>) -> Result<By
 /// Returns the URI that a control attribute stands for: of a track that of SETUP, of the session that of PLAY, TEARDOWN and keepalives
 /// (RFC 2326, C.1.1). Blanks at the ends of the attribute's value are dropped.
 ///
-/// An absolute control, which begins with `rtsp://` without regard to case, is the URI itself. For `*`, a value of nothing but blanks and
+/// An absolute control, which begins with `rtsp://` without regard to case, is the URI itself. One of another scheme, as `rtsps://`, is
+/// refused. For `*`, a value of nothing but blanks and
 /// no attribute it is the base. Any other control is relative: the URI is the base, a slash unless the base ends in one, and the control,
 /// with the query of the base in its place.
 pub fn control_uri(

@@ -20,6 +20,8 @@ pub enum ControlFault {
     LongControl,
     /// The control has a control character, a blank or a byte over 0x7E.
     BadControl,
+    /// The control is an absolute URI of another scheme than `rtsp`, as `rtsps://h/t` or `rtspu://h/t` (RFC 3986, 3.1).
+    OtherScheme,
     /// There was no memory.
     OutOfMemory,
 }
@@ -43,6 +45,7 @@ impl fmt::Display for ControlFault {
                 f,
                 "blank, control character or byte over 0x7e in control URI"
             ),
+            ControlFault::OtherScheme => write!(f, "control URI of another scheme than rtsp"),
             ControlFault::OutOfMemory => write!(f, "out of memory"),
         }
     }

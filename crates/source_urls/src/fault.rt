@@ -20,6 +20,10 @@ pub enum UrlFault {
     OtherScheme,
     /// It has a password, which others can see in a command line.
     HasPassword,
+    /// It has no user, but a colon after its host, and an `@` after that: what is before the `@` can be a user and a password with a `/`, `?`
+    /// or `#` that isn't percent-encoded (RFC 3986, 3.2.1), as in `rtsp://admin:12/34@host/x`. Its host and its request URI would show the
+    /// password.
+    UnencodedPassword,
     /// It has no host, or one that is no name and no address (RFC 2326, 3.2).
     BadHost,
     /// Its port isn't a number of 1 to 65,535 (RFC 2326, 3.2).
@@ -51,6 +55,10 @@ impl fmt::Display for UrlFault {
             UrlFault::SecureScheme => write!(f, "rtsps is not supported"),
             UrlFault::OtherScheme => write!(f, "URL does not begin with rtsp://"),
             UrlFault::HasPassword => write!(f, "password in URL"),
+            UrlFault::UnencodedPassword => write!(
+                f,
+                "@ after a port in URL: percent-encode a password, and the @ of a path"
+            ),
             UrlFault::BadHost => write!(f, "bad host in URL"),
             UrlFault::BadPort => write!(f, "bad port in URL"),
             UrlFault::HasUser => write!(f, "user in URL"),

@@ -9,6 +9,7 @@ mod host;
 pub mod laws;
 mod parts;
 mod port;
+mod scheme;
 mod source;
 mod target;
 mod uri_text;

@@ -135,3 +135,30 @@ pub(crate) fn port(text: &[u8]) -> &[u8]
 {
     back(address(text), host(text).len())
 }
+
+/// Returns true if an `@` is in a text.
+fn has_at(text: &[u8]) -> bool
+    ensures { result ≡ spec.has_at text.now }
+{
+    text.contains(&b'@')
+}
+
+/// Returns true if an `@` is in the fragment.
+fn fragment_has_at(fragment: Option<&[u8]>) -> bool
+    ensures { result ≡ spec.fragment_has_at (option_copied fragment.entry) }
+{
+    match fragment {
+        Some(fragment) => has_at(fragment),
+        None => false,
+    }
+}
+
+/// Returns true if what is before a later `@` may be meant as a user and a password: there is no user, and a colon is behind the host.
+#[tactic(auto, unfolding(crate::specs::Parts::can_have_password))]
+pub(crate) fn can_have_password(text: &[u8]) -> bool
+    ensures { result ≡ spec.can_have_password text.now }
+{
+    user(text).is_none()
+        && !port(text).is_empty()
+        && (has_at(rest(text)) || fragment_has_at(fragment(text)))
+}

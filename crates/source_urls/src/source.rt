@@ -8,7 +8,9 @@ ghost use Rattle.source_urls.specs.Source.{IsReadAs, IsSourceFault, accepted_por
 
 use crate::fault::UrlFault;
 use crate::host::{bare_host, is_host};
-use crate::parts::{has_password, has_scheme, host, port, rest, scheme_part, user};
+use crate::parts::{
+    can_have_password, has_password, has_scheme, host, port, rest, scheme_part, user,
+};
 use crate::port::port_number;
 use crate::uri_text::{has_uri_bytes, is_long};
 use base_syntax::Bytes;
@@ -52,6 +54,8 @@ fn front_fault(text: &[u8]) -> Option<UrlFault>
         Some(scheme_fault(text))
     } else if has_password(text) {
         Some(UrlFault::HasPassword)
+    } else if can_have_password(text) {
+        Some(UrlFault::UnencodedPassword)
     } else if !is_host(host(text)) {
         Some(UrlFault::BadHost)
     } else {

@@ -1,13 +1,19 @@
 use Rattle.std.proofs.Common.{refl}
 use Rattle.hex.specs.Hex.{encode_with}
-use Rattle.rtsp_auth.proofs.Tries.{new_nonce, old_nonce}
+use Rattle.rtsp_auth.proofs.Counts.{back, last, others, raised}
 use Rattle.rtsp_auth.proofs.laws.counting.Goals as goal
 
-pub returns-clause-new_nonce : goal.returns-clause-new_nonce
-returns-clause-new_nonce c = new_nonce
+pub returns-clause-raised : goal.returns-clause-raised
+returns-clause-raised c = raised
 
-pub returns-clause-same_nonce : goal.returns-clause-same_nonce
-returns-clause-same_nonce c = old_nonce
+pub returns-clause-others : goal.returns-clause-others
+returns-clause-others c = others
+
+pub returns-clause-last : goal.returns-clause-last
+returns-clause-last c = last
+
+pub returns-clause-back : goal.returns-clause-back
+returns-clause-back c = back
 
 pub returns-clause-one : goal.returns-clause-one
 unfolding encode_with

@@ -1,5 +1,5 @@
-use Rattle.rtsp_auth.proofs.Tries.{same_nonce, twice}
+use Rattle.rtsp_auth.proofs.Tries.{again, once, same_nonce}
 use Rattle.rtsp_auth.proofs.laws.trying.Goals as goal
 
 pub returns : goal.returns
-returns c = record { same_nonce = same_nonce; twice = twice }
+returns c = record { once = once; again = again; same_nonce = same_nonce }

@@ -1,25 +1,17 @@
-use Rattle.std.proofs.Common.{◌≡◌, ◌∷◌, ◌++◌, ◌+◌, ◌∙◌, List, ℕ, get_or, drop, ap, sym}
-use Rattle.std.specs.List.{flat_map}
-use Rattle.std.proofs.lemmas.List.{at_drop_more}
-use Rattle.sdp.specs.Sections.{lines_of}
-use Rattle.sdp.specs.Written.{written}
-use Rattle.source_sdp.specs.declared.track.SourceTrack.{SourceTrack}
-use Rattle.source_sdp.specs.Announced.{tracks_from}
-use Rattle.source_sdp.proofs.Texts.{track_and_more}
+use Rattle.std.proofs.Common.{◌≡◌, true, false, sym, ◌∙◌, arith}
+use Rattle.source_sdp.proofs.KeptTracks.{goes_on_at, kept_none}
+use Rattle.source_sdp.proofs.TextSizes.{next_text}
 use Rattle.source_sdp.proofs.writing.write_tracks.Goals as goal
+use Rattle.source_sdp.proofs.writing.write_tracks.Goals.{then-is_kept+in_ok-write_track, else-is_kept}
 
-abbrev text_from : ℕ → List SourceTrack → List ℕ
-text_from number tracks = flat_map written (flat_map lines_of (tracks_from number tracks))
-
-pub loop-number-preserved : goal.loop-number-preserved
-loop-number-preserved c =
-    let n : ℕ = c.loop-number.number in
-    let track : SourceTrack = c.index-tracks-number.result in
-    let tracks : List SourceTrack = drop (n + 1) c.args.tracks.now in
-    let before : List ℕ = c.loop-number.out.items in
-    let same : get_or c.args.tracks.now n track ≡ track = sym c.index-tracks-number.is in
-    ap (λ (text : List ℕ). text ++ text_from (n + 1) tracks) c.in_ok-write_track.ensures
-    ∙ track_and_more before n track tracks
-    ∙ ap (λ (t : SourceTrack). before ++ text_from n (t ∷ tracks)) (sym same)
-    ∙ ap (λ (text : List ℕ). before ++ text) (sym (at_drop_more (text_from n) c.args.tracks.now n track c.loop-number-test.true))
-    ∙ c.loop-number.invariant
+pub loop-place-preserved : goal.loop-place-preserved
+loop-place-preserved c = elim c.if-is_kept.branch [
+  | then-is_kept+in_ok-write_track w ↦
+      let flag : goes_on_at c.args.kept.now c.loop-place.place ≡ true = sym c.is_kept.ensures ∙ w.if-is_kept.true in
+      let text = next_text c.loop-place.out.items c.args.tracks.now c.args.kept.now c.loop-place.place c.loop-place.number c.index-tracks-place.result c.loop-place-test.true flag c.index-tracks-place.is in
+      rw (w.out-is, w.number-is) (record { few = omega (arith, c.loop-place.invariant.few); whole = rw w.in_ok-write_track.ensures (text ∙ c.loop-place.invariant.whole) })
+  | else-is_kept w ↦
+      let flag : goes_on_at c.args.kept.now c.loop-place.place ≡ false = sym c.is_kept.ensures ∙ w.if-is_kept.false in
+      let same = kept_none c.args.tracks.now c.args.kept.now c.loop-place.place c.loop-place-test.true flag in
+      rw (w.out-is, w.number-is) (record { few = omega (arith, c.loop-place.invariant.few); whole = rw same at c.loop-place.invariant.whole })
+]

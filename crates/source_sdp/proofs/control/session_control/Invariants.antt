@@ -1,6 +1,6 @@
 use Rattle.std.proofs.Common.{◌≡◌, drop}
 use Rattle.sdp.specs.Fields.{control_among}
-use Rattle.source_sdp.proofs.section.find_control.Given as goal
+use Rattle.source_sdp.proofs.control.session_control.Given as goal
 
 -- no line so far is a control
 abbrev pub invariant-loop-line : goal.invariant-loop-line

@@ -4,7 +4,7 @@ use Rattle.std.specs.Option.{option_copied}
 use Rattle.base_syntax.specs.Quotes.{rest_size}
 use Rattle.rtsp_auth.specs.Items.{items_in}
 use Rattle.rtsp_auth.specs.Pieces.{pieces, rest_pieces}
-use Rattle.rtsp_auth.proofs.items.push_pieces.Given as goal
+use Rattle.rtsp_auth.proofs.items.push_field.Given as goal
 
 -- the items so far and those of what is left are all of them
 abbrev pub invariant-loop-rest : goal.invariant-loop-rest
