@@ -1,5 +1,5 @@
 -- A track is asked for only after the description came.
-use Rattle.std.proofs.Common.{◌≡◌, refl, ap, subst, if◌then◌else◌, ℕ, suc, arith, Bool, true, false, nat_lt, List, [], ◌∷◌, Some, None, Contains, ◌+◌}
+use Rattle.std.proofs.Common.{◌≡◌, refl, ap, subst, if◌then◌else◌, ℕ, suc, arith, Bool, true, false, nat_lt, List, [], ◌∷◌, Some, Contains, ◌+◌}
 use Rattle.rtsp_client.specs.declared.asked.Asked.{Asked}
 use Rattle.rtsp_client.specs.declared.asked.Asked.TheVariants.{Describe as description}
 use Rattle.rtsp_client.specs.declared.step.Step.{Step}
@@ -8,7 +8,7 @@ use Rattle.rtsp_client.specs.Histories.{Answer, HasCome, is_described, is_done, 
 use Rattle.rtsp_client.specs.Steps.{IsSetUp, Place, asked_in, behind_target, done_at}
 
 -- what a list has, it has behind one more
-behind : {X : Type 0} (y : X) (xs : List X) (x : X) → Contains xs x → Contains (y ∷ xs) x
+pub behind : {X : Type 0} (y : X) (xs : List X) (x : X) → Contains xs x → Contains (y ∷ xs) x
 behind y xs x (k, below, is) = (suc k, omega (arith, below), is)
 
 no_track : (track kept : ℕ) → IsSetUp (behind_target track kept) → ⊥

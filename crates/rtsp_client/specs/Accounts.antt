@@ -1,7 +1,7 @@
 -- What becomes of the frames that the source sends.
 use Rattle.std.specs.Prelude.{◌≡◌, ℕ, ◌+◌, ◌-◌, ◌^◌, min}
 use Rattle.rtsp_client.specs.declared.frame_account.FrameFate.{FrameFate}
-use Rattle.rtsp_client.specs.declared.frame_account.FrameFate.TheVariants.{Waits, UnknownChannel, BeforeRecording}
+use Rattle.rtsp_client.specs.declared.frame_account.FrameFate.TheVariants.{Waits, UnknownChannel, BeforeRecording, Unsent}
 
 -- what became of the frames that came
 pub record Frames : Type 0 where
@@ -24,9 +24,10 @@ no_frames = record { came = 0; sent = 0; unknown_channel = 0; before_recording =
 
 -- a frame more
 abbrev pub with_frame : Frames → FrameFate → Frames
-with_frame frames Waits = record frames { came = capped (frames.came + 1); unsent = capped (frames.unsent + 1) }
+with_frame frames (Waits channel) = record frames { came = capped (frames.came + 1); unsent = capped (frames.unsent + 1) }
 with_frame frames UnknownChannel = record frames { came = capped (frames.came + 1); unknown_channel = capped (frames.unknown_channel + 1) }
 with_frame frames BeforeRecording = record frames { came = capped (frames.came + 1); before_recording = capped (frames.before_recording + 1) }
+with_frame frames Unsent = record frames { came = capped (frames.came + 1); unsent = capped (frames.unsent + 1) }
 
 -- of the frames that wait so many are sent, at most all
 abbrev pub with_sent : Frames → (count : ℕ) → Frames

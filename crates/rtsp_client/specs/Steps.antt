@@ -1,7 +1,9 @@
 -- The order in which a client asks (RFC 2326, A.1).
-use Rattle.std.specs.Prelude.{◌≡◌, ℕ, ◌+◌, ◌<◌, ◌≤◌, Bool, if◌then◌else◌, nat_lt, List, [], ◌∷◌, Option, Some, None}
+use Rattle.std.specs.Prelude.{◌≡◌, ℕ, ◌+◌, ◌<◌, ◌≤◌, Bool, true, false, if◌then◌else◌, nat_lt, Option, Some, None}
 use Rattle.rtsp_client.specs.declared.asked.Asked.{Asked}
 use Rattle.rtsp_client.specs.declared.asked.Asked.TheVariants as asks
+use Rattle.rtsp_client.specs.declared.asked.Side.{Side}
+use Rattle.rtsp_client.specs.declared.asked.Side.TheVariants.{Source, Target}
 use Rattle.rtsp_client.specs.declared.step.Step.{Step}
 use Rattle.rtsp_client.specs.declared.step.Step.TheVariants.{Options, Describe, SetUp, Announce, SetUpTarget, Record, Play, Passing}
 
@@ -39,6 +41,61 @@ asked_in (SetUpTarget track) = Some asks.SetUpTarget
 asked_in Record = Some asks.Record
 asked_in Play = Some asks.Play
 asked_in Passing = None
+
+-- what a step asks a side for
+abbrev pub asked_at : Side → Step → Option Asked
+asked_at Source Options = Some asks.Options
+asked_at Source Describe = Some asks.Describe
+asked_at Source (SetUp track) = Some asks.SetUp
+asked_at Source Announce = None
+asked_at Source (SetUpTarget track) = None
+asked_at Source Record = None
+asked_at Source Play = Some asks.Play
+asked_at Source Passing = None
+asked_at Target Options = None
+asked_at Target Describe = None
+asked_at Target (SetUp track) = None
+asked_at Target Announce = Some asks.Announce
+asked_at Target (SetUpTarget track) = Some asks.SetUpTarget
+asked_at Target Record = Some asks.Record
+asked_at Target Play = None
+asked_at Target Passing = None
+
+-- the track that a step sets up
+abbrev pub track_in : Step → ℕ
+track_in Options = 0
+track_in Describe = 0
+track_in (SetUp track) = track
+track_in Announce = 0
+track_in (SetUpTarget track) = track
+track_in Record = 0
+track_in Play = 0
+track_in Passing = 0
+
+-- the place that it has, or will have, among those that are set up: at the source the next one, at the target its own
+abbrev pub place_at : Step → (kept : ℕ) → ℕ
+place_at Options kept = 0
+place_at Describe kept = 0
+place_at (SetUp track) kept = kept
+place_at Announce kept = 0
+place_at (SetUpTarget track) kept = track
+place_at Record kept = 0
+place_at Play kept = 0
+place_at Passing kept = 0
+
+abbrev pub place_in : Place → ℕ
+place_in place = place_at place.step place.kept
+
+-- RECORD succeeded
+abbrev pub is_recording : Step → Bool
+is_recording Options = false
+is_recording Describe = false
+is_recording (SetUp track) = false
+is_recording Announce = false
+is_recording (SetUpTarget track) = false
+is_recording Record = false
+is_recording Play = true
+is_recording Passing = true
 
 -- a track of the source is asked for
 abbrev pub IsSetUp : Step → Type 0

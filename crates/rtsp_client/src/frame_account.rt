@@ -7,12 +7,14 @@ use std::marker::Model;
 /// What becomes of a frame as it comes.
 #[derive(Clone, Copy, Debug, PartialEq, Eq, Drop)]
 pub enum FrameFate {
-    /// It waits for the target.
-    Waits,
+    /// It waits for the target, to be sent on this channel there.
+    Waits { channel: u8 },
     /// Its channel is no track's.
     UnknownChannel,
     /// The target doesn't record yet.
     BeforeRecording,
+    /// The client stops or has ended, or the end of the stream cuts the frame: it isn't sent.
+    Unsent,
 }
 
 /// What became of the frames that came from the source: each is counted once. A count stays at 2^64 - 1 once it is there.
@@ -97,7 +99,9 @@ impl FrameAccount {
     {
         self.came = self.came.saturating_add(1);
         match fate {
-            FrameFate::Waits => self.unsent = self.unsent.saturating_add(1),
+            FrameFate::Waits { .. } | FrameFate::Unsent => {
+                self.unsent = self.unsent.saturating_add(1);
+            }
             FrameFate::UnknownChannel => {
                 self.unknown_channel = self.unknown_channel.saturating_add(1);
             }

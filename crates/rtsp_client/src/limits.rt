@@ -9,10 +9,16 @@ pub(crate) const KEEPALIVE_LEAST: u64 = 1_000;
 pub(crate) const KEEPALIVE_MOST: u64 = 30_000;
 
 /// After how many seconds a session expires whose server doesn't say (RFC 2326, 12.37).
-pub(crate) const USUAL_TIMEOUT: u64 = 60;
+pub(crate) const USUAL_TIMEOUT: u32 = 60;
 
 /// How long the target may be sent nothing, in milliseconds: half a minute, less what a request takes.
 pub(crate) const TARGET_INTERVAL: u64 = 25_000;
 
 /// How many redirects a client follows.
 pub(crate) const MOST_REDIRECTS: u8 = 3;
+
+/// How many bytes the identifier of a session can have.
+pub(crate) const MOST_SESSION_BYTES: usize = 512;
+
+/// How many frames can wait for the target.
+pub(crate) const MOST_WAITING_FRAMES: u64 = 4_096;

@@ -1,7 +1,7 @@
 //! The order in which a client asks (RFC 2326, A.1).
 ghost use Rattle.std.specs.Prelude.{◌≡◌, ◌⊎◌, ◌<◌, ◌≤◌, OnErr, OnOk};
 ghost use Rattle.rtsp_client.specs.declared.step.Step.TheVariants.{Announce, Describe};
-ghost use Rattle.rtsp_client.specs.Steps.{IsSetUp, described_from, done_from, left_out_from, start};
+ghost use Rattle.rtsp_client.specs.Steps.{IsSetUp, described_from, done_from, is_recording, left_out_from, place_in, start, track_in};
 
 use crate::step::Step;
 use std::marker::Model;
@@ -59,6 +59,37 @@ impl Progress {
         ensures most { result ≤ 16 }
     {
         self.kept
+    }
+
+    /// Returns the track that is set up: at the source its place among those that can be used, at the target among those that are set up.
+    /// 0 if none is.
+    pub fn track(&self) -> usize
+        ensures is { result ≡ track_in self.now.step }
+        ensures below { result < 16 }
+    {
+        match self.step {
+            Step::SetUp { track } | Step::SetUpTarget { track } => track,
+            _ => 0,
+        }
+    }
+
+    /// Returns the place that the track has, or will have, among those that are set up. 0 if none is being set up.
+    pub fn place(&self) -> usize
+        ensures is { result ≡ place_in self.now }
+        ensures below { result < 16 }
+    {
+        match self.step {
+            Step::SetUp { .. } => self.kept,
+            Step::SetUpTarget { track } => track,
+            _ => 0,
+        }
+    }
+
+    /// Returns whether the target records.
+    pub fn is_recording(&self) -> bool
+        ensures { result ≡ is_recording self.now.step }
+    {
+        matches!(self.step, Step::Play | Step::Passing)
     }
 
     /// The description has so many tracks that can be used.

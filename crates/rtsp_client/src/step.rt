@@ -1,8 +1,8 @@
 //! How far a client has come.
 ghost use Rattle.std.specs.Prelude.{◌≡◌};
-ghost use Rattle.rtsp_client.specs.Steps.{asked_in};
+ghost use Rattle.rtsp_client.specs.Steps.{asked_at, asked_in};
 
-use crate::asked::Asked;
+use crate::asked::{Asked, Side};
 
 /// What a client asks for next, or waits for the reply of.
 #[derive(Clone, Copy, Debug, PartialEq, Eq, Drop)]
@@ -34,6 +34,18 @@ impl Step {
             Step::Record => Some(Asked::Record),
             Step::Play => Some(Asked::Play),
             Step::Passing => None,
+        }
+    }
+
+    /// Returns what it asks a side for. `None` if it asks the other one, or if frames come and go on.
+    pub fn asked_at(self, side: Side) -> Option<Asked>
+        ensures { result ≡ asked_at side self }
+    {
+        let asked = self.asked()?;
+        if asked.side() == side {
+            Some(asked)
+        } else {
+            None
         }
     }
 }
