@@ -1,0 +1,17 @@
+pub mod Beginnings
+pub mod Frames
+pub mod Fields
+pub mod Accepting
+pub mod OwnMount
+pub mod Tracks
+pub mod Naming
+pub mod Named
+pub mod Passing
+pub mod Known
+pub mod Keeping
+pub mod Steps
+pub mod Publishing
+pub mod Transports
+pub mod TrackTransports
+pub mod Descriptions
+pub mod Rows

@@ -1,0 +1,4 @@
+pub mod Sent
+pub mod Publishing
+pub mod Phases
+pub mod Course
