@@ -4,6 +4,10 @@
 #[cfg(test)]
 mod auth_tests;
 #[cfg(test)]
+mod client_tests;
+#[cfg(test)]
 mod description_tests;
 #[cfg(test)]
 mod url_tests;
+#[cfg(test)]
+mod walk;

@@ -5,8 +5,11 @@
 pub enum Kind {
     Book,
     Stream,
+    ServerStream,
+    Client,
     Reply,
     Sdp,
+    SourceSdp,
     Header,
     Mounts,
     Networks,
@@ -15,11 +18,14 @@ pub enum Kind {
 }
 
 /// All kinds, in the order in which they are told.
-pub const KINDS: [Kind; 9] = [
+pub const KINDS: [Kind; 12] = [
     Kind::Book,
     Kind::Stream,
+    Kind::ServerStream,
+    Kind::Client,
     Kind::Reply,
     Kind::Sdp,
+    Kind::SourceSdp,
     Kind::Header,
     Kind::Mounts,
     Kind::Networks,
@@ -33,8 +39,11 @@ impl Kind {
         match self {
             Kind::Book => "book",
             Kind::Stream => "stream",
+            Kind::ServerStream => "server-stream",
+            Kind::Client => "client",
             Kind::Reply => "reply",
             Kind::Sdp => "sdp",
+            Kind::SourceSdp => "source-sdp",
             Kind::Header => "header",
             Kind::Mounts => "mounts",
             Kind::Networks => "networks",

@@ -5,6 +5,7 @@
 mod arguments;
 mod book_cases;
 mod cases;
+mod client_cases;
 mod comparing;
 mod description_cases;
 mod escapes;
@@ -17,6 +18,8 @@ mod mount_cases;
 mod network_cases;
 mod reply_cases;
 mod running;
+mod server_stream_cases;
+mod source_cases;
 mod step;
 mod steps_cases;
 mod stream_cases;

@@ -102,7 +102,7 @@ struct Tally {
     /// The number of the line that is read, or of the step that is run.
     line: usize,
     /// How many cases there were, by the places of their kinds.
-    counts: [u64; 9],
+    counts: [u64; 12],
     report: Vec<u8>,
     differs: bool,
 }
@@ -113,7 +113,7 @@ impl Tally {
         Tally {
             alloc,
             line: 0,
-            counts: [0; 9],
+            counts: [0; 12],
             report: Vec::new(alloc),
             differs: false,
         }

@@ -2,8 +2,8 @@
 ghost use Rattle.std.specs.Prelude.{◌≤◌};
 
 use crate::told::Told;
-use interleaved::ListSource;
-use rtsp_message::{Fault, Header, Intake, Next, Reader, Request, Unit};
+use interleaved::{Frame, ListSource};
+use rtsp_message::{Fault, Header, Headers, Intake, Next, Reader, Request, Unit};
 use std::alloc::{AllocError, Global};
 
 /// A stream of at most so many bytes is read again in small pieces. Those of the longest units are.
@@ -200,7 +200,7 @@ impl Readout {
     }
 }
 
-fn tell_fault(fault: Fault, told: &mut Told) -> Result<(), AllocError> {
+pub fn tell_fault(fault: Fault, told: &mut Told) -> Result<(), AllocError> {
     let number = fault.number();
     told.fact(format!(in told.alloc(); "fault {number}")?.as_bytes())
 }
@@ -208,32 +208,45 @@ fn tell_fault(fault: Fault, told: &mut Told) -> Result<(), AllocError> {
 fn tell_unit(unit: &Unit, told: &mut Told) -> Result<(), AllocError> {
     match unit {
         Unit::Message(request) => tell_request(request, told),
-        Unit::Frame(frame) => {
-            let channel = frame.channel;
-            let head = format!(in told.alloc(); "frame {channel}")?;
-            told.named(head.as_bytes(), frame.payload.as_slice())
-        }
+        Unit::Frame(frame) => tell_frame(frame, told),
     }
+}
+
+pub fn tell_frame(frame: &Frame, told: &mut Told) -> Result<(), AllocError> {
+    let channel = frame.channel;
+    let head = format!(in told.alloc(); "frame {channel}")?;
+    told.named(head.as_bytes(), frame.payload.as_slice())
+}
+
+pub fn tell_request(request: &Request, told: &mut Told) -> Result<(), AllocError> {
+    told.word(request.method.as_slice())?;
+    told.word(request.uri.as_slice())?;
+    told.fact(request.version.as_slice())?;
+    tell_cseq(request.cseq, told)?;
+    tell_headers(&request.headers, request.body.as_slice(), told)
+}
+
+/// Tells the number of a message, where it has one.
+pub fn tell_cseq(cseq: Option<u32>, told: &mut Told) -> Result<(), AllocError> {
+    match cseq {
+        Some(number) => told.fact(format!(in told.alloc(); "CSeq {number}")?.as_bytes()),
+        None => Ok(()),
+    }
+}
+
+/// Tells the header fields of a message, and its body, where it has one.
+pub fn tell_headers(headers: &Headers, body: &[u8], told: &mut Told) -> Result<(), AllocError> {
+    for header in headers.as_slice() {
+        tell_header(header, told)?;
+    }
+    if body.is_empty() {
+        return Ok(());
+    }
+    told.named(b"body", body)
 }
 
 fn tell_header(header: &Header, told: &mut Told) -> Result<(), AllocError> {
     told.facts.extend_from_slice(header.name.as_slice())?;
     told.word(b":")?;
     told.fact(header.value.as_slice())
-}
-
-fn tell_request(request: &Request, told: &mut Told) -> Result<(), AllocError> {
-    told.word(request.method.as_slice())?;
-    told.word(request.uri.as_slice())?;
-    told.fact(request.version.as_slice())?;
-    if let Some(number) = request.cseq {
-        told.fact(format!(in told.alloc(); "CSeq {number}")?.as_bytes())?;
-    }
-    for header in request.headers.as_slice() {
-        tell_header(header, told)?;
-    }
-    if request.body.is_empty() {
-        return Ok(());
-    }
-    told.named(b"body", request.body.as_slice())
 }

@@ -2,6 +2,7 @@
 
 use crate::arguments::Arguments;
 use crate::book_cases::{BookCase, Cutting};
+use crate::client_cases::ClientCase;
 use crate::description_cases::tell_description;
 use crate::fault::Fault;
 use crate::header_cases::HeaderCase;
@@ -10,6 +11,8 @@ use crate::log_cases::LogCase;
 use crate::mount_cases::MountCase;
 use crate::network_cases::call_networks;
 use crate::reply_cases::call_reply;
+use crate::server_stream_cases::ServerStreamCase;
+use crate::source_cases::SourceCase;
 use crate::step::Input;
 use crate::steps_cases::tell_steps;
 use crate::stream_cases::StreamCase;
@@ -23,8 +26,11 @@ use std::collections::hash_map::RandomState;
 pub enum Subject {
     Book(BookCase),
     Stream(StreamCase),
+    ServerStream(ServerStreamCase),
+    Client(ClientCase),
     Reply,
     Sdp,
+    SourceSdp(SourceCase),
     Header(HeaderCase),
     Mounts(MountCase),
     Networks,
@@ -43,8 +49,11 @@ impl Subject {
         Ok(match kind {
             Kind::Book => Subject::Book(BookCase::new(alloc, hasher, 1, cutting)),
             Kind::Stream => Subject::Stream(StreamCase::new(alloc)),
+            Kind::ServerStream => Subject::ServerStream(ServerStreamCase::new(alloc)),
+            Kind::Client => Subject::Client(ClientCase::new()),
             Kind::Reply => Subject::Reply,
             Kind::Sdp => Subject::Sdp,
+            Kind::SourceSdp => Subject::SourceSdp(SourceCase::new()),
             Kind::Header => Subject::Header(HeaderCase::new()),
             Kind::Mounts => Subject::Mounts(MountCase::new(alloc, hasher)?),
             Kind::Networks => Subject::Networks,
@@ -65,6 +74,7 @@ impl Subject {
             }
             Input::End => match self {
                 Subject::Stream(case) => Ok(case.read_again(told)?),
+                Subject::ServerStream(case) => Ok(case.read_again(told)?),
                 _ => Ok(()),
             },
         }
@@ -75,12 +85,16 @@ impl Subject {
         match self {
             Subject::Book(case) => case.ask(u64::from(from), bytes, told),
             Subject::Stream(case) => Ok(case.feed(bytes, told)?),
+            Subject::ServerStream(case) => Ok(case.feed(bytes, told)?),
             Subject::Sdp => Ok(tell_description(bytes, told)?),
+            Subject::SourceSdp(case) => Ok(case.describe(bytes, told)?),
             Subject::Mounts(case) => Ok(case.describe(bytes)?),
             Subject::Steps => Ok(tell_steps(bytes, told)?),
-            Subject::Reply | Subject::Header(_) | Subject::Networks | Subject::Log(_) => {
-                Err(Fault::NoInput)
-            }
+            Subject::Client(_)
+            | Subject::Reply
+            | Subject::Header(_)
+            | Subject::Networks
+            | Subject::Log(_) => Err(Fault::NoInput),
         }
     }
 
@@ -93,13 +107,17 @@ impl Subject {
         match self {
             Subject::Book(case) => case.call(word, arguments, told),
             // Nothing is between two pieces but their border.
-            Subject::Stream(_) if word == b"feed".as_slice() => Ok(()),
+            Subject::Stream(_) | Subject::ServerStream(_) if word == b"feed".as_slice() => Ok(()),
+            Subject::Client(case) => case.call(word, arguments, told),
+            Subject::SourceSdp(case) => case.call(word, arguments, told),
             Subject::Reply => call_reply(word, arguments, told),
             Subject::Header(case) => case.call(word, arguments, told),
             Subject::Mounts(case) => case.call(word, arguments, told),
             Subject::Networks => call_networks(word, arguments, told),
             Subject::Log(case) => case.call(word, arguments, told),
-            Subject::Stream(_) | Subject::Sdp | Subject::Steps => Err(Fault::UnknownWord),
+            Subject::Stream(_) | Subject::ServerStream(_) | Subject::Sdp | Subject::Steps => {
+                Err(Fault::UnknownWord)
+            }
         }
     }
 }
