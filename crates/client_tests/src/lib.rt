@@ -8,6 +8,12 @@ mod client_tests;
 #[cfg(test)]
 mod description_tests;
 #[cfg(test)]
+mod draws;
+#[cfg(test)]
+mod outcome;
+#[cfg(test)]
+mod table;
+#[cfg(test)]
 mod url_tests;
 #[cfg(test)]
 mod walk;

@@ -1,6 +1,9 @@
 //! A client in a random exchange, beside what its table of replies says.
 ghost use Rattle.std.specs.Prelude.{◌<◌};
 
+use crate::draws::{EVENTS, STATUSES, TRANSPORTS};
+use crate::outcome::{Finding, Outcome, unless};
+use crate::table::is_by_table;
 use rand::rngs::SmallRng;
 use rand_core::{Rng, SeedableRng};
 use rtsp_client::{
@@ -8,52 +11,6 @@ use rtsp_client::{
     Verdict,
 };
 use std::alloc::{AllocError, Global};
-
-/// How many events an exchange has at most.
-const EVENTS: u32 = 200;
-
-/// The statuses that replies have: mostly success, or an exchange would hardly ever come to frames.
-const STATUSES: [u16; 64] = [
-    200, 200, 200, 200, 200, 200, 200, 200, 200, 200, 200, 200, 200, 200, 200, 200, 200, 200, 200,
-    200, 200, 200, 200, 200, 200, 200, 200, 200, 200, 200, 200, 200, 200, 200, 200, 200, 200, 200,
-    200, 200, 200, 200, 200, 200, 200, 200, 200, 200, 201, 204, 100, 180, 401, 401, 302, 303, 404,
-    451, 454, 461, 500, 503, 551, 999,
-];
-
-/// The Transport fields that replies have: mostly one that leaves the channels that were asked for.
-const TRANSPORTS: [&str; 16] = [
-    "RTP/AVP/TCP",
-    "RTP/AVP/TCP;unicast",
-    "RTP/AVP/TCP;unicast",
-    "RTP/AVP/TCP;unicast",
-    "RTP/AVP/TCP;unicast",
-    "RTP/AVP/TCP;unicast",
-    "RTP/AVP/TCP;unicast",
-    "RTP/AVP/TCP;unicast",
-    "RTP/AVP/TCP;unicast",
-    "RTP/AVP/TCP;unicast",
-    "RTP/AVP/TCP;unicast",
-    "RTP/AVP/TCP;unicast",
-    "RTP/AVP/TCP;unicast",
-    "RTP/AVP/TCP;unicast",
-    "RTP/AVP/TCP;unicast",
-    "RTP/AVP/TCP;interleaved=x",
-];
-
-/// What is wrong in an exchange.
-#[derive(Clone, Copy, Debug, PartialEq, Eq, Drop)]
-pub(crate) enum Finding {
-    /// A number that isn't the next one of its connection, or a request beside one that waits.
-    BadNumber,
-    /// A track of the source before the description, PLAY before RECORD was accepted, or a request after the end.
-    BadOrder,
-    /// A reply that didn't mean what the table says.
-    BadTurn,
-    /// A frame before RECORD that went on, or one on no track's channel.
-    BadFrame,
-    /// An account that doesn't close.
-    BadAccount,
-}
 
 /// A random exchange.
 #[derive(Drop)]
@@ -75,14 +32,6 @@ pub(crate) struct Walk {
     frames: u64,
     /// How many frames went on.
     gone_on: u64,
-}
-
-/// What an exchange came to.
-#[derive(Clone, Copy, Debug, PartialEq, Eq, Drop)]
-pub(crate) struct Outcome {
-    pub finding: Option<Finding>,
-    /// How many frames went on.
-    pub gone_on: u64,
 }
 
 /// The place of a side among the two.
@@ -248,30 +197,11 @@ impl Walk {
         if verdict == Verdict::GoesOn && asked == Asked::SetUp {
             self.kept.push(self.track)?;
         }
-        if !self.is_by_table(asked, verdict, turn) {
+        if !is_by_table(asked, verdict, turn, self.client.end().is_some()) {
             return Ok(Some(Finding::BadTurn));
         }
         self.follow(turn);
         Ok(None)
-    }
-
-    /// Whether a turn is what the table says of a reply.
-    fn is_by_table(&self, asked: Asked, verdict: Verdict, turn: Turn) -> bool {
-        let has_ended = self.client.end().is_some();
-        match verdict {
-            Verdict::Waits | Verdict::UsesOptions | Verdict::Over => turn == Turn::GoesOn,
-            Verdict::GoesOn => match asked {
-                Asked::Describe => turn == Turn::ReadsDescription,
-                Asked::SetUp | Asked::SetUpTarget => turn == Turn::GoesOn || has_ended,
-                _ => turn == Turn::GoesOn,
-            },
-            Verdict::Follows => turn == Turn::Redirects || has_ended,
-            Verdict::LeavesOut => matches!(turn, Turn::LeavesOut { .. }) || has_ended,
-            Verdict::Challenged => turn == Turn::Challenged,
-            Verdict::TargetAsksPassword | Verdict::SessionGone | Verdict::Refused => {
-                matches!(turn, Turn::Ends(_)) && has_ended
-            }
-        }
     }
 
     /// Does what a turn says.
@@ -365,9 +295,4 @@ impl Walk {
             Finding::BadAccount,
         )
     }
-}
-
-/// Nothing if it holds, or else this.
-fn unless(holds: bool, finding: Finding) -> Option<Finding> {
-    if holds { None } else { Some(finding) }
 }

@@ -6,6 +6,7 @@ mod arguments;
 mod book_cases;
 mod cases;
 mod client_cases;
+mod client_told;
 mod comparing;
 mod description_cases;
 mod escapes;
