@@ -5,3 +5,13 @@ pub mod Mapping
 pub mod Moves
 pub mod Running
 pub mod StepChanges
+pub mod TargetFresh
+pub mod TargetReady
+pub mod TargetReplies
+pub mod TargetRest
+pub mod TargetRuns
+pub mod TargetSends
+pub mod TargetSetUps
+pub mod TargetSources
+pub mod TargetStages
+pub mod TargetTables

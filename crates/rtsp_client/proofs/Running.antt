@@ -144,6 +144,9 @@ recorded_always (event ∷ before) s (earlier, h, goes) =
     let was = recorded_always before earlier h in
     record { step = recorded_step event before earlier s m was; password = recorded_password event before earlier s m was }
 
+pub recorded_before : (events : List Event) (s : State) → HasGone events s → is_recording s.place.step ≡ true → HasRecorded events
+recorded_before events s h = (recorded_always events s h).step
+
 described_step : (event : Event) (before : List Event) (old new : State) → Moved event old new → Described before old → IsSetUp new.place.step → HasDescription (event ∷ before)
 described_step event before old new m was h =
     elim (m.sets_up h) [ inl early ↦ more_described event before (was.step early) | inr now ↦ first_described event before now ]
@@ -251,7 +254,7 @@ numbers_rise side asked number before s (earlier, h, (now, has_due, is_number, i
     subst (λ (n : ℕ). AllBelow side before n) (sym is_number) (all_below side before earlier h)
 
 -- channels
-mapped_always : (events : List Event) (s : State) → HasGone events s → IsMapped s.place s.passage.map
+pub mapped_always : (events : List Event) (s : State) → HasGone events s → IsMapped s.place s.passage.map
 mapped_always [] s is =
     let none : Option ChannelPair = None in
     subst (λ (t : State). IsMapped t.place t.passage.map) (sym is) (mapped_start new_client.passage.map (length-replicate 16 none) (length-replicate 16 none))

@@ -21,4 +21,5 @@ pub mod SettingUp
 pub mod Steps
 pub mod Stopping
 pub mod Table
+pub mod TargetCourse
 pub mod Told

@@ -13,6 +13,7 @@ ghost use Rattle.rtsp_client.specs.Histories.{Answer, HasCome, is_described, is_
 ghost use Rattle.rtsp_client.specs.Mapped.{AreGiven};
 ghost use Rattle.rtsp_client.specs.Runs.{AllBelow, Event, Goes, HasGone, sends, takes, is_described as description_comes};
 ghost use Rattle.rtsp_client.specs.Steps.{IsSetUp, Place, is_recording};
+ghost use Rattle.rtsp_client.specs.TargetCourse.{AreInOrder, Asking, HasAsked, IsReadyFor};
 
 /// Whatever came of the requests: PLAY is asked for only if RECORD's answer was the last one, and a track of the source only after the
 /// description came.
@@ -37,4 +38,16 @@ pub fn runs()
         → AreGiven state.passage.map.source state.place.kept × AreGiven state.passage.map.target state.place.kept }
     ensures end_stays { (event : Event) (old new : State) → Goes event old new → IsSome old.end → new.end ≡ old.end }
     ensures nothing_after { (side : Side) (asked : Asked) (number : ℕ) (old new : State) → Goes (sends side asked number) old new → old.end ≡ None }
+{}
+
+/// Whatever happens to a client: what it asks its target for is in this order: ANNOUNCE; SETUP of each track that is set up at the source,
+/// in order, without a Session header the first; RECORD; any number of OPTIONS; TEARDOWN, which is the last request and can come after the
+/// first SETUP. After the first SETUP each has the identifier of the target's session. SETUP and RECORD are sent only after success of the
+/// request before, and OPTIONS only after success of RECORD.
+pub fn target_course()
+    ensures asked { (events : List Event) (state : State) → HasGone events state → (askings : List Asking) × HasAsked events askings state }
+    ensures gone { (events : List Event) (askings : List Asking) (state : State) → HasAsked events askings state → HasGone events state }
+    ensures order { (events : List Event) (askings : List Asking) (state : State) → HasAsked events askings state → AreInOrder askings state }
+    ensures ready { (asked : Asked) (number : ℕ) (before : List Event) (state : State)
+        → HasGone (sends Target asked number ∷ before) state → IsReadyFor asked before }
 {}
