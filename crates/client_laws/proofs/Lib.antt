@@ -15,3 +15,4 @@ pub mod Transports
 pub mod TrackTransports
 pub mod Descriptions
 pub mod Rows
+pub mod Clients

@@ -1,5 +1,5 @@
 -- What a client asks that publishes is answered 200, from its ANNOUNCE to its TEARDOWN.
-use Rattle.std.proofs.Common.{◌≡◌, ◌<◌, ◌^◌, ◌-◌, ℕ, true, false, List, [], ◌∷◌, ◌++◌, inl, inr, is_some, Option, None, refl, ap, sym, subst, ◌∙◌}
+use Rattle.std.proofs.Common.{◌≡◌, ◌<◌, ◌^◌, ◌-◌, ℕ, true, false, List, [], ◌∷◌, ◌++◌, inl, inr, is_some, Option, None, Some, refl, ap, sym, subst, ◌∙◌}
 use Rattle.std.proofs.lemmas.Bool.{eq-eqb}
 use Rattle.rtsp_message.specs.declared.reply.Reply.{Reply}
 use Rattle.rtsp_message.specs.Reply.{code_of}
@@ -9,6 +9,7 @@ use Rattle.session_state.specs.declared.entry.Entry.{Entry}
 use Rattle.session_state.specs.declared.entry.Entry.TheVariants.{Connect, Request, HangUp, Back, Expire}
 use Rattle.session_state.specs.declared.method.Method.TheVariants as methods
 use Rattle.session_state.specs.declared.session.Session.{Session}
+use Rattle.session_state.specs.declared.session.State.{State}
 use Rattle.session_state.specs.declared.session.State.TheVariants as states
 use Rattle.session_state.specs.Checks.{fits, state_in}
 use Rattle.session_state.specs.History.{History}
@@ -74,11 +75,12 @@ module _ (seats conn : ℕ) (publication : Publication) (can : CanBePublished pu
       (known_of seats conn publication history request answer.mounts answer.session told states.Recording answer.looks_up was) asks)
       answer.answered
 
-  pub teardown_ok : (told : Option (List ℕ)) → IsInSession seats conn publication told states.Recording history → AsksTeardown publication told request → code_of reply.status ≡ 200
-  teardown_ok told was asks =
+  pub teardown_ok : (told : Option (List ℕ)) (state : State) → fits methods.Teardown (Some state) ≡ true → IsInSession seats conn publication told state history → AsksTeardown publication told request
+      → code_of reply.status ≡ 200
+  teardown_ok told state fit was asks =
       answered_ok (asked_for seats conn history request answer.mounts answer.session) given reply act methods.Teardown (teardown_named request publication told asks)
-      (teardown_passes seats conn publication can history request answer.mounts answer.session answer.looks_up was.owns.number told states.Recording
-      (known_of seats conn publication history request answer.mounts answer.session told states.Recording answer.looks_up was) refl asks)
+      (teardown_passes seats conn publication can history request answer.mounts answer.session answer.looks_up was.owns.number told state
+      (known_of seats conn publication history request answer.mounts answer.session told state answer.looks_up was) fit asks)
       answer.answered
 
   -- A request of the course is answered 200, and leads to its next stage.
@@ -100,13 +102,15 @@ module _ (seats conn : ℕ) (publication : Publication) (can : CanBePublished pu
         next = subst (IsAt seats conn publication (Request conn (request_of request) given reply act ∷ history)) (sym is)
             (moved seats conn publication can history request given reply act ok methods.Setup (accepted_entry conn (request_of request) given reply act methods.Setup ok (setup_named request publication tracks told asks)) refl refl told states.Ready states.Ready refl was);
       }
-  leads (SettingUp tracks told) to was (inr (asks, all, is)) =
+  leads (SettingUp tracks told) to was (inr (inl (asks, all, is))) =
       let ok = record_ok told was asks in
       record {
         ok = ok;
         next = subst (IsAt seats conn publication (Request conn (request_of request) given reply act ∷ history)) (sym is)
             (moved seats conn publication can history request given reply act ok methods.Record (accepted_entry conn (request_of request) given reply act methods.Record ok (record_named request publication told asks)) refl refl told states.Ready states.Recording refl was);
       }
+  leads (SettingUp tracks told) to was (inr (inr (asks, is))) =
+      record { ok = teardown_ok told states.Ready refl was asks; next = subst (IsAt seats conn publication (Request conn (request_of request) given reply act ∷ history)) (sym is) tt }
   leads (Recording told) to was (inl (asks, is)) =
       let ok = options_ok told was asks in
       record {
@@ -115,7 +119,7 @@ module _ (seats conn : ℕ) (publication : Publication) (can : CanBePublished pu
             (stays seats conn publication history (Request conn (request_of request) given reply act) (options_spare seats conn publication can history request given reply act ok told asks) (Recording told) was);
       }
   leads (Recording told) to was (inr (asks, is)) =
-      record { ok = teardown_ok told was asks; next = subst (IsAt seats conn publication (Request conn (request_of request) given reply act ∷ history)) (sym is) tt }
+      record { ok = teardown_ok told states.Recording refl was asks; next = subst (IsAt seats conn publication (Request conn (request_of request) given reply act ∷ history)) (sym is) tt }
   leads Ended to was never = absurd never
 
 -- where a course has come to, and that its requests were answered 200

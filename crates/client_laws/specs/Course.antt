@@ -40,14 +40,16 @@ is_of conn (Expire who heard now act) = who == conn
 
 module _ (seats conn : ℕ) (publication : Publication) where
   -- What the client asks next after a history, and how far it has come with the reply: ANNOUNCE where the server has a place
-  -- for the mount, SETUP of each track in order where a session's number is left, RECORD, any number of OPTIONS, TEARDOWN.
+  -- for the mount, SETUP of each track in order where a session's number is left, RECORD, any number of OPTIONS; TEARDOWN once a
+  -- track is set up.
   abbrev pub Moves : (before : History) → (from : Stage) → RequestText → Reply → (to : Stage) → Type 0
   Moves before Fresh request reply to = AsksAnnounce publication request × HasPlace seats before publication.target.path × (to ≡ Announced)
   Moves before Announced request reply to =
       AsksSetup publication 0 None request × (0 < track_count publication) × (sessions_begun before < 2 ^ 32 - 1) × (to ≡ SettingUp 1 reply.fields.session)
   Moves before (SettingUp tracks told) request reply to =
       (AsksSetup publication tracks told request × (tracks < track_count publication) × (to ≡ SettingUp (tracks + 1) told))
-      ⊎ (AsksRecord publication told request × (tracks ≡ track_count publication) × (to ≡ Recording told))
+      ⊎ ((AsksRecord publication told request × (tracks ≡ track_count publication) × (to ≡ Recording told))
+      ⊎ (AsksTeardown publication told request × (to ≡ Ended)))
   Moves before (Recording told) request reply to =
       (AsksOptions publication told request × (to ≡ Recording told)) ⊎ (AsksTeardown publication told request × (to ≡ Ended))
   Moves before Ended request reply to = ⊥

@@ -39,6 +39,10 @@ ghost use Rattle.relay_pass.specs.declared.report.StreamEnd.TheVariants.{End as 
 ghost use Rattle.relay_pass.specs.declared.report.PassStop.TheVariants.{Stream};
 ghost use Rattle.relay_pass.specs.Carried.{AreWritten};
 ghost use Rattle.relay_pass.specs.Passes.{PassesOn};
+ghost use Rattle.rtsp_client.specs.Clients.{State as ClientState};
+ghost use Rattle.rtsp_client.specs.Runs.{Event};
+ghost use Rattle.rtsp_client.specs.TargetCourse.{Asking, HasAsked};
+ghost use Rattle.client_laws.specs.Clients.{AreAskedBy, HaveIdentifier};
 ghost use Rattle.client_laws.specs.Sent.{IsBeginning, ReadsBeginning, frames_sent};
 ghost use Rattle.client_laws.specs.Course.{AreAnsweredOk, IsAt, Moves, Publishes, Stage, is_of};
 ghost use Rattle.client_laws.specs.Phases.{IsAnnounced, IsFresh, IsInSession, IsRecording, IsSettingUp, IsToldSession};
@@ -72,15 +76,29 @@ pub fn a_beginning_is_read()
 {}
 
 /// What a client asks that publishes is accepted: if a connection owns no mount and has no session, and from then on its
-/// entries are ANNOUNCE, SETUP of each track in order, RECORD, any number of OPTIONS and TEARDOWN, each of these requests that
-/// stands in the history is answered 200, whatever entries of other connections stand between. The connection neither hangs up
-/// nor has its session expire.
+/// entries are ANNOUNCE, SETUP of each track in order, RECORD, any number of OPTIONS and TEARDOWN, which can come once a track is
+/// set up, each of these requests that is in the history is answered 200, whatever entries of other connections are between. The
+/// connection neither hangs up nor has its session expire.
 pub fn publishing()
     ensures accepted { (seats conn : ℕ) (publication : Publication) (later start : History) (stage : Stage)
         → CanBePublished publication → IsFresh conn start → IsLegal seats (later ++ start) → Publishes seats conn publication later start stage → AreAnsweredOk conn later }
     ensures reached { (seats conn : ℕ) (publication : Publication) (later start : History) (stage : Stage)
         → CanBePublished publication → IsFresh conn start → IsLegal seats (later ++ start) → Publishes seats conn publication later start stage
         → IsAt seats conn publication (later ++ start) stage }
+{}
+
+/// What a client of `rtsp_client` asks its target for is accepted by a relay: whatever happened to the client, if its requests are made by
+/// `client_requests` of what it asks for, in the session that the first reply to SETUP gave it, and the entries of its connection are these
+/// requests, each is answered 200. It holds if the publication has as many tracks as the client has set up, and the relay has room for
+/// the mount at ANNOUNCE and for a session at the first SETUP.
+pub fn what_a_client_asks()
+    ensures accepted { (seats conn : ℕ) (publication : Publication) (events : List Event) (askings : List Asking) (client : ClientState) (id : List ℕ) (later start : History)
+        → CanBePublished publication → IsFresh conn start → IsLegal seats (later ++ start)
+        → HasAsked events askings client → track_count publication ≡ client.place.kept → HaveIdentifier id askings
+        → AreAskedBy seats conn publication id later start askings → AreAnsweredOk conn later }
+    ensures course { (seats conn : ℕ) (publication : Publication) (events : List Event) (askings : List Asking) (client : ClientState) (id : List ℕ) (later start : History)
+        → CanBePublished publication → HasAsked events askings client → track_count publication ≡ client.place.kept → HaveIdentifier id askings
+        → AreAskedBy seats conn publication id later start askings → (stage : Stage) × Publishes seats conn publication later start stage }
 {}
 
 /// ANNOUNCE of a connection that owns no mount and has no session is answered 200, where the server has a place for the mount.
@@ -115,10 +133,13 @@ pub fn keep_alive()
         → AsksOptions publication told request → code_of reply.status ≡ 200 }
 {}
 
-/// TEARDOWN is answered 200 while the session records.
+/// TEARDOWN is answered 200 while the session records, and once a track is set up (RFC 2326, A.2: Ready).
 pub fn tear_down()
-    ensures { (seats conn : ℕ) (publication : Publication) (history : History) (request : RequestText) (given : Given) (reply : Reply) (act : Act) (told : Option (List ℕ))
+    ensures recording { (seats conn : ℕ) (publication : Publication) (history : History) (request : RequestText) (given : Given) (reply : Reply) (act : Act) (told : Option (List ℕ))
         → CanBePublished publication → IsLegal seats (Request conn (request_of request) given reply act ∷ history) → IsRecording seats conn publication told history
+        → AsksTeardown publication told request → code_of reply.status ≡ 200 }
+    ensures ready { (seats conn : ℕ) (publication : Publication) (history : History) (request : RequestText) (given : Given) (reply : Reply) (act : Act) (told : Option (List ℕ))
+        → CanBePublished publication → IsLegal seats (Request conn (request_of request) given reply act ∷ history) → IsSettingUp seats conn publication told history
         → AsksTeardown publication told request → code_of reply.status ≡ 200 }
 {}
 
