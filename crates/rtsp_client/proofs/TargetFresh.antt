@@ -31,12 +31,12 @@ IsFresh steps.Play = ⊥
 IsFresh steps.Passing = ⊥
 
 -- what holds at such a step
-record AsFresh (step : Step) (kept : ℕ) (session : Option (List ℕ)) (H : Type 0) : Type 0 where
+record AsFresh (step : Step) (kept : ℕ) (session : Option (List ℕ)) (H : Bool → Type 0) : Type 0 where
   stage : stage_at step kept ≡ Unasked
   opened : session ≡ None → OpenAt step session
   heard : Heard H step
 
-as_fresh : (step : Step) (kept : ℕ) (session : Option (List ℕ)) (H : Type 0) → IsFresh step → AsFresh step kept session H
+as_fresh : (step : Step) (kept : ℕ) (session : Option (List ℕ)) (H : Bool → Type 0) → IsFresh step → AsFresh step kept session H
 as_fresh steps.Options kept session H h = record { stage = refl; opened = λ n. n; heard = tt }
 as_fresh steps.Describe kept session H h = record { stage = refl; opened = λ n. n; heard = tt }
 as_fresh (steps.SetUp track) kept session H h = record { stage = refl; opened = λ n. n; heard = tt }
@@ -62,7 +62,7 @@ as_early steps.Record kept session h = absurd h
 as_early steps.Play kept session h = absurd h
 as_early steps.Passing kept session h = absurd h
 
-module _ (H : Type 0) (askings : List Asking) (p q : Place) (session : Option (List ℕ)) (early : IsEarly p.step) (fresh : IsFresh q.step) where
+module _ (H : Bool → Type 0) (askings : List Asking) (p q : Place) (session : Option (List ℕ)) (early : IsEarly p.step) (fresh : IsFresh q.step) where
   was : AsEarly p.step p.kept session
   was = as_early p.step p.kept session early
 
@@ -83,6 +83,7 @@ module _ (H : Type 0) (askings : List Asking) (p q : Place) (session : Option (L
         course = λ id fits. unasked id live.stage none (live.course id fits);
         opened = is.opened (was.opened live.opened);
         heard = λ none. is.heard;
+        begun = live.begun;
       }
   fresh_live (Some w) live = absurd (elim live.waits [ inl (at, stage) ↦ (let no = was.none in cc) | inr (keeps, records, stage) ↦ (let no = was.records in cc) ])
 
@@ -96,10 +97,10 @@ passing_waits kept None stage h = h
 passing_waits kept (Some w) stage (inl (at, is)) = absurd (cc)
 passing_waits kept (Some w) stage (inr h) = inr h
 
-pub passing : (H : Type 0) (askings : List Asking) (tracks kept : ℕ) (waiting : Option Outstanding) (session : Option (List ℕ)) (stops : Bool)
+pub passing : (H : Bool → Type 0) (askings : List Asking) (tracks kept : ℕ) (waiting : Option Outstanding) (session : Option (List ℕ)) (stops : Bool)
     → AtTarget H askings (record { step = steps.Play; tracks = tracks; kept = kept }) waiting session stops → AtTarget H askings (record { step = steps.Passing; tracks = tracks; kept = kept }) waiting session stops
 passing H askings tracks kept waiting session stops (inl live) =
-    inl (record { stage = live.stage; waits = passing_waits kept waiting live.stage live.waits; course = live.course; opened = live.opened; heard = λ none. tt })
+    inl (record { stage = live.stage; waits = passing_waits kept waiting live.stage live.waits; course = live.course; opened = live.opened; heard = λ none. tt; begun = live.begun })
 passing H askings tracks kept waiting session stops (inr over) =
     inr (record { late = λ early. early; id = over.id; course = over.course; stopping = over.stopping; fits = over.fits; waits = over.waits })
 

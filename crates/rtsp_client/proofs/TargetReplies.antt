@@ -37,14 +37,14 @@ order_free : (askings : List Asking) (s : State) → AreInOrder askings s → Ar
 order_free askings s o = record { id = o.id; stage = o.stage; course = o.course; open_is = o.open_is }
 
 -- it ends if no session is open
-closing : (H : Type 0) (askings : List Asking) (test : Bool) (s new : State) (turn is : Turn) (end : End) → Good H askings s → MatchBool test (IsSame s new turn is) (IsEnd end s new turn) → Held H askings new
+closing : (H : Bool → Type 0) (askings : List Asking) (test : Bool) (s new : State) (turn is : Turn) (end : End) → Good H askings s → MatchBool test (IsSame s new turn is) (IsEnd end s new turn) → Held H askings new
 closing H askings true s new turn is end g (same, _) = subst (λ (t : State). Held H askings t) (sym same) (held H askings s g)
 closing H askings false s new turn is end g h = by_end H askings s new turn end (good_order H askings s g) h
 
-pub closes : (H : Type 0) (askings : List Asking) (s new : State) (turn : Turn) → Good H askings s → EndsIfClosed s new turn → Held H askings new
+pub closes : (H : Bool → Type 0) (askings : List Asking) (s new : State) (turn : Turn) → Good H askings s → EndsIfClosed s new turn → Held H askings new
 closes H askings s new turn g h = closing H askings (has_session s) s new turn turns.GoesOn ends.Stopped g h
 
-module _ (I : Type 0) (askings : List Asking) (s : State) where
+module _ (I : Bool → Type 0) (askings : List Asking) (s : State) where
   -- it waits no longer for what keeps the session alive
   pub kept_good : (live : Live I askings s.place (waiting_at Target s) (session_at Target s)) → Good I askings s → is_recording s.place.step ≡ true → live.stage ≡ Recording → Good I askings (free_at Target s)
   kept_good live g records stage_is = record {
@@ -57,6 +57,7 @@ module _ (I : Type 0) (askings : List Asking) (s : State) where
       course = live.course;
       opened = live.opened;
       heard = λ none. heard_recording I s.place.step records;
+      begun = live.begun;
     });
   }
 
@@ -72,7 +73,12 @@ module _ (I : Type 0) (askings : List Asking) (s : State) where
     target = inr (record { late = over.late; id = over.id; course = over.course; stopping = over.stopping; fits = λ o h. absurd (cc); waits = inr (refl, refl) });
   }
 
-module _ (H I : Type 0) (more : H → I) (askings : List Asking) (s new : State) (turn : Turn) (facts : ReplyFacts) (now : ℕ) (g : Good H askings s) where
+-- what success of a request says
+abbrev pub Hears : (I : Bool → Type 0) → Asked → Bool → Type 0
+Hears I asked true = I true
+Hears I asked false = asked ≡ asks.SetUpTarget → I false
+
+module _ (H I : Bool → Type 0) (more : (b : Bool) → H b → I b) (askings : List Asking) (s new : State) (turn : Turn) (facts : ReplyFacts) (now : ℕ) (g : Good H askings s) where
   good : Good I askings s
   good = good_more H I more askings s g
 
@@ -81,12 +87,12 @@ module _ (H I : Type 0) (more : H → I) (askings : List Asking) (s new : State)
 
   -- the step's request
   step_held : (verdict : Verdict) (asked : Asked) (live : Live H askings s.place (waiting_at Target s) (session_at Target s)) → OfStep verdict → FitsStep s.place.step s.place.tracks s.place.kept
-      → asked_at Target s.place.step ≡ Some asked → live.stage ≡ stage_after s.place.step s.place.kept → (verdict ≡ GoesOn → I)
+      → asked_at Target s.place.step ≡ Some asked → live.stage ≡ stage_after s.place.step s.place.kept → (verdict ≡ GoesOn → (b : Bool) → Hears I asked b)
       → Steps verdict asked facts now (answered_of Target (Of asked verdict) s) new turn → Held I askings new
   step_held Waits asked live of fit at stage_is heard h = same_held (Of asked Waits) (answered_of Target (Of asked Waits) s) turns.GoesOn good h
   step_held GoesOn asked live of fit at stage_is heard h =
-      done_held I askings s.place.step asked facts now (answered_of Target (Of asked GoesOn) s) new turn refl at fit live.opened
-      (record { source = g.source; awaits = g.awaits; keeps = g.keeps; free = refl; stage = live.stage; stage_is = stage_is; course = live.course; heard = heard refl }) h
+      done_held I askings s.place.step asked (heard refl false) facts now (answered_of Target (Of asked GoesOn) s) new turn refl at fit live.opened
+      (record { source = g.source; awaits = g.awaits; keeps = g.keeps; free = refl; stage = live.stage; stage_is = stage_is; course = live.course; heard = heard refl true; begun = λ o e. more false (live.begun o e) }) h
   step_held Follows asked live of fit at stage_is heard h = absurd of
   step_held LeavesOut asked live of fit at stage_is heard h = absurd of
   step_held Challenged asked live of fit at stage_is heard h = absurd of
@@ -99,7 +105,7 @@ module _ (H I : Type 0) (more : H → I) (askings : List Asking) (s new : State)
   step_held IsOver asked live of fit at stage_is heard h = absurd of
 
   step_taken : (verdict : Verdict) (asked : Asked) (live : Live H askings s.place (waiting_at Target s) (session_at Target s)) → OfStep verdict → FitsStep s.place.step s.place.tracks s.place.kept
-      → asked_at Target s.place.step ≡ Some asked → live.stage ≡ stage_after s.place.step s.place.kept → (verdict ≡ GoesOn → I)
+      → asked_at Target s.place.step ≡ Some asked → live.stage ≡ stage_after s.place.step s.place.kept → (verdict ≡ GoesOn → (b : Bool) → Hears I asked b)
       → TakesStep Target asked verdict facts now (answered_of Target (Of asked verdict) s) new turn → Held I askings new
   step_taken verdict asked live of fit at stage_is heard (inl (there, h)) = step_held verdict asked live of fit at stage_is heard h
   step_taken verdict asked live of fit at stage_is heard (inr (other, h)) = absurd (other at)
@@ -136,7 +142,7 @@ module _ (H I : Type 0) (more : H → I) (askings : List Asking) (s new : State)
   teardown_held IsOver of over h = closes I askings (with_closed Target (free_at Target s)) new turn (closed_good I askings s over good) h
 
   live_taken : (w : Outstanding) (asked : Asked) (verdict : Verdict) (c : StatusClass) (live : Live H askings s.place (waiting_at Target s) (session_at Target s)) → FitsStep s.place.step s.place.tracks s.place.kept
-      → WaitsAt s.place.step s.place.kept (Some w) live.stage → asked ≡ w.asked → verdict ≡ verdict_of asked c → (verdict ≡ GoesOn → I)
+      → WaitsAt s.place.step s.place.kept (Some w) live.stage → asked ≡ w.asked → verdict ≡ verdict_of asked c → (verdict ≡ GoesOn → (b : Bool) → Hears I asked b)
       → TakesOf Target asked verdict facts now (answered_of Target (Of asked verdict) s) new turn → Held I askings new
   live_taken w asked verdict c live fit (inl (at, stage_is)) is means heard h =
       let there : asked_at Target s.place.step ≡ Some asked = at ∙ ap (λ (a : Asked). Some a) (sym is) in
@@ -147,7 +153,7 @@ module _ (H I : Type 0) (more : H → I) (askings : List Asking) (s new : State)
       let as_is : TakesOf Target (asks.KeepAlive Target) verdict facts now (answered_of Target (Of (asks.KeepAlive Target) verdict) s) new turn =
       subst (λ (a : Asked). TakesOf Target a verdict facts now (answered_of Target (Of a verdict) s) new turn) same h in
       let more_live : Live I askings s.place (waiting_at Target s) (session_at Target s) =
-      record { stage = live.stage; waits = live.waits; course = live.course; opened = live.opened; heard = λ none. heard_recording I s.place.step records } in
+      record { stage = live.stage; waits = live.waits; course = live.course; opened = live.opened; heard = λ none. heard_recording I s.place.step records; begun = λ o e. more false (live.begun o e) } in
       keepalive_held verdict more_live (subst OfKeepalive (sym (means ∙ ap (λ (a : Asked). verdict_of a c) same)) (of_keepalive c)) records stage_is as_is.0
 
   over_taken : (asked : Asked) (verdict : Verdict) (c : StatusClass) → Over askings s.place (waiting_at Target s) (session_at Target s) s.is_stopping → asked ≡ asks.TearDown Target → verdict ≡ verdict_of asked c
@@ -158,7 +164,7 @@ module _ (H I : Type 0) (more : H → I) (askings : List Asking) (s new : State)
 
   -- the reply to the request that waits
   pub taken_target : (waiting : Option Outstanding) (asked : Asked) (verdict : Verdict) → waiting_at Target s ≡ waiting → FitsStep s.place.step s.place.tracks s.place.kept
-      → IsReply waiting facts.number facts.status (Of asked verdict) → (verdict ≡ GoesOn → I)
+      → IsReply waiting facts.number facts.status (Of asked verdict) → (verdict ≡ GoesOn → (b : Bool) → Hears I asked b)
       → TakesOf Target asked verdict facts now (answered_of Target (Of asked verdict) s) new turn → Held I askings new
   taken_target None asked verdict at fit none heard h = absurd none
   taken_target (Some w) asked verdict at fit (may, is, (c, has, means)) heard h = elim g.target [
@@ -169,7 +175,7 @@ module _ (H I : Type 0) (more : H → I) (askings : List Asking) (s new : State)
     ]
   ]
 
-module _ (I : Type 0) (askings : List Asking) (s new : State) (turn : Turn) (now : ℕ) (g : Good I askings s) where
+module _ (I : Bool → Type 0) (askings : List Asking) (s new : State) (turn : Turn) (now : ℕ) (g : Good I askings s) where
   -- the request that waits is late
   lack_live : (w : Outstanding) (asked : Asked) (l : Late) (live : Live I askings s.place (waiting_at Target s) (session_at Target s)) → WaitsAt s.place.step s.place.kept (Some w) live.stage → asked ≡ w.asked
       → l ≡ lateness asked → Lacks l asked Target (free_at Target s) new turn → Held I askings new

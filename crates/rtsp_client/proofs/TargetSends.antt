@@ -69,7 +69,7 @@ source_side : (stops : Bool) (s : State) (now : ℕ) (asked : Asked) → AwaitsA
 source_side true s now asked fits h = source_teardown (session_at Source s) asked h
 source_side false s now asked fits h = source_free s.awaits s now asked fits h
 
-pub sent_source : (H : Type 0) (askings : List Asking) (s : State) (now : ℕ) (asked : Asked) → Good H askings s → due Source s now ≡ Some asked → Good H askings (asked_of Source asked now s)
+pub sent_source : (H : Bool → Type 0) (askings : List Asking) (s : State) (now : ℕ) (asked : Asked) → Good H askings s → due Source s now ≡ Some asked → Good H askings (asked_of Source asked now s)
 sent_source H askings s now asked g h = record {
   source = source_side s.is_stopping s now asked g.awaits (due_parts Source s now asked h).1;
   awaits = tt;
@@ -177,7 +177,7 @@ pub kept_open : (session : Option (List ℕ)) (keepalive : Option Keepalive) (no
 kept_open None keepalive now keeps h = let none : false ≡ true = subst (λ (k : Option Keepalive). is_due k now ≡ true) keeps h in absurd (cc)
 kept_open (Some id) keepalive now keeps h = (id, refl, keeps)
 
-module _ (H I : Type 0) (askings : List Asking) (s : State) (now : ℕ) (asked : Asked) (g : Good H askings s) (fit : FitsStep s.place.step s.place.tracks s.place.kept) (free : waiting_at Target s ≡ None) where
+module _ (H I : Bool → Type 0) (more : H false → I false) (askings : List Asking) (s : State) (now : ℕ) (asked : Asked) (g : Good H askings s) (fit : FitsStep s.place.step s.place.tracks s.place.kept) (free : waiting_at Target s ≡ None) where
   abbrev next : State
   next = asked_of Target asked now s
 
@@ -226,6 +226,7 @@ module _ (H I : Type 0) (askings : List Asking) (s : State) (now : ℕ) (asked :
     course = λ id fits. (stage_at s.place.step s.place.kept, step_asks s.place.step s asked id refl (at ∙ h) fit live.opened fits, course_free live id fits);
     opened = live.opened;
     heard = λ none. absurd (cc);
+    begun = λ o e. more (live.begun o e);
   }
   live_next None at live h =
       let due = kept_due (is_due s.target.keepalive now) asked h in
@@ -249,6 +250,7 @@ module _ (H I : Type 0) (askings : List Asking) (s : State) (now : ℕ) (asked :
         );
         opened = live.opened;
         heard = λ none. absurd (cc);
+        begun = λ o e. more (live.begun o e);
       }
 
   sent_by : (stops : Bool) → s.is_stopping ≡ stops → due_or_teardown stops Target s now ≡ Some asked → Good I (asking_now s asked ∷ askings) next
@@ -258,8 +260,8 @@ module _ (H I : Type 0) (askings : List Asking) (s : State) (now : ℕ) (asked :
     | inr over ↦ (let stops = over.stopping in absurd (cc))
   ]
 
-pub sent_target : (H I : Type 0) (askings : List Asking) (s : State) (now : ℕ) (asked : Asked) → Good H askings s → FitsStep s.place.step s.place.tracks s.place.kept → due Target s now ≡ Some asked
+pub sent_target : (H I : Bool → Type 0) (more : H false → I false) (askings : List Asking) (s : State) (now : ℕ) (asked : Asked) → Good H askings s → FitsStep s.place.step s.place.tracks s.place.kept → due Target s now ≡ Some asked
     → Good I (asking_of Target asked s ++ askings) (asked_of Target asked now s)
-sent_target H I askings s now asked g fit h =
+sent_target H I more askings s now asked g fit h =
     let parts = due_parts Target s now asked h in
-    sent_by H I askings s now asked g fit parts.0 s.is_stopping refl parts.1
+    sent_by H I more askings s now asked g fit parts.0 s.is_stopping refl parts.1

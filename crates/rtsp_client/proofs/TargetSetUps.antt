@@ -13,6 +13,7 @@ use Rattle.rtsp_client.specs.Steps.{FitsStep, Place, asked_at, behind_target, do
 use Rattle.rtsp_client.specs.TargetCourse.{AreInOrder, Asking, IsCourse, SettingUp, Stage}
 use Rattle.transport_header.specs.declared.spec.ChannelPair.{ChannelPair}
 use Rattle.rtsp_client.specs.declared.asked.Asked.{Asked}
+use Rattle.rtsp_client.specs.declared.asked.Asked.TheVariants as asks
 use Rattle.rtsp_client.specs.declared.asked.Side.{Side}
 use Rattle.rtsp_client.specs.declared.asked.Side.TheVariants.{Source, Target}
 use Rattle.rtsp_client.specs.declared.awaits.Awaits.{Awaits}
@@ -77,7 +78,7 @@ behind_stage track kept few = go (nat_lt (track + 1) kept) refl where
   go true e = refl
   go false e = let most = ltb-false (track + 1) kept e in let all : kept ≡ track + 1 = omega (arith, most, few) in ap (λ (n : ℕ). SettingUp n) all
 
-behind_heard : (H : Type 0) (track kept : ℕ) → H → Heard H (behind_target track kept)
+behind_heard : (H : Bool → Type 0) (track kept : ℕ) → H true → Heard H (behind_target track kept)
 behind_heard H track kept h = go (nat_lt (track + 1) kept) where
   go : (b : Bool) → Heard H (if b then steps.SetUpTarget (track + 1) else steps.Record)
   go true = h
@@ -94,7 +95,7 @@ target_step : (step : Step) (asked : Asked) → asked_at Target step ≡ Some as
 target_step step asked at is = let none : asked_at Target steps.Describe ≡ Some asked = subst (λ (st : Step). asked_at Target st ≡ Some asked) is at in cc
 
 -- a client whose target said that what its step asked for is done
-pub record Answered (I : Type 0) (askings : List Asking) (s : State) : Type 0 where
+pub record Answered (I : Bool → Type 0) (askings : List Asking) (s : State) : Type 0 where
   pub source : OfSource (waiting_at Source s)
   pub awaits : AwaitsAt s.awaits s.place.step (waiting_at Source s)
   pub keeps : Keeps (session_at Target s) s.target.keepalive
@@ -102,9 +103,10 @@ pub record Answered (I : Type 0) (askings : List Asking) (s : State) : Type 0 wh
   pub stage : Stage
   pub stage_is : stage ≡ stage_after s.place.step s.place.kept
   pub course : (id : List ℕ) → Fits (session_at Target s) id → IsCourse s.place.kept id askings stage
-  pub heard : I
+  pub heard : I true
+  pub begun : (open_id : List ℕ) → session_at Target s ≡ Some open_id → I false
 
-module _ (I : Type 0) (askings : List Asking) where
+module _ (I : Bool → Type 0) (askings : List Asking) where
   -- the next step is due
   advance : (s : State) (step : Step) (passage : Passage) → Answered I askings s → (s.place.step ≡ steps.Describe → ⊥) → stage_after s.place.step s.place.kept ≡ stage_at step s.place.kept
       → OpenAt step (session_at Target s) → Heard I step → Held I askings (record s { place = record s.place { step = step }; passage = passage })
@@ -118,6 +120,7 @@ module _ (I : Type 0) (askings : List Asking) where
       course = a.course;
       opened = opened;
       heard = λ none. heard;
+      begun = a.begun;
     });
   })
 
@@ -144,8 +147,8 @@ module _ (I : Type 0) (askings : List Asking) where
   channels_held (Err fault) track s new turn a is few opens h = by_end s new turn (ends.Channels Target fault) (course_order askings s a.stage a.course) h
 
   -- the session that the reply opens
-  opened_answered : (facts : ReplyFacts) (now : ℕ) (s : State) → Answered I askings s → Answered I askings (opened_at Target facts.session now s)
-  opened_answered facts now s a =
+  opened_answered : I false → (facts : ReplyFacts) (now : ℕ) (s : State) → Answered I askings s → Answered I askings (opened_at Target facts.session now s)
+  opened_answered begins facts now s a =
       let already = session_at Target s in
       let requests = opened_requests already facts.session Target s.has_get_parameter now s.target in
       record {
@@ -157,15 +160,16 @@ module _ (I : Type 0) (askings : List Asking) where
         stage_is = a.stage_is;
         course = λ id fits. a.course id (λ o h. fits o (opens_on already facts.session Target s.has_get_parameter now s.target refl o h));
         heard = a.heard;
+        begun = λ o h. begins;
       }
 
-  session_held : (fault : Option SessionFault) (track : ℕ) (facts : ReplyFacts) (now : ℕ) (s new : State) (turn : Turn) → Answered I askings s → s.place.step ≡ steps.SetUpTarget track → track < s.place.kept
+  session_held : I false → (fault : Option SessionFault) (track : ℕ) (facts : ReplyFacts) (now : ℕ) (s new : State) (turn : Turn) → Answered I askings s → s.place.step ≡ steps.SetUpTarget track → track < s.place.kept
       → open_fault (session_at Target s) facts.session ≡ fault → SetsUpAfter fault Target facts now s new turn → Held I askings new
-  session_held (Some fault) track facts now s new turn a is few fault_is h =
-      let opened = opened_answered facts now s a in
+  session_held begins (Some fault) track facts now s new turn a is few fault_is h =
+      let opened = opened_answered begins facts now s a in
       by_end (opened_at Target facts.session now s) new turn (ends.Session Target fault) (course_order askings (opened_at Target facts.session now s) opened.stage opened.course) h
-  session_held None track facts now s new turn a is few fault_is h =
-      channels_held (pair_by facts.channels (asked_pair (track_in s.place.step))) track (opened_at Target facts.session now s) new turn (opened_answered facts now s a) is few
+  session_held begins None track facts now s new turn a is few fault_is h =
+      channels_held (pair_by facts.channels (asked_pair (track_in s.place.step))) track (opened_at Target facts.session now s) new turn (opened_answered begins facts now s a) is few
       (is_opened (session_at Target s) facts.session Target s.has_get_parameter now s.target refl fault_is) h
 
   next_held : (s new : State) (step : Step) (turn : Turn) → Answered I askings s → (s.place.step ≡ steps.Describe → ⊥) → done_from s.place ≡ record s.place { step = step }
@@ -174,18 +178,18 @@ module _ (I : Type 0) (askings : List Asking) where
       subst (λ (t : State). Held I askings t) (sym is)
       (subst (λ (p : Place). Held I askings (record s { place = p })) (sym at) (advance s step s.passage a other on opened heard))
 
-  pub done_held : (step : Step) (asked : Asked) (facts : ReplyFacts) (now : ℕ) (s new : State) (turn : Turn) → s.place.step ≡ step → asked_at Target step ≡ Some asked → FitsStep step s.place.tracks s.place.kept
+  pub done_held : (step : Step) (asked : Asked) → (asked ≡ asks.SetUpTarget → I false) → (facts : ReplyFacts) (now : ℕ) (s new : State) (turn : Turn) → s.place.step ≡ step → asked_at Target step ≡ Some asked → FitsStep step s.place.tracks s.place.kept
       → OpenAt step (session_at Target s) → Answered I askings s → StepIsDone step facts now s new turn → Held I askings new
-  done_held steps.Options asked facts now s new turn is at fit opened a h = absurd (cc)
-  done_held steps.Describe asked facts now s new turn is at fit opened a h = absurd (cc)
-  done_held (steps.SetUp track) asked facts now s new turn is at fit opened a h = absurd (cc)
-  done_held steps.Announce asked facts now s new turn is at fit opened a h =
+  done_held steps.Options asked begins facts now s new turn is at fit opened a h = absurd (cc)
+  done_held steps.Describe asked begins facts now s new turn is at fit opened a h = absurd (cc)
+  done_held (steps.SetUp track) asked begins facts now s new turn is at fit opened a h = absurd (cc)
+  done_held steps.Announce asked begins facts now s new turn is at fit opened a h =
       next_held s new (steps.SetUpTarget 0) turn a (λ describes. let both : steps.Announce ≡ steps.Describe = sym is ∙ describes in cc) (ap (λ (st : Step). done_at st s.place) is)
       (ap (λ (st : Step). stage_after st s.place.kept) is) opened a.heard h
-  done_held (steps.SetUpTarget track) asked facts now s new turn is at fit opened a h =
-      session_held (open_fault (session_at Target s) facts.session) track facts now s new turn a is fit refl h
-  done_held steps.Record asked facts now s new turn is at fit opened a h =
+  done_held (steps.SetUpTarget track) asked begins facts now s new turn is at fit opened a h =
+      session_held (begins (cc)) (open_fault (session_at Target s) facts.session) track facts now s new turn a is fit refl h
+  done_held steps.Record asked begins facts now s new turn is at fit opened a h =
       next_held s new steps.Play turn a (λ describes. let both : steps.Record ≡ steps.Describe = sym is ∙ describes in cc) (ap (λ (st : Step). done_at st s.place) is)
       (ap (λ (st : Step). stage_after st s.place.kept) is) opened tt h
-  done_held steps.Play asked facts now s new turn is at fit opened a h = absurd (cc)
-  done_held steps.Passing asked facts now s new turn is at fit opened a h = absurd (cc)
+  done_held steps.Play asked begins facts now s new turn is at fit opened a h = absurd (cc)
+  done_held steps.Passing asked begins facts now s new turn is at fit opened a h = absurd (cc)

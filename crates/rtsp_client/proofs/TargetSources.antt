@@ -40,7 +40,7 @@ use Rattle.rtsp_client.proofs.TargetReplies.{closes}
 use Rattle.rtsp_client.proofs.TargetSetUps.{by_end, opened_requests}
 use Rattle.rtsp_client.proofs.TargetStages.{AtTarget, AwaitsAt, Good, Held, IsEarly, Keeps, OfSource, ended, good_order, held}
 
-module _ (I : Type 0) (askings : List Asking) where
+module _ (I : Bool → Type 0) (askings : List Asking) where
   -- no redirect is waited for
   record Going (s : State) : Type 0 where
     source : OfSource (waiting_at Source s)

@@ -1,5 +1,5 @@
 -- How far a client has come with its target, by its step and by the request that waits.
-use Rattle.std.proofs.Common.{◌≡◌, refl, ℕ, zero, suc, ◌⊎◌, inl, inr, Bool, true, List, [], ◌∷◌, Option, Some, None, IsSome, ◌+◌}
+use Rattle.std.proofs.Common.{◌≡◌, refl, ℕ, zero, suc, ◌⊎◌, inl, inr, Bool, true, false, List, [], ◌∷◌, Option, Some, None, IsSome, ◌+◌}
 use Rattle.rtsp_client.specs.Clients.{State, keepalive_method, session_at, waiting_at, with_end}
 use Rattle.rtsp_client.specs.Steps.{Place, asked_at, is_recording}
 use Rattle.rtsp_client.specs.Table.{side_of}
@@ -70,14 +70,14 @@ WaitsAt step kept (Some w) stage =
     ((asked_at Target step ≡ Some w.asked) × (stage ≡ stage_after step kept))
     ⊎ ((w.asked ≡ asks.KeepAlive Target) × (is_recording step ≡ true) × (stage ≡ Recording))
 
--- SETUP and RECORD come after success of the request before
-abbrev pub Heard : (H : Type 0) → Step → Type 0
+-- SETUP and RECORD come after success of the request before, which `H true` says
+abbrev pub Heard : (H : Bool → Type 0) → Step → Type 0
 Heard H steps.Options = Unit {0}
 Heard H steps.Describe = Unit {0}
 Heard H (steps.SetUp track) = Unit {0}
 Heard H steps.Announce = Unit {0}
-Heard H (steps.SetUpTarget track) = H
-Heard H steps.Record = H
+Heard H (steps.SetUpTarget track) = H true
+Heard H steps.Record = H true
 Heard H steps.Play = Unit {0}
 Heard H steps.Passing = Unit {0}
 
@@ -86,12 +86,14 @@ abbrev pub Fits : Option (List ℕ) → (id : List ℕ) → Type 0
 Fits session id = (open_id : List ℕ) → session ≡ Some open_id → open_id ≡ id
 
 -- TEARDOWN was not sent
-pub record Live (H : Type 0) (askings : List Asking) (place : Place) (waiting : Option Outstanding) (session : Option (List ℕ)) : Type 0 where
+pub record Live (H : Bool → Type 0) (askings : List Asking) (place : Place) (waiting : Option Outstanding) (session : Option (List ℕ)) : Type 0 where
   pub stage : Stage
   pub waits : WaitsAt place.step place.kept waiting stage
   pub course : (id : List ℕ) → Fits session id → IsCourse place.kept id askings stage
   pub opened : OpenAt place.step session
   pub heard : waiting ≡ None → Heard H place.step
+  -- `H false` says that SETUP at the target has succeeded
+  pub begun : (open_id : List ℕ) → session ≡ Some open_id → H false
 
 -- TEARDOWN was sent
 pub record Over (askings : List Asking) (place : Place) (waiting : Option Outstanding) (session : Option (List ℕ)) (stops : Bool) : Type 0 where
@@ -102,7 +104,7 @@ pub record Over (askings : List Asking) (place : Place) (waiting : Option Outsta
   pub fits : Fits session id
   pub waits : ((w : Outstanding) × (waiting ≡ Some w) × (w.asked ≡ asks.TearDown Target)) ⊎ ((waiting ≡ None) × (session ≡ None))
 
-abbrev pub AtTarget : (H : Type 0) → List Asking → Place → Option Outstanding → Option (List ℕ) → (stops : Bool) → Type 0
+abbrev pub AtTarget : (H : Bool → Type 0) → List Asking → Place → Option Outstanding → Option (List ℕ) → (stops : Bool) → Type 0
 AtTarget H askings place waiting session stops = Live H askings place waiting session ⊎ Over askings place waiting session stops
 
 -- what the program is to say is about the source, and a redirect comes before anything was asked of the target
@@ -122,14 +124,14 @@ abbrev pub Keeps : Option (List ℕ) → Option Keepalive → Type 0
 Keeps None keepalive = keepalive ≡ None
 Keeps (Some id) keepalive = keepalive_method keepalive ≡ methods.Options
 
-pub record Good (H : Type 0) (askings : List Asking) (s : State) : Type 0 where
+pub record Good (H : Bool → Type 0) (askings : List Asking) (s : State) : Type 0 where
   pub source : OfSource (waiting_at Source s)
   pub awaits : AwaitsAt s.awaits s.place.step (waiting_at Source s)
   pub keeps : Keeps (session_at Target s) s.target.keepalive
   pub target : AtTarget H askings s.place (waiting_at Target s) (session_at Target s) s.is_stopping
 
 -- in order, and able to go on in order if the client has not ended
-pub record Held (H : Type 0) (askings : List Asking) (s : State) : Type 0 where
+pub record Held (H : Bool → Type 0) (askings : List Asking) (s : State) : Type 0 where
   pub order : AreInOrder askings s
   pub going : s.end ≡ None → Good H askings s
 
@@ -142,39 +144,39 @@ order_at askings s stage (Some id) is course = record { id = id; stage = stage; 
 pub course_order : (askings : List Asking) (s : State) (stage : Stage) → ((id : List ℕ) → Fits (session_at Target s) id → IsCourse s.place.kept id askings stage) → AreInOrder askings s
 course_order askings s stage course = order_at askings s stage (session_at Target s) refl course
 
-pub good_order : (H : Type 0) (askings : List Asking) (s : State) → Good H askings s → AreInOrder askings s
+pub good_order : (H : Bool → Type 0) (askings : List Asking) (s : State) → Good H askings s → AreInOrder askings s
 good_order H askings s g = elim g.target [
   | inl live ↦ course_order askings s live.stage live.course
   | inr over ↦ record { id = over.id; stage = Ended; course = over.course; open_is = over.fits }
 ]
 
-pub held : (H : Type 0) (askings : List Asking) (s : State) → Good H askings s → Held H askings s
+pub held : (H : Bool → Type 0) (askings : List Asking) (s : State) → Good H askings s → Held H askings s
 held H askings s g = record { order = good_order H askings s g; going = λ h. g }
 
 -- an end changes nothing of the requests
 pub order_end : (askings : List Asking) (end : End) (s : State) → AreInOrder askings s → AreInOrder askings (with_end end s)
 order_end askings end s o = record { id = o.id; stage = o.stage; course = o.course; open_is = o.open_is }
 
-pub ended : (H : Type 0) (askings : List Asking) (end : End) (s : State) → AreInOrder askings s → Held H askings (with_end end s)
+pub ended : (H : Bool → Type 0) (askings : List Asking) (end : End) (s : State) → AreInOrder askings s → Held H askings (with_end end s)
 ended H askings end s o = record { order = order_end askings end s o; going = λ h. absurd (cc) }
 
-heard_more : (H I : Type 0) → (H → I) → (step : Step) → Heard H step → Heard I step
+heard_more : (H I : Bool → Type 0) → ((b : Bool) → H b → I b) → (step : Step) → Heard H step → Heard I step
 heard_more H I more steps.Options h = tt
 heard_more H I more steps.Describe h = tt
 heard_more H I more (steps.SetUp track) h = tt
 heard_more H I more steps.Announce h = tt
-heard_more H I more (steps.SetUpTarget track) h = more h
-heard_more H I more steps.Record h = more h
+heard_more H I more (steps.SetUpTarget track) h = more true h
+heard_more H I more steps.Record h = more true h
 heard_more H I more steps.Play h = tt
 heard_more H I more steps.Passing h = tt
 
-pub good_more : (H I : Type 0) → (H → I) → (askings : List Asking) (s : State) → Good H askings s → Good I askings s
+pub good_more : (H I : Bool → Type 0) → ((b : Bool) → H b → I b) → (askings : List Asking) (s : State) → Good H askings s → Good I askings s
 good_more H I more askings s g = record {
   source = g.source;
   awaits = g.awaits;
   keeps = g.keeps;
   target = elim g.target [
-    | inl live ↦ inl (record { stage = live.stage; waits = live.waits; course = live.course; opened = live.opened; heard = λ none. heard_more H I more s.place.step (live.heard none) })
+    | inl live ↦ inl (record { stage = live.stage; waits = live.waits; course = live.course; opened = live.opened; heard = λ none. heard_more H I more s.place.step (live.heard none); begun = λ o h. more false (live.begun o h) })
     | inr over ↦ inr over
   ];
 }

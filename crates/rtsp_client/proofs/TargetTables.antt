@@ -1,5 +1,5 @@
 -- What the target's replies can mean, by the request.
-use Rattle.std.proofs.Common.{◌≡◌, sym, ap, subst, ℕ, true, Some, ◌∙◌}
+use Rattle.std.proofs.Common.{◌≡◌, sym, ap, subst, ℕ, true, Some, ◌∙◌, Bool}
 use Rattle.rtsp_client.specs.Clients.{State}
 use Rattle.rtsp_client.specs.Replies.{TakesOf, TakesStep}
 use Rattle.rtsp_client.specs.Steps.{asked_at, is_recording}
@@ -72,7 +72,7 @@ takes_step steps.Record asked verdict facts now old new turn at h =
 takes_step steps.Play asked verdict facts now old new turn at h = absurd (cc)
 takes_step steps.Passing asked verdict facts now old new turn at h = absurd (cc)
 
-pub heard_recording : (H : Type 0) (step : Step) → is_recording step ≡ true → Heard H step
+pub heard_recording : (H : Bool → Type 0) (step : Step) → is_recording step ≡ true → Heard H step
 heard_recording H steps.Options h = tt
 heard_recording H steps.Describe h = tt
 heard_recording H (steps.SetUp track) h = tt

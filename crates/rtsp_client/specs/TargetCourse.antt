@@ -112,7 +112,8 @@ abbrev pub IsAnswered : List Event → Type 0
 IsAnswered [] = ⊥
 IsAnswered (event ∷ before) = IsSuccess event ⊎ ((IsSent event → ⊥) × IsAnswered before)
 
--- What has to come before a request to the target: success of the one before, or of RECORD.
+-- What has to come before a request to the target: success of the one before; of RECORD, if it keeps the session alive; of SETUP,
+-- if it is TEARDOWN.
 abbrev pub IsReadyFor : Asked → List Event → Type 0
 IsReadyFor asks.Options before = Unit {0}
 IsReadyFor asks.Describe before = Unit {0}
@@ -122,4 +123,4 @@ IsReadyFor asks.SetUpTarget before = IsAnswered before
 IsReadyFor asks.Record before = IsAnswered before
 IsReadyFor asks.Play before = Unit {0}
 IsReadyFor (asks.KeepAlive side) before = Contains before (takes Target (Of asks.Record GoesOn))
-IsReadyFor (asks.TearDown side) before = Unit {0}
+IsReadyFor (asks.TearDown side) before = Contains before (takes Target (Of asks.SetUpTarget GoesOn))

@@ -40,10 +40,12 @@ pub fn runs()
     ensures nothing_after { (side : Side) (asked : Asked) (number : ℕ) (old new : State) → Goes (sends side asked number) old new → old.end ≡ None }
 {}
 
-/// Whatever happens to a client: what it asks its target for is in this order: ANNOUNCE; SETUP of each track that is set up at the source,
-/// in order, without a Session header the first; RECORD; any number of OPTIONS; TEARDOWN, which is the last request and can come after the
-/// first SETUP. After the first SETUP each has the identifier of the target's session. SETUP and RECORD are sent only after success of the
-/// request before, and OPTIONS only after success of RECORD.
+/// Whatever happens to a client: what it asks its target for is in this order: ANNOUNCE; SETUP of each track that is set up at the source;
+/// RECORD; any number of OPTIONS; TEARDOWN, which is the last request and can come after the first SETUP. ANNOUNCE and the first SETUP have
+/// no Session header, and each later request has the identifier of the target's session.
+///
+/// SETUP and RECORD are sent only after success of the request before, OPTIONS only after success of RECORD, and TEARDOWN only after success
+/// of a SETUP.
 pub fn target_course()
     ensures asked { (events : List Event) (state : State) → HasGone events state → (askings : List Asking) × HasAsked events askings state }
     ensures gone { (events : List Event) (askings : List Asking) (state : State) → HasAsked events askings state → HasGone events state }
