@@ -92,7 +92,7 @@ module _ (publication : Publication) (asking : Asking) (request : RequestText) (
       ∙ ap (λ (a : Asked). unwrap_or (made_uri a (track_in asking.ask.method) made.places.target.now) (given_uri a made.places)) asked_is
       ∙ ap (λ (m : Method). unwrap_or (made_uri asked (track_in m) made.places.target.now) (given_uri asked made.places)) method_is
 
-  announces : (session : Option (List ℕ)) → IsAsking asks.Announce methods.Announce session asking → session ≡ None → AsksAnnounce publication request
+  pub announces : (session : Option (List ℕ)) → IsAsking asks.Announce methods.Announce session asking → session ≡ None → AsksAnnounce publication request
   announces session is none =
       let of = announce_kind request.asked made.places.description.now (made.text.asks.description ∙ ap (λ (m : Method). description_if m made.places.description.now) is.method_is) in (
         of.0,
@@ -104,7 +104,7 @@ module _ (publication : Publication) (asking : Asking) (request : RequestText) (
         },
       )
 
-  sets_up : (track : ℕ) (session : Option (List ℕ)) → track < 16 → IsAsking asks.SetUpTarget (methods.SetUp track (asked_pair track)) session asking → AsksSetup publication track session request
+  pub sets_up : (track : ℕ) (session : Option (List ℕ)) → track < 16 → IsAsking asks.SetUpTarget (methods.SetUp track (asked_pair track)) session asking → AsksSetup publication track session request
   sets_up track session few is =
       let of = setup_kind request.asked (track_transport track)
       (made.text.asks.transport
@@ -119,21 +119,21 @@ module _ (publication : Publication) (asking : Asking) (request : RequestText) (
         },
       )
 
-  records : (session : Option (List ℕ)) → IsAsking asks.Record methods.Record session asking → AsksRecord publication session request
+  pub records : (session : Option (List ℕ)) → IsAsking asks.Record methods.Record session asking → AsksRecord publication session request
   records session is = record {
     kind_is = record_kind request.asked (method_is methods.Record is.method_is);
     uri_is = uri_is asks.Record methods.Record is.asked_is is.method_is ∙ made.target_is;
     session_is = session_is session is.session_is;
   }
 
-  keeps : (session : Option (List ℕ)) → IsAsking (asks.KeepAlive Target) methods.Options session asking → AsksOptions publication session request
+  pub keeps : (session : Option (List ℕ)) → IsAsking (asks.KeepAlive Target) methods.Options session asking → AsksOptions publication session request
   keeps session is = record {
     kind_is = options_kind request.asked (method_is methods.Options is.method_is);
     uri_is = uri_is (asks.KeepAlive Target) methods.Options is.asked_is is.method_is ∙ made.target_is;
     session_is = session_is session is.session_is;
   }
 
-  tears_down : (session : Option (List ℕ)) → IsAsking (asks.TearDown Target) methods.TearDown session asking → AsksTeardown publication session request
+  pub tears_down : (session : Option (List ℕ)) → IsAsking (asks.TearDown Target) methods.TearDown session asking → AsksTeardown publication session request
   tears_down session is = record {
     kind_is = teardown_kind request.asked (method_is methods.TearDown is.method_is);
     uri_is = uri_is (asks.TearDown Target) methods.TearDown is.asked_is is.method_is ∙ made.target_is;

@@ -39,10 +39,13 @@ ghost use Rattle.relay_pass.specs.declared.report.StreamEnd.TheVariants.{End as 
 ghost use Rattle.relay_pass.specs.declared.report.PassStop.TheVariants.{Stream};
 ghost use Rattle.relay_pass.specs.Carried.{AreWritten};
 ghost use Rattle.relay_pass.specs.Passes.{PassesOn};
-ghost use Rattle.rtsp_client.specs.Clients.{State as ClientState};
+ghost use Rattle.rtsp_client.specs.Clients.{State as ClientState, asked_pair};
 ghost use Rattle.rtsp_client.specs.Runs.{Event};
-ghost use Rattle.rtsp_client.specs.TargetCourse.{Asking, HasAsked};
-ghost use Rattle.client_laws.specs.Clients.{AreAskedBy, HaveIdentifier};
+ghost use Rattle.rtsp_client.specs.TargetCourse.{Asking, HasAsked, IsAsking};
+ghost use Rattle.rtsp_client.specs.declared.ask.Method.TheVariants.{Announce as by_announce, Options as by_options, Record as by_record, SetUp as by_setup, TearDown as by_teardown};
+ghost use Rattle.rtsp_client.specs.declared.asked.Asked.TheVariants.{Announce as asked_announce, KeepAlive as asked_keepalive, Record as asked_record, SetUpTarget as asked_setup, TearDown as asked_teardown};
+ghost use Rattle.rtsp_client.specs.declared.asked.Side.TheVariants.{Target as TargetSide};
+ghost use Rattle.client_laws.specs.Clients.{AreAskedBy, HaveIdentifier, IsMadeOf};
 ghost use Rattle.client_laws.specs.Sent.{IsBeginning, ReadsBeginning, frames_sent};
 ghost use Rattle.client_laws.specs.Course.{AreAnsweredOk, IsAt, Moves, Publishes, Stage, is_of};
 ghost use Rattle.client_laws.specs.Phases.{IsAnnounced, IsFresh, IsInSession, IsRecording, IsSettingUp, IsToldSession};
@@ -99,6 +102,21 @@ pub fn what_a_client_asks()
     ensures course { (seats conn : ℕ) (publication : Publication) (events : List Event) (askings : List Asking) (client : ClientState) (id : List ℕ) (later start : History)
         → CanBePublished publication → HasAsked events askings client → track_count publication ≡ client.place.kept → HaveIdentifier id askings
         → AreAskedBy seats conn publication id later start askings → (stage : Stage) × Publishes seats conn publication later start stage }
+{}
+
+/// A request that `client_requests` makes of what a client asks its target for is the one that the course has: at the publication's URI,
+/// with its description, and with the Session header of the client. SETUP goes to the track's URI and asks to record.
+pub fn requests()
+    ensures announce { (publication : Publication) (asking : Asking) (request : RequestText) → IsMadeOf publication asking request
+        → IsAsking asked_announce by_announce None asking → AsksAnnounce publication request }
+    ensures set_up { (publication : Publication) (asking : Asking) (request : RequestText) (track : ℕ) (session : Option (List ℕ)) → IsMadeOf publication asking request → track < 16
+        → IsAsking asked_setup (by_setup track (asked_pair track)) session asking → AsksSetup publication track session request }
+    ensures record_frames { (publication : Publication) (asking : Asking) (request : RequestText) (session : Option (List ℕ)) → IsMadeOf publication asking request
+        → IsAsking asked_record by_record session asking → AsksRecord publication session request }
+    ensures keep_alive { (publication : Publication) (asking : Asking) (request : RequestText) (session : Option (List ℕ)) → IsMadeOf publication asking request
+        → IsAsking (asked_keepalive TargetSide) by_options session asking → AsksOptions publication session request }
+    ensures tear_down { (publication : Publication) (asking : Asking) (request : RequestText) (session : Option (List ℕ)) → IsMadeOf publication asking request
+        → IsAsking (asked_teardown TargetSide) by_teardown session asking → AsksTeardown publication session request }
 {}
 
 /// ANNOUNCE of a connection that owns no mount and has no session is answered 200, where the server has a place for the mount.

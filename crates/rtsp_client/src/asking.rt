@@ -4,6 +4,7 @@ ghost use Rattle.rtsp_client.specs.Asking.{IsIdle};
 ghost use Rattle.rtsp_client.specs.Clients.{asked_of, asked_pair, due, keepalive_method, method_of, number_at, repeats, session_at, source_due, step_or_keepalive, teardown_due, waiting_at, with_end};
 ghost use Rattle.rtsp_client.specs.Runs.{Goes, idles, runs_out, sends};
 ghost use Rattle.rtsp_client.specs.Steps.{asked_at, track_in};
+ghost use Rattle.rtsp_client.specs.TargetCourse.{ask_of};
 ghost use Rattle.rtsp_client.specs.declared.ask.Method.TheVariants.{SetUp};
 
 use crate::ask::{Ask, Method};
@@ -25,6 +26,7 @@ impl Client {
         ensures method { IfSome result (λ ask. ask.method ≡ method_of ask.asked self.old) }
         ensures session { IfSome result (λ ask. ask.has_session ≡ is_some (session_at ask.side self.old)) }
         ensures again { IfSome result (λ ask. ask.is_repeat ≡ repeats ask.side self.old) }
+        ensures is { IfSome result (λ ask. ask ≡ ask_of ask.side ask.asked self.old) }
         ensures asked { IfSome result (λ ask. self.new ≡ asked_of ask.side ask.asked now self.old) }
         ensures none { IfNone result (IsIdle self.old now self.new) }
         ensures goes { IfSome result (λ ask. Goes (sends ask.side ask.asked ask.number) self.old self.new) }
@@ -99,6 +101,7 @@ impl Client {
         ensures method { IfSome result (λ ask. ask.method ≡ method_of asked self.old) }
         ensures session { IfSome result (λ ask. ask.has_session ≡ is_some (session_at side self.old)) }
         ensures again { IfSome result (λ ask. ask.is_repeat ≡ repeats side self.old) }
+        ensures is { IfSome result (λ ask. ask ≡ ask_of side asked self.old) }
         ensures sent { IfSome result (λ ask. self.new ≡ asked_of side asked now self.old) }
         ensures used_up { IfNone result (4_294_967_295 ≤ number_at side self.old) }
         ensures ends { IfNone result (self.new ≡ with_end (End.NumbersUsedUp side) self.old) }
