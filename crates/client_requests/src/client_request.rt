@@ -55,10 +55,10 @@ impl<'a> ClientRequest<'a> {
     }
 
     /// Returns the request with these values of Session and Authorization.
-    pub fn text<'b>(
+    pub fn text<'b, 's: 'b, 'd: 'b>(
         &'b self,
-        session: Option<&'b [u8]>,
-        authorization: Option<&'b [u8]>,
+        session: Option<&'s [u8]>,
+        authorization: Option<&'d [u8]>,
     ) -> RequestText<'b>
         ensures { IsText self.now (option_copied session.entry) (option_copied authorization.entry) result }
     {
@@ -66,8 +66,8 @@ impl<'a> ClientRequest<'a> {
             asked: self.asked(),
             uri: self.uri(),
             number: self.ask.number,
-            session,
-            authorization,
+            session: lent(session),
+            authorization: lent(authorization),
         }
     }
 
@@ -111,5 +111,15 @@ impl<'a> ClientRequest<'a> {
             rtsp_client::Method::GetParameter => Method::GetParameter,
             rtsp_client::Method::TearDown => Method::Teardown,
         }
+    }
+}
+
+/// Returns the same text for a shorter time.
+fn lent<'b, 's: 'b>(text: Option<&'s [u8]>) -> Option<&'b [u8]>
+    ensures { option_copied result ≡ option_copied text.entry }
+{
+    match text {
+        Some(text) => Some(text),
+        None => None,
     }
 }

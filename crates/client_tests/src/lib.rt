@@ -12,6 +12,8 @@ mod draws;
 #[cfg(test)]
 mod outcome;
 #[cfg(test)]
+mod request_tests;
+#[cfg(test)]
 mod table;
 #[cfg(test)]
 mod url_tests;
