@@ -12,6 +12,10 @@ mod draws;
 #[cfg(test)]
 mod outcome;
 #[cfg(test)]
+mod pull_tests;
+#[cfg(test)]
+mod pulled;
+#[cfg(test)]
 mod request_tests;
 #[cfg(test)]
 mod table;

@@ -1,0 +1,4 @@
+pub mod Watches
+pub mod Tries
+pub mod Passing
+pub mod Asks

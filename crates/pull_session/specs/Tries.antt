@@ -1,0 +1,20 @@
+-- A try of a pull: what decides in it, and what waits to be written.
+use Rattle.std.specs.Prelude.{ℕ, List}
+use Rattle.rtsp_client.specs.Clients.{State}
+use Rattle.rtsp_client.specs.declared.asked.Side.{Side}
+use Rattle.rtsp_client.specs.declared.asked.Side.TheVariants.{Source, Target}
+use Rattle.pull_session.specs.declared.line.Line.{Line}
+use Rattle.pull_session.specs.declared.watch.Watch.{Watch}
+
+-- a try at a moment
+pub record Try : Type 0 where
+  pub client : State
+  -- the URI of the target's mount
+  pub mount : List ℕ
+  pub source : Line
+  pub target : Line
+  pub watch : Watch
+
+abbrev pub line_of : Side → Try → Line
+line_of Source session = session.source
+line_of Target session = session.target

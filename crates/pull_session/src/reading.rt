@@ -1,0 +1,123 @@
+//! What servers send.
+
+ghost use Rattle.std.specs.Prelude.{◌≡◌, ◌⊎◌, Some, None, IsSome};
+ghost use Rattle.rtsp_client.specs.declared.asked.Side.TheVariants.{Source};
+ghost use Rattle.pull_session.specs.Passing.{Passes, StaysUnread, TakesUnit, TakesUnits};
+
+use crate::reason::Reason;
+use crate::session::PullSession;
+use rtsp_client::Side;
+use rtsp_message::{Fed, Received, Request, Status, Unit};
+
+impl PullSession {
+    /// These bytes of a side came at this moment. After the client's end they are dropped.
+    pub fn read(&mut self, side: Side, bytes: &[u8], now: u64)
+        ensures frames { side ≡ Source → self.old.client.end ≡ None → Passes bytes.now self.old self.new ⊎ StaysUnread self.old self.new }
+        ensures ended { IsSome self.old.client.end → self.new ≡ self.old }
+    {
+        if self.client.end().is_some() {
+            return;
+        }
+        match side {
+            Side::Source => self.read_source(bytes, now),
+            Side::Target => self.read_target(bytes, now),
+        }
+    }
+
+    /// These bytes of the source came.
+    fn read_source(&mut self, bytes: &[u8], now: u64)
+        ensures { Passes bytes.now self.old self.new ⊎ StaysUnread self.old self.new }
+    {
+        match self.source_line.reader.feed(bytes) {
+            Ok(Fed { units, fault }) => {
+                self.take_source_units(units, now);
+                if let Some(fault) = fault {
+                    let side = Side::Source;
+                    self.fail(Reason::Faulty { side, fault }, side);
+                }
+            }
+            Err(_) => self.fail(Reason::OutOfMemory, Side::Source),
+        }
+    }
+
+    /// These bytes of the target came.
+    fn read_target(&mut self, bytes: &[u8], now: u64) {
+        match self.target_line.reader.feed(bytes) {
+            Ok(Fed { units, fault }) => {
+                self.take_target_units(units, now);
+                if let Some(fault) = fault {
+                    let side = Side::Target;
+                    self.fail(Reason::Faulty { side, fault }, side);
+                }
+            }
+            Err(_) => self.fail(Reason::OutOfMemory, Side::Target),
+        }
+    }
+
+    /// Takes what the source sent.
+    fn take_source_units(&mut self, units: Vec<Unit>, now: u64)
+        ensures takes { TakesUnits units.items self.old.client self.new.client self.old.target.waiting self.new.target.waiting }
+        ensures source { self.new.source.reader ≡ self.old.source.reader }
+        ensures reader { self.new.target.reader ≡ self.old.target.reader }
+    {
+        for unit in units {
+            self.take_source_unit(unit, now);
+        }
+    }
+
+    /// Takes a frame or a message of the source.
+    fn take_source_unit(&mut self, unit: Unit, now: u64)
+        ensures takes { TakesUnit unit self.old.client self.new.client self.old.target.waiting self.new.target.waiting }
+        ensures source { self.new.source.reader ≡ self.old.source.reader }
+        ensures reader { self.new.target.reader ≡ self.old.target.reader }
+    {
+        match unit {
+            Unit::Frame(frame) => self.take_frame(&frame, now),
+            Unit::Message(message) => self.take_message(Side::Source, Unit::Message(message), now),
+        }
+    }
+
+    /// Takes what the target sent. Frames of it are dropped.
+    fn take_target_units(&mut self, units: Vec<Unit>, now: u64) {
+        for unit in units {
+            self.take_message(Side::Target, unit, now);
+        }
+    }
+
+    /// Takes a message of a side. After a redirect what the old connection still brings is dropped.
+    fn take_message(&mut self, side: Side, unit: Unit, now: u64)
+        ensures target { side ≡ Source → self.new.target ≡ self.old.target }
+        ensures reader { self.new.target.reader ≡ self.old.target.reader }
+        ensures source { self.new.source.reader ≡ self.old.source.reader }
+    {
+        if side == Side::Source && self.next_place.is_some() {
+            return;
+        }
+        match Received::from(unit) {
+            Received::Frame(_) => {}
+            Received::Reply(reply) => self.take_reply(side, &reply, now),
+            Received::Request(request) => self.take_request(side, &request),
+        }
+    }
+
+    /// Replies to a request of a server.
+    fn take_request(&mut self, side: Side, request: &Request)
+        ensures target { side ≡ Source → self.new.target ≡ self.old.target }
+        ensures reader { self.new.target.reader ≡ self.old.target.reader }
+        ensures source { self.new.source.reader ≡ self.old.source.reader }
+    {
+        let is_options = request.method.as_slice() == b"OPTIONS".as_slice();
+        let status = if self.client.asks(is_options) == 200 {
+            Status::Ok
+        } else {
+            Status::NotImplemented
+        };
+        let put = match side {
+            Side::Source => self.source_line.waiting.put_reply(status, request.cseq),
+            Side::Target => self.target_line.waiting.put_reply(status, request.cseq),
+        };
+        if put.is_err() {
+            self.fail(Reason::OutOfMemory, side);
+        }
+    }
+}
