@@ -33,7 +33,7 @@ impl Wires for EndingWires {
     fn wait(&mut self, _milliseconds: u64) {}
 }
 
-/// A station in memory. Every second connection is refused. It stops after a number of connections.
+/// A station in memory. Every tenth connection is made, and the others are refused. It stops after a number of connections.
 #[derive(Drop)]
 pub(crate) struct MemoryStation {
     pub(crate) alloc: Global,
@@ -80,7 +80,7 @@ impl Station for MemoryStation {
 
     fn connect(&mut self, _source: &Source, _target: &Target) -> Result<EndingWires, TryEnd> {
         self.connects = self.connects.saturating_add(1);
-        if self.connects % 2 == 0 {
+        if self.connects % 10 != 0 {
             let (side, kind) = (Side::Source, ErrorKind::ConnectionRefused);
             return Err(TryEnd::NotConnected { side, kind });
         }

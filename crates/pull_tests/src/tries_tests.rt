@@ -17,7 +17,7 @@ const PLAN: Plan<'static> = Plan {
     once: false,
 };
 
-/// 3,000 tries end at once or aren't connected. Each has its line, and the delays are those of a first one of 10 milliseconds.
+/// 3,000 tries aren't connected, or end at once. Each has its line, and the delays are those of a first one of 10 milliseconds.
 #[test]
 fn three_thousand_tries_have_their_lines_and_delays(rt: HostRuntime) {
     let mut station = MemoryStation::new(rt.alloc(), 3_000);
