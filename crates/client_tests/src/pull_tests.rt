@@ -5,7 +5,7 @@ use rtsp_client::Side;
 use std::alloc::Global;
 
 /// Brings a try to where the description is asked for.
-fn is_connected(it: &mut Pulled) -> bool {
+pub(crate) fn is_connected(it: &mut Pulled) -> bool {
     if !it.asks(
         Side::Source,
         "OPTIONS rtsp://10.0.0.9/cam?a=1 RTSP/1.0\r\nCSeq: 1\r\nUser-Agent: Vasklun/0.1\r\n\r\n",
@@ -23,7 +23,7 @@ fn is_connected(it: &mut Pulled) -> bool {
 }
 
 /// Brings a try to where both tracks are set up at the source.
-fn is_set_up(alloc: Global, it: &mut Pulled) -> bool {
+pub(crate) fn is_set_up(alloc: Global, it: &mut Pulled) -> bool {
     let length = DESCRIPTION.len();
     let Ok(reply) = format!(in alloc;
         "RTSP/1.0 200 OK\r\nCSeq: 2\r\nContent-Length: {length}\r\n\r\n{DESCRIPTION}"
@@ -291,21 +291,4 @@ fn a_redirect_and_a_challenge(rt: HostRuntime) {
     );
     it.passes(0);
     assert!(&rt; it.ends_by(rt.alloc(), "password refused"), "refused");
-}
-
-/// A target that has another publisher of the name.
-#[test]
-fn a_target_refuses(rt: HostRuntime) {
-    let mut it = Pulled::new(rt.alloc(), "rtsp://10.0.0.9/cam?a=1", None).expect(&rt, "try");
-    assert!(&rt;
-        is_connected(&mut it) && is_set_up(rt.alloc(), &mut it),
-        "requests"
-    );
-    it.passes(0);
-    it.says(Side::Target, "RTSP/1.0 403 Forbidden\r\nCSeq: 1\r\n\r\n");
-    assert!(&rt;
-        it.ends_by(rt.alloc(), "target refused ANNOUNCE: 403"),
-        "reason"
-    );
-    assert!(&rt; it.session.is_over(it.now), "over");
 }

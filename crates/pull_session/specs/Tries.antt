@@ -1,5 +1,7 @@
 -- A try of a pull: what decides in it, and what waits to be written.
-use Rattle.std.specs.Prelude.{ℕ, List}
+use Rattle.std.specs.Prelude.{ℕ, List, [], false}
+use Rattle.rtsp_message.specs.ReaderStates.{nothing_fed}
+use Rattle.rtsp_message.specs.declared.peer.Peer.TheVariants.{Server}
 use Rattle.rtsp_client.specs.Clients.{State}
 use Rattle.rtsp_client.specs.declared.asked.Side.{Side}
 use Rattle.rtsp_client.specs.declared.asked.Side.TheVariants.{Source, Target}
@@ -18,3 +20,11 @@ pub record Try : Type 0 where
 abbrev pub line_of : Side → Try → Line
 line_of Source session = session.source
 line_of Target session = session.target
+
+-- nothing came on a connection, and nothing waits
+abbrev pub new_line : Line
+new_line = record {
+  reader = record { peer = Server; state = nothing_fed };
+  waiting = record { items = []; begun = 0; room = 0 };
+  is_closed = false;
+}

@@ -7,7 +7,6 @@ ghost use Rattle.pull_session.specs.Asks.{IsForTarget, PutsRequests};
 ghost use Rattle.pull_session.specs.Passing.{TakesBytes};
 
 use crate::limits::MOST_ASKS;
-use crate::note::Note;
 use crate::offer::Offer;
 use crate::reason::{DescriptionFault, LoginFault, Reason};
 use crate::session::PullSession;
@@ -103,8 +102,8 @@ impl PullSession {
             self.watch.skips(now);
         }
         let _ = self.client.ticks(Side::Target, now);
-        // A reply that is there and isn't read isn't late.
-        if self.watch.has_read(now) {
+        // A reply that is there and isn't read isn't late, but that of a keepalive ends nothing, and the next one has to go out.
+        if self.watch.has_read(now) || matches!(self.last_asked, Some(Asked::KeepAlive(_))) {
             let _ = self.client.ticks(Side::Source, now);
         }
         if self.watch.is_closing() {
@@ -125,22 +124,25 @@ impl PullSession {
         ensures mount { self.new.mount ≡ self.old.mount }
     {
         match self.put(ask) {
-            Ok(()) => {}
-            Err(Unsent::OutOfMemory) => self.fail(Reason::OutOfMemory, ask.side),
-            Err(Unsent::Announce(fault)) => {
-                let fault = DescriptionFault::CannotAnnounce(fault);
-                self.fail(Reason::Description(fault), ask.side);
-            }
-            Err(Unsent::Login(fault)) => {
-                self.fail(Reason::Login(LoginFault::Answer(fault)), ask.side);
-            }
-            Err(Unsent::TooLong) => {
-                self.fail(Reason::RequestTooLong { asked: ask.asked }, ask.side);
-            }
+            Ok(()) => self.note(ask, now),
+            Err(fault) => self.fail(reason_of(fault, ask.asked), ask.side),
+        }
+    }
+
+    /// Notes that a request was put.
+    fn note(&mut self, ask: &Ask, now: u64)
+        ensures source { self.new.source ≡ self.old.source }
+        ensures target { self.new.target ≡ self.old.target }
+        ensures mount { self.new.mount ≡ self.old.mount }
+    {
+        if ask.asked.side() == Side::Source {
+            self.last_asked = Some(ask.asked);
         }
         if ask.asked == Asked::Play {
             self.watch.hears(now);
-            self.notes.add(Note::Begins);
+            if !ask.is_repeat {
+                self.notes.begin();
+            }
         }
     }
 
@@ -242,6 +244,16 @@ fn put_to<'a>(
     match waiting.put_request(&text) {
         Ok(()) => Ok(()),
         Err(fault) => Err(text_unsent(fault)),
+    }
+}
+
+/// Returns why a try ends whose request isn't sent.
+fn reason_of(fault: Unsent, asked: Asked) -> Reason {
+    match fault {
+        Unsent::OutOfMemory => Reason::OutOfMemory,
+        Unsent::Announce(fault) => Reason::Description(DescriptionFault::CannotAnnounce(fault)),
+        Unsent::Login(fault) => Reason::Login(LoginFault::Answer(fault)),
+        Unsent::TooLong => Reason::RequestTooLong { asked },
     }
 }
 

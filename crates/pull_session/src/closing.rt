@@ -21,19 +21,28 @@ impl PullSession {
         ensures target { self.new.target.waiting ≡ self.old.target.waiting }
     {
         match side {
-            Side::Source => {
-                self.source_line.is_closed = true;
-                if self.source_line.reader.missing().is_some() {
-                    self.client.cut_frame();
-                }
-                self.leave(Reason::Client(end), now);
-            }
+            Side::Source => self.lose_source(end, now),
             Side::Target => {
                 self.target_line.is_closed = true;
                 self.leave(Reason::Client(end), now);
-                self.client.ended(end);
             }
         }
+    }
+
+    /// The source has closed its connection at this moment, or it was lost. After a redirect the old connection doesn't matter any more.
+    fn lose_source(&mut self, end: End, now: u64)
+        ensures source { self.new.source.waiting ≡ self.old.source.waiting }
+        ensures target { self.new.target ≡ self.old.target }
+        ensures mount { self.new.mount ≡ self.old.mount }
+    {
+        if self.next_place.is_some() || self.source_line.is_closed {
+            return;
+        }
+        self.source_line.is_closed = true;
+        if self.source_line.reader.missing().is_some() {
+            self.client.cut_frame();
+        }
+        self.leave(Reason::Client(end), now);
     }
 
     /// The try ends for this reason, if it has none yet, and sessions that are open are closed.
@@ -42,9 +51,7 @@ impl PullSession {
         ensures target { self.new.target ≡ self.old.target }
         ensures mount { self.new.mount ≡ self.old.mount }
     {
-        if self.reason.is_none() {
-            self.reason = Some(reason);
-        }
+        self.give_reason(reason);
         self.watch.closes(now);
         let _ = self.client.stops();
     }
@@ -58,9 +65,16 @@ impl PullSession {
         ensures watch { self.new.watch ≡ self.old.watch }
         ensures mount { self.new.mount ≡ self.old.mount }
     {
-        if self.reason.is_none() {
+        self.give_reason(reason);
+        self.client.ended(End::ConnectionLost { side });
+    }
+
+    /// The try ends for this reason, if it has none yet.
+    pub(crate) fn give_reason(&mut self, reason: Reason)
+        ensures { self.new ≡ self.old }
+    {
+        if self.reason().is_none() {
             self.reason = Some(reason);
         }
-        self.client.ended(End::ConnectionLost { side });
     }
 }

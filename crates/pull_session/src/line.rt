@@ -1,7 +1,6 @@
 //! One of the two connections of a try, as streams of bytes.
-ghost use Rattle.std.specs.Prelude.{◌≡◌, [], false};
-ghost use Rattle.rtsp_message.specs.ReaderStates.{nothing_fed};
-ghost use Rattle.rtsp_message.specs.declared.peer.Peer.TheVariants.{Server};
+ghost use Rattle.std.specs.Prelude.{◌≡◌};
+ghost use Rattle.pull_session.specs.Tries.{new_line};
 
 use outgoing::Outgoing;
 use rtsp_message::{Peer, PeerReader};
@@ -19,7 +18,7 @@ pub struct Line {
 impl Line {
     /// Nothing came, and nothing waits.
     pub(crate) fn new(alloc: Global) -> Line
-        ensures { result ≡ record { reader = record { peer = Server; state = nothing_fed }; waiting = record { items = []; begun = 0; room = 0 }; is_closed = false } }
+        ensures { result ≡ new_line }
     {
         Line {
             reader: PeerReader::new(alloc, Peer::Server),

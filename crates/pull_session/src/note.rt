@@ -25,10 +25,12 @@ pub enum Note {
     Begins,
 }
 
-/// Notes that the program hasn't taken yet, at most 64.
+/// Notes that the program hasn't taken yet. A try has at most 64, and the one that it begins.
 #[derive(Drop)]
 pub struct Notes {
     list: Vec<Note>,
+    /// How many were added.
+    added: usize,
 }
 
 impl Notes {
@@ -36,14 +38,21 @@ impl Notes {
     pub(crate) fn new(alloc: Global) -> Notes {
         Notes {
             list: Vec::new(alloc),
+            added: 0,
         }
     }
 
-    /// Adds a note. It is dropped if 64 wait, or if there is no memory.
+    /// Adds a note. It is dropped if the try had 64, or if there is no memory.
     pub(crate) fn add(&mut self, note: Note) {
-        if self.list.len() < MOST_NOTES {
+        if self.added < MOST_NOTES {
+            self.added += 1;
             let _ = self.list.push(note);
         }
+    }
+
+    /// Adds the note that frames begin to come, however many others there were.
+    pub(crate) fn begin(&mut self) {
+        let _ = self.list.push(Note::Begins);
     }
 
     /// Returns the notes, in order.

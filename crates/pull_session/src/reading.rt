@@ -7,7 +7,7 @@ ghost use Rattle.pull_session.specs.Passing.{Passes, StaysUnread, TakesUnit, Tak
 use crate::reason::Reason;
 use crate::session::PullSession;
 use rtsp_client::Side;
-use rtsp_message::{Fed, Received, Request, Status, Unit};
+use rtsp_message::{Fault, Fed, Received, Request, Status, Unit};
 
 impl PullSession {
     /// These bytes of a side came at this moment. After the client's end they are dropped.
@@ -32,11 +32,21 @@ impl PullSession {
             Ok(Fed { units, fault }) => {
                 self.take_source_units(units, now);
                 if let Some(fault) = fault {
-                    let side = Side::Source;
-                    self.fail(Reason::Faulty { side, fault }, side);
+                    self.fault_source(fault);
                 }
             }
             Err(_) => self.fail(Reason::OutOfMemory, Side::Source),
+        }
+    }
+
+    /// The source's stream can't be read on. After a redirect that of the old connection doesn't matter any more.
+    fn fault_source(&mut self, fault: Fault)
+        ensures source { self.new.source ≡ self.old.source }
+        ensures target { self.new.target ≡ self.old.target }
+    {
+        if self.next_place.is_none() {
+            let side = Side::Source;
+            self.fail(Reason::Faulty { side, fault }, side);
         }
     }
 
@@ -100,12 +110,15 @@ impl PullSession {
         }
     }
 
-    /// Replies to a request of a server.
+    /// Replies to a request of a server. While too much waits for that server, its requests have no reply.
     fn take_request(&mut self, side: Side, request: &Request)
         ensures target { side ≡ Source → self.new.target ≡ self.old.target }
         ensures reader { self.new.target.reader ≡ self.old.target.reader }
         ensures source { self.new.source.reader ≡ self.old.source.reader }
     {
+        if self.line(side).waiting.is_full() {
+            return;
+        }
         let is_options = request.method.as_slice() == b"OPTIONS".as_slice();
         let status = if self.client.asks(is_options) == 200 {
             Status::Ok

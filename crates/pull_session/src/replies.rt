@@ -1,6 +1,7 @@
 //! What replies mean for a try.
 
-ghost use Rattle.std.specs.Prelude.{◌≡◌};
+ghost use Rattle.std.specs.Prelude.{◌≡◌, ◌⊎◌};
+ghost use Rattle.pull_session.specs.Tries.{new_line};
 
 use crate::note::Note;
 use crate::offer::Offer;
@@ -122,14 +123,18 @@ impl PullSession {
                 self.client.answers_challenge(true);
             }
             Err(fault) => {
-                self.reason = Some(Reason::Login(fault));
+                self.give_reason(Reason::Login(fault));
                 self.client.answers_challenge(false);
             }
         }
     }
 
     /// There is a connection to the place that the redirect names: numbers begin anew on it.
-    pub fn redirected(&mut self) {
+    pub fn redirected(&mut self)
+        ensures target { self.new.target ≡ self.old.target }
+        ensures mount { self.new.mount ≡ self.old.mount }
+        ensures source { (self.new.source ≡ self.old.source) ⊎ (self.new.source ≡ new_line) }
+    {
         if let Some(place) = self.next_place.take() {
             self.place = place;
             self.source_line = crate::line::Line::new(self.alloc);

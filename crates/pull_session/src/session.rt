@@ -1,5 +1,5 @@
 //! One try of a pull, as one value.
-ghost use Rattle.std.specs.Prelude.{◌≡◌, ◌<◌, length, IsTrue};
+ghost use Rattle.std.specs.Prelude.{◌≡◌, ◌<◌, length, IsTrue, is_some, true, false};
 ghost use Rattle.outgoing.specs.Queues.{bytes_waiting};
 ghost use Rattle.pull_session.specs.Tries.{line_of};
 
@@ -12,7 +12,7 @@ use crate::reason::Reason;
 use crate::watch::Watch;
 use base_syntax::Bytes;
 use rtsp_auth::Credentials;
-use rtsp_client::{Client, FrameAccount, Side};
+use rtsp_client::{Asked, Client, FrameAccount, Side};
 use sequence_counts::TrackCounts;
 use source_urls::{Source, Target};
 use std::alloc::Global;
@@ -35,6 +35,8 @@ pub struct PullSession {
     pub(crate) source_line: Line,
     pub(crate) target_line: Line,
     pub(crate) watch: Watch,
+    /// What the source was asked for last.
+    pub(crate) last_asked: Option<Asked>,
     pub(crate) reason: Option<Reason>,
     pub(crate) notes: Notes,
 }
@@ -75,6 +77,7 @@ impl PullSession {
             source_line: Line::new(alloc),
             target_line: Line::new(alloc),
             watch: Watch::new(),
+            last_asked: None,
             reason: None,
             notes: Notes::new(alloc),
         }
@@ -105,12 +108,14 @@ impl PullSession {
         self.client.session(side).is_none() && self.line(side).waiting.waiting().is_empty()
     }
 
-    /// Returns whether bytes of the source are to be read: fewer than 262,144 bytes and fewer than 4,096 frames wait for the target.
+    /// Returns whether bytes of the source are to be read: fewer than 262,144 bytes and fewer than 4,096 frames wait for the target, or the
+    /// try is closing, and no frame is put any more.
     pub fn may_read_source(&self) -> bool
-        ensures few { IsTrue result → length (bytes_waiting self.now.target.waiting) < 262_144 }
+        ensures few { IsTrue result → is_some self.now.watch.closes_at ≡ false → (length (bytes_waiting self.now.target.waiting) < 262_144) × (self.now.client.passage.account.unsent < 4_096) }
         ensures reads { length (bytes_waiting self.now.target.waiting) < 262_144 → self.now.client.passage.account.unsent < 4_096 → IsTrue result }
+        ensures closing { is_some self.now.watch.closes_at ≡ true → IsTrue result }
     {
-        !self.target_line.waiting.is_full() && self.client.may_read()
+        self.watch.is_closing() || (!self.target_line.waiting.is_full() && self.client.may_read())
     }
 
     /// Returns the bytes that are to be written to a side.
