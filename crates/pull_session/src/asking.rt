@@ -8,22 +8,14 @@ ghost use Rattle.pull_session.specs.Passing.{TakesBytes};
 
 use crate::limits::MOST_ASKS;
 use crate::offer::Offer;
-use crate::reason::{DescriptionFault, LoginFault, Reason};
+use crate::reason::Reason;
 use crate::session::PullSession;
+use crate::unsent::{Unsent, login_unsent, reason_of, text_unsent};
 use client_requests::{ClientRequest, Places};
 use outgoing::Outgoing;
-use request_text::RequestFault;
-use rtsp_auth::{FieldFault, Request};
+use rtsp_auth::Request;
 use rtsp_client::{Ask, Asked, Method, Side};
 use source_sdp::AnnounceError;
-
-/// Why a request isn't sent.
-enum Unsent {
-    OutOfMemory,
-    Announce(AnnounceError),
-    Login(FieldFault),
-    TooLong,
-}
 
 impl PullSession {
     /// Time passes to this moment: requests that are due are sent, and the try ends if a reply, a frame or the target is late.
@@ -285,21 +277,5 @@ fn places_of<'a>(
             target,
             description: b"",
         },
-    }
-}
-
-/// Why a request without an answer to a challenge isn't sent.
-fn login_unsent(fault: FieldFault) -> Unsent {
-    match fault {
-        FieldFault::OutOfMemory => Unsent::OutOfMemory,
-        other => Unsent::Login(other),
-    }
-}
-
-/// Why a request that isn't written isn't sent.
-fn text_unsent(fault: RequestFault) -> Unsent {
-    match fault {
-        RequestFault::OutOfMemory => Unsent::OutOfMemory,
-        _ => Unsent::TooLong,
     }
 }

@@ -16,6 +16,7 @@ mod reason;
 mod replies;
 mod session;
 mod tracks;
+mod unsent;
 mod watch;
 
 pub use note::{Note, Notes};
