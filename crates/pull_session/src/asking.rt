@@ -239,16 +239,6 @@ fn put_to<'a>(
     }
 }
 
-/// Returns why a try ends whose request isn't sent.
-fn reason_of(fault: Unsent, asked: Asked) -> Reason {
-    match fault {
-        Unsent::OutOfMemory => Reason::OutOfMemory,
-        Unsent::Announce(fault) => Reason::Description(DescriptionFault::CannotAnnounce(fault)),
-        Unsent::Login(fault) => Reason::Login(LoginFault::Answer(fault)),
-        Unsent::TooLong => Reason::RequestTooLong { asked },
-    }
-}
-
 /// Returns where requests go.
 fn places_of<'a>(
     source: &'a [u8],
