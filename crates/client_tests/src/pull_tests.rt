@@ -178,7 +178,10 @@ fn sessions_are_kept_and_ended(rt: HostRuntime) {
         "teardown"
     );
     assert!(&rt; !it.session.is_over(now), "waits for replies");
-    assert!(&rt; it.session.is_over(now + 1_000), "a second is enough");
+    assert!(&rt;
+        it.session.is_over(now.saturating_add(1_000)),
+        "a second is enough"
+    );
     assert!(&rt; it.ends_by(rt.alloc(), "stopped"), "reason");
 }
 
