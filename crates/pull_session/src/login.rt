@@ -93,6 +93,9 @@ impl Login {
         };
         let challenge = challenge_of(alloc, reply)?;
         let is_basic = matches!(&challenge, Challenge::Basic);
+        if is_basic && !credentials.is_for(host) {
+            return Err(LoginFault::OtherHost);
+        }
         let request = Request {
             method: last.method,
             uri: last.uri.as_slice(),

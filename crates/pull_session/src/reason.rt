@@ -29,7 +29,9 @@ pub enum LoginFault {
     Challenge(ChoiceFault),
     /// The answer can't be written.
     Answer(FieldFault),
-    /// The password is refused, or it isn't sent to this host.
+    /// The password would be sent as it is (Basic) to another host than that of the source's URL.
+    OtherHost,
+    /// The password is refused.
     Refused,
 }
 
@@ -138,6 +140,7 @@ fn write_login<W: fmt::Write>(fault: LoginFault, f: &mut fmt::Formatter<W>) -> f
         LoginFault::NoKnownChallenge => write!(f, "source asks for an unknown way to log in"),
         LoginFault::Challenge(fault) => write!(f, "source's challenge: {fault}"),
         LoginFault::Answer(fault) => write!(f, "answer to the source's challenge: {fault}"),
+        LoginFault::OtherHost => write!(f, "password not sent to another host (Basic)"),
         LoginFault::Refused => write!(f, "password refused"),
     }
 }

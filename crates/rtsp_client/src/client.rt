@@ -2,6 +2,7 @@
 ghost use Rattle.std.specs.Prelude.{◌≡◌, ◌<◌, ◌↔◌, IsTrue};
 ghost use Rattle.std.specs.Option.{option_copied};
 ghost use Rattle.rtsp_client.specs.Clients.{connection_of, kept_track, new_client, session_at, status_for};
+ghost use Rattle.transport_header.specs.Tracks.{pair_at};
 
 use crate::asked::Side;
 use crate::awaits::Awaits;
@@ -13,6 +14,7 @@ use crate::progress::Progress;
 use crate::redirects::Redirects;
 use sequence_counts::TrackCounts;
 use std::marker::Model;
+use transport_header::ChannelPair;
 
 /// A client that fetches a stream from a source and gives it to a target (RFC 2326, A.1). A program carries out what it says:
 ///
@@ -113,6 +115,13 @@ impl Client {
         } else {
             None
         }
+    }
+
+    /// Returns the channels of the source's connection that the track at this place among those that are set up has.
+    pub fn channels(&self, place: usize) -> Option<ChannelPair>
+        ensures { result ≡ pair_at self.now.passage.map.source place }
+    {
+        self.passage.map.source.pair_of(place)
     }
 
     /// Returns what became of the frames that came.
