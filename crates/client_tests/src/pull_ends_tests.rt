@@ -29,7 +29,10 @@ fn a_password_stays_with_its_host(rt: HostRuntime) {
         "RTSP/1.0 401 Unauthorized\r\nCSeq: 1\r\nWWW-Authenticate: Basic realm=\"r\"\r\n\r\n",
     );
     it.passes(0);
-    assert!(&rt; it.ends_by(rt.alloc(), "password not sent to another host (Basic)"), "reason");
+    assert!(&rt;
+        it.ends_by(rt.alloc(), "password not sent to another host (Basic)"),
+        "reason"
+    );
 }
 
 /// Requests go to the place that the description names, and the camera's session is ended if the target goes away.
