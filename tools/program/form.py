@@ -139,7 +139,7 @@ def wrong_page(name, page, names):
 
 def wrong_form(readme, operating, sources):
     """Yields the name of a page and what is wrong with its text, by the sources of the command line: the text of each module by its name."""
-    options = {command: declared(sources, command) for command in ("serve", "talk", "steps", "pass")}
+    options = {command: declared(sources, command) for command in ("serve", "pull", "talk", "steps", "pass")}
     found = [option for each in options.values() for option in each]
     names = OF_EACH | {option.name for option in found}
     for what, call, those in (("options", '.long("', found), ("ranges", ".value_parser(", [it for it in found if it.range])):

@@ -1,4 +1,4 @@
-"""The man page of the Debian package, made from README, docs/OPERATING.md and the help of `talk`, `steps` and `pass`."""
+"""The man page of the Debian package, made from README, docs/OPERATING.md and the help of `pull`, `talk`, `steps` and `pass`."""
 import re
 import subprocess
 
@@ -19,6 +19,10 @@ vasklun \\- live relay for RTSP 1.0
 .I ADDR
 [options]
 .br
+.B vasklun pull
+.I SOURCE TARGET
+[options]
+.br
 .B vasklun talk
 [\\-\\-word HEX8]
 .br
@@ -31,7 +35,8 @@ vasklun \\- live relay for RTSP 1.0
 HELP = "| `-h`, `--help` | Print all options with their ranges and defaults | | |"
 
 SIGNALS = """\
-INT, TERM and HUP stop `serve`: it closes all connections, writes their accounts and the last report, and exits with status 0. If it \
+INT, TERM and HUP stop `serve`: it closes all connections, writes their accounts and the last report, and exits with status 0. They \
+stop `pull`: it tears its sessions down, writes the account of its last try, and exits with status 0. If one of them \
 is still there after five seconds, it is killed. They are for `vasklun`, a script; the program that it runs ignores them."""
 
 EXIT_STATUS = """\
@@ -125,5 +130,5 @@ def man_page(readme, operating, program, number):
     about = [part.text for part in parts(readme) if part.kind == "paragraph"][:2]
     page = [HEAD.format(number=number).rstrip(), ".SH DESCRIPTION", roff(about[0]), ".PP", roff(about[1])]
     page += [".SH OPTIONS OF SERVE", *options(readme), ".SH LINES ON STANDARD ERROR", *chapter(operating, LINES)]
-    page += [*help_of(program, "talk"), *help_of(program, "steps"), *help_of(program, "pass"), ".SH SIGNALS", roff(SIGNALS), ".SH EXIT STATUS", EXIT_STATUS, ""]
+    page += [*help_of(program, "pull"), *help_of(program, "talk"), *help_of(program, "steps"), *help_of(program, "pass"), ".SH SIGNALS", roff(SIGNALS), ".SH EXIT STATUS", EXIT_STATUS, ""]
     return "\n".join(page)

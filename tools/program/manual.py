@@ -28,7 +28,7 @@ def shown(page):
 def options_missing(program, page):
     """Options of a command's help that the man page doesn't have."""
     sections = dict(re.findall(r"(?ms)^\.SH ([^\n]+)\n(.*?)(?=^\.SH|\Z)", page))
-    for command, section in (("serve", "OPTIONS OF SERVE"), ("talk", "HELP OF TALK"), ("steps", "HELP OF STEPS"), ("pass", "HELP OF PASS")):
+    for command, section in (("serve", "OPTIONS OF SERVE"), ("pull", "HELP OF PULL"), ("talk", "HELP OF TALK"), ("steps", "HELP OF STEPS"), ("pass", "HELP OF PASS")):
         ran = subprocess.run([program, command, "--help"], capture_output=True, text=True, timeout=60)
         named = re.findall(r"(?m)^ +(?:-\w, )?(--[\w-]+(?: <\w+>)?)", ran.stdout)
         if ran.returncode or len(named) < 2:

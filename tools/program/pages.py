@@ -21,8 +21,10 @@ TOP = pathlib.Path(__file__).resolve().parent.parent.parent
 NOT_RUN = {
     ".ci/run": "it is what runs this",
     "tools/package": "it needs Debian's tools",
+    "./relay pull ": "its camera is another machine: `pulling_ends.py` runs it with a camera of this one",
     "sudo dpkg -i ": "it changes the system",
     "sudo systemctl ": "it changes the system",
+    "sudo install ": "it changes the system",
     "sudo apt install ": "it changes the system",
     "journalctl ": "it reads the system's log, which the package's unit writes",
 }
@@ -62,7 +64,7 @@ def of_page(page):
 
 def of_help(program):
     """The command lines after `Example:` or `Examples:` in the program's help."""
-    for words in (), ("serve",), ("talk",), ("steps",), ("pass",):
+    for words in (), ("serve",), ("pull",), ("talk",), ("steps",), ("pass",):
         text = subprocess.run([program, *words, "--help"], capture_output=True, text=True, timeout=60).stdout
         yield from (line for part in re.split(r"^Examples?:.*$", text, flags=re.M)[1:] for line in joined(part))
 

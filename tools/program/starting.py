@@ -63,7 +63,7 @@ def refused_lines(program):
 
 def help_is_narrow(program):
     """Help has at most 100 columns."""
-    for words in ((), ("serve",), ("talk",), ("steps",), ("pass",)):
+    for words in ((), ("serve",), ("pull",), ("talk",), ("steps",), ("pass",)):
         ran = run(program, *words, "--help")
         widest = max(map(len, ran.stdout.splitlines() or ["x" * (WIDEST + 1)]))
         if ran.returncode or widest > WIDEST:

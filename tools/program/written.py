@@ -39,6 +39,7 @@ VALUES = {
     ("relay_server::refusing", "{why}"): ("server_counts/src/refusal.rt",),
     ("relay_server::refusing", "{line}"): ("relay_log/src/refused_line.rt",),
     ("relay_server::reports", "{line}"): ("status/src/mount_status.rt", "status/src/player_status.rt"),
+    ("relay_pull::camera", "{line}"): ("relay_pull/src/line.rt",),
 }
 
 # The sources whose texts have to be in the chapter by their words in any case, and a text of theirs that no line has.
