@@ -1,5 +1,5 @@
 #!/bin/bash
-# Runs the program, and lets a signal stop `serve` with its last lines written. The program can't handle signals, but with
+# Runs the program, and lets a signal stop `serve` and `pull` with their last lines written. The program can't handle signals, but with
 # `--until-eof` it stops when its standard input ends. So its standard input is a pipe whose only writer is this shell: it
 # closes the pipe at INT, TERM or HUP, and if the shell itself is killed, the kernel does.
 #
@@ -18,10 +18,10 @@ run() {
     exec -a "${0##*/}" "$1" "${@:2}"
 }
 
-# Returns true if these arguments start a server whose end is a signal. Everything else keeps its own standard input.
+# Returns true if these arguments start a server or a pull whose end is a signal. Everything else keeps its own standard input.
 is_endless() {
     local word
-    [ "${1:-}" = serve ] || return 1
+    case ${1:-} in serve | pull) ;; *) return 1 ;; esac
     for word; do
         case $word in -h | --help | --until-eof) return 1 ;; esac
     done
@@ -33,13 +33,13 @@ open_pipe() {
     exec 3<> <(:) 4< /dev/fd/3
 }
 
-# serve PROGRAM serve [ARGUMENT ..]: runs the program on the pipe, and exits with its status.
+# serve PROGRAM COMMAND [ARGUMENT ..]: runs the program on the pipe, and exits with its status.
 serve() {
     local status=0
     # Ctrl-C, and TERM to a whole control group, come to the program too: it ignores what was ignored before exec.
     (
         trap '' INT TERM HUP
-        exec -a "${0##*/}" "$1" serve --until-eof "${@:3}"
+        exec -a "${0##*/}" "$1" "$2" --until-eof "${@:3}"
     ) <&4 3>&- 4<&- &
     child=$!
     # A signal before this line ends the shell, which closes the pipe too.

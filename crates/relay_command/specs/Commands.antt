@@ -9,4 +9,5 @@ abbrev pub task_of : List ℕ → Option Task
 task_of name =
     if bytes_eq name (codes "talk") then Some tasks.Talk
     else (if bytes_eq name (codes "steps") then Some tasks.Steps
-    else (if bytes_eq name (codes "serve") then Some tasks.Serve else (if bytes_eq name (codes "pass") then Some tasks.Pass else None)))
+    else (if bytes_eq name (codes "serve") then Some tasks.Serve else (if bytes_eq name (codes "pass") then Some tasks.Pass
+    else (if bytes_eq name (codes "pull") then Some tasks.Pull else None))))

@@ -1,4 +1,5 @@
 pub mod Channels
 pub mod Commands
+pub mod Pulling
 pub mod Serving
 pub mod Stopping

@@ -5,6 +5,7 @@ use Rattle.pacing.specs.declared.recent.Back.TheVariants as back
 use Rattle.relay_command.specs.declared.settings.Settings.{Settings}
 use Rattle.relay_command.specs.declared.settings.SendBuffer.{SendBuffer}
 use Rattle.relay_command.specs.declared.settings.SendBuffer.TheVariants as buffer
+use Rattle.relay_command.specs.Pulling.{IsPulledInRange}
 use Rattle.relay_command.specs.declared.asked.Asked.{Asked}
 use Rattle.relay_command.specs.declared.asked.Asked.TheVariants as asks
 
@@ -45,10 +46,11 @@ HasRoomToSend buffer.System = ⊤
 HasRoomToSend (buffer.Bytes bytes) = 16384 ≤ bytes
 
 -- A server that is asked for has its numbers in their ranges, and no writers beside players that send themselves. The ring of a
--- pass keeps 1 to 4,095 packets.
+-- pass keeps 1 to 4,095 packets. A pull has its times in their ranges.
 abbrev pub IsServedInRange : Asked → Type 0
 IsServedInRange (asks.Serve endpoints settings origins) = IsInRange settings × SendsItself settings × HasRoomToSend settings.send_buffer
 IsServedInRange (asks.Talk word) = ⊤
 IsServedInRange (asks.Steps stopped) = ⊤
 IsServedInRange (asks.Pass passing) = (1 ≤ passing.keep) × (passing.keep ≤ 4095)
+IsServedInRange (asks.Pull settings) = IsPulledInRange settings
 IsServedInRange asks.Nothing = ⊤

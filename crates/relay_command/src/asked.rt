@@ -9,11 +9,13 @@ ghost use Rattle.relay_command.specs.Stopping.{IsStopped, IsNoActor};
 
 use crate::channels::read_channels;
 use crate::commands::{command, pass_command, serve_command, steps_command};
+use crate::pull_line::{can_have_password, hidden_fault, pulling_of};
 use crate::settings::{Endpoints, Origins, Passing, SendBuffer, Settings, number};
 use crate::task::{Task, task_named};
 use clap::error::ErrorKind;
 use clap::{ArgMatches, Error};
 use networks::{NetworkFault, Networks};
+use pull_plan::PullSettings;
 use ring_script::read_actor;
 use ring_steps::Actor;
 use std::alloc::{AllocError, Global};
@@ -31,6 +33,8 @@ pub enum Asked {
     Serve(Endpoints, Settings, Origins),
     /// A publisher's stream is passed through a ring to a player.
     Pass(Passing),
+    /// A stream is fetched from a server and published.
+    Pull(PullSettings),
     /// No command, which the parser lets no line be.
     Nothing,
 }
@@ -40,8 +44,13 @@ pub enum Asked {
 pub fn read_words<S: AsStr>(alloc: Global, words: &[S]) -> Result<Asked, Error>
     ensures ranges { IfOk result IsServedInRange }
 {
-    let matches = command(alloc)?.try_get_matches_from(words)?;
-    asked_of(alloc, &matches)
+    match command(alloc)?.try_get_matches_from(words) {
+        Ok(matches) => asked_of(alloc, &matches),
+        Err(error) if error.exit_code() != 0 && can_have_password(words) => {
+            Err(hidden_fault(alloc)?)
+        }
+        Err(error) => Err(error),
+    }
 }
 
 /// What the parser found, as what is asked for.
@@ -70,6 +79,7 @@ fn asked_of(alloc: Global, matches: &ArgMatches) -> Result<Asked, Error>
             Ok(Asked::Serve(endpoints, settings, origins))
         }
         Some(Task::Pass) => Ok(Asked::Pass(passing_of(alloc, of_command)?)),
+        Some(Task::Pull) => Ok(Asked::Pull(pulling_of(alloc, of_command)?)),
         None => Ok(Asked::Nothing),
     }
 }

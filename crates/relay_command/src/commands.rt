@@ -1,5 +1,5 @@
 //! The commands with their texts, and how the options of each are put together.
-use crate::serve_options;
+use crate::{pull_options, serve_options};
 use clap::{Arg, Command};
 use std::alloc::{AllocError, Global};
 
@@ -36,9 +36,16 @@ const PASS_EXAMPLE: &str =
 printf '$\\000\\000\\014\\200\\140\\000\\001\\000\\000\\000\\001\\000\\000\\000\\007' |
 ./relay pass --to 2-3 | od -An -tx1";
 
-/// The command line: `relay serve`, `relay talk`, `relay steps` and `relay pass`.
+/// A camera that is a server, as a line for the shell.
+const PULL_EXAMPLE: &str =
+    "Example: a camera's stream as the mount door of the relay on this machine
+
+./relay pull rtsp://10.0.0.9/stream rtsp://127.0.0.1:8554/door";
+
+/// The command line: `relay serve`, `relay pull`, `relay talk`, `relay steps` and `relay pass`.
 pub(crate) fn command<'a>(alloc: Global) -> Result<Command<'a>, AllocError> {
     let serve = serve_command(alloc)?;
+    let pull = pull_command(alloc)?;
     let talk = talk_command(alloc)?;
     let steps = steps_command(alloc)?;
     let pass = pass_command(alloc)?;
@@ -48,6 +55,7 @@ pub(crate) fn command<'a>(alloc: Global) -> Result<Command<'a>, AllocError> {
         .after_help(EXAMPLE)
         .subcommand_required(true)
         .subcommand(serve)?
+        .subcommand(pull)?
         .subcommand(talk)?
         .subcommand(steps)?
         .subcommand(pass)
@@ -135,4 +143,21 @@ pub(crate) fn serve_command<'a>(alloc: Global) -> Result<Command<'a>, AllocError
         .arg(serve_options::http_players(alloc)?)?
         .arg(serve_options::until_eof(alloc))?
         .arg(serve_options::accept(alloc))
+}
+
+/// `relay pull SOURCE TARGET`, with its options, their ranges and their defaults.
+pub(crate) fn pull_command<'a>(alloc: Global) -> Result<Command<'a>, AllocError> {
+    Command::new(alloc, "pull")
+        .about("Fetches the stream of a camera that is an RTSP server, and publishes it")
+        .after_help(PULL_EXAMPLE)
+        .arg(pull_options::source(alloc))?
+        .arg(pull_options::target(alloc))?
+        .arg(pull_options::once(alloc))?
+        .arg(pull_options::password_file(alloc))?
+        .arg(pull_options::tracks(alloc))?
+        .arg(pull_options::silent(alloc))?
+        .arg(pull_options::retry(alloc))?
+        .arg(pull_options::verbose(alloc))?
+        .arg(pull_options::report(alloc))?
+        .arg(pull_options::until_eof(alloc))
 }

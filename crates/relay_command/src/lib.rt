@@ -4,6 +4,8 @@
 mod asked;
 mod channels;
 mod commands;
+mod pull_line;
+mod pull_options;
 mod serve_options;
 mod settings;
 mod task;

@@ -16,6 +16,8 @@ pub enum Task {
     Serve,
     /// `relay pass`: a publisher's stream goes through a ring.
     Pass,
+    /// `relay pull`: a stream is fetched and published.
+    Pull,
 }
 
 /// Returns the task that a command's name means. `None` if the program has no such command.
@@ -27,6 +29,7 @@ pub fn task_named(name: &str) -> Option<Task>
         "steps" => Some(Task::Steps),
         "serve" => Some(Task::Serve),
         "pass" => Some(Task::Pass),
+        "pull" => Some(Task::Pull),
         _ => None,
     }
 }

@@ -5,6 +5,7 @@ ghost use Rattle.std.specs.Prelude.{◌≤◌};
 
 mod addresses;
 mod process;
+mod pulling;
 mod send_buffers;
 mod serve;
 mod server_pages;
@@ -12,6 +13,7 @@ mod status_pages;
 pub mod task;
 
 use interleaved::{Reading, Writing};
+use pulling::pull_stream;
 use rand::make_rng;
 use rand::rngs::StdRng;
 use relay_command::{Asked, Passing, exit_code, read_words};
@@ -23,6 +25,7 @@ use session_state::Words;
 use session_words::{DrawnWords, FixedWord, NoWords, WordSource, word_source};
 use std::collections::hash_map::RandomState;
 use std::io;
+use std::io::Eprint;
 use std::process::ExitCode;
 use task::{do_pass, do_steps};
 
@@ -33,6 +36,7 @@ fn main(rt: HostRuntime) -> anyhow::Result<ExitCode> {
         Ok(Asked::Talk(text)) => talk_on_standard_streams(&rt, text.as_deref()),
         Ok(Asked::Steps(stopped)) => steps_on_standard_streams(&rt, stopped),
         Ok(Asked::Pass(passing)) => pass_on_standard_streams(&rt, &passing),
+        Ok(Asked::Pull(settings)) => Ok(pull_stream(rt, alloc, settings, rt.stdin())),
         Ok(Asked::Serve(endpoints, settings, origins)) => {
             match serve(rt, alloc, &endpoints, settings, origins, rt.stdin()) {
                 Ok(()) => Ok(exit_code(0)),
@@ -49,10 +53,10 @@ fn main(rt: HostRuntime) -> anyhow::Result<ExitCode> {
 }
 
 /// The exit status where the run failed.
-const FAILED: u8 = 1;
+pub(crate) const FAILED: u8 = 1;
 
 /// The exit status after a command line that isn't understood.
-const COMMAND_LINE_FAULT: u8 = 2;
+pub(crate) const COMMAND_LINE_FAULT: u8 = 2;
 
 /// Answers one connection over the standard streams, with the word of this text in each session identifier, or with words
 /// that are drawn.
@@ -114,7 +118,7 @@ fn tell(rt: &HostRuntime, ended: &Ended) -> ExitCode {
 }
 
 /// Writes a line to standard error, and tells the status.
-fn fails(rt: &HostRuntime, status: u8, line: &str) -> ExitCode {
+pub(crate) fn fails(rt: &impl Eprint, status: u8, line: &str) -> ExitCode {
     let _ = rt.eprintln(line);
     exit_code(status)
 }

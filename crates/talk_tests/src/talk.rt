@@ -9,5 +9,6 @@ mod help_tests;
 mod memory_tests;
 mod pass_line_tests;
 mod prompt_tests;
+mod pull_line_tests;
 mod talker_tests;
 mod words_tests;

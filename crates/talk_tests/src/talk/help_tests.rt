@@ -10,6 +10,7 @@ Usage: relay <COMMAND>
 
 Commands:
   serve  Relays streams from publishers to players over TCP
+  pull   Fetches the stream of a camera that is an RTSP server, and publishes it
   talk   Answers one RTSP connection on standard input and standard output
   steps  Runs a schedule of the ring's atomic steps from standard input, and prints each step
   pass   Passes a publisher's stream from standard input through a ring to standard output
@@ -156,8 +157,59 @@ Usage: relay steps [OPTIONS]
 For more information, try '--help'.
 ";
 
+const PULL_HELP: &str = "Fetches the stream of a camera that is an RTSP server, and publishes it
+
+Usage: relay pull [OPTIONS] <SOURCE> <TARGET>
+
+Arguments:
+  <SOURCE>  The URL of the camera's stream, as rtsp://admin@10.0.0.9/stream,
+            without a password: see --password-file
+  <TARGET>  The URL under which it is published, as
+            rtsp://127.0.0.1:8554/door
+
+Options:
+      --once                  Try once. The status is 0 if packets went on until the source
+                              ended or a stop, and else 1
+      --password-file <FILE>  The file that has the password of SOURCE's user, read anew at
+                              each try [default: none]
+      --tracks <KINDS>        Which tracks go on: video, audio, or
+                              video,audio [default: video,audio]
+      --silent <SECONDS>      End a try if no packet of a track comes for SECONDS
+                              (1 to 86400) [default: 10]
+      --retry <MS>            How many milliseconds are between the first two tries; the time
+                              doubles with each try, to thirty times MS
+                              (10 to 60000) [default: 1000]
+      --verbose               Log replies that are ignored, too
+      --report <SECONDS>      Log every SECONDS what went on and what was missing
+                              (1 to 86400) [default: off]
+      --until-eof             End when standard input ends, and first log what went on
+  -h, --help                  Print help
+
+Example: a camera's stream as the mount door of the relay on this machine
+
+./relay pull rtsp://10.0.0.9/stream rtsp://127.0.0.1:8554/door
+";
+
+/// The error of a line that isn't understood and can have a password, which isn't repeated.
+const HIDDEN: &str =
+    "error: the command line isn't understood; it isn't repeated here, since it can have a password
+
+Usage: relay pull [OPTIONS] <SOURCE> <TARGET>
+
+For more information, try '--help'.
+";
+
+/// The error of a line that asks for no tracks.
+const NO_TRACKS: &str =
+    "error: invalid value for '--tracks <KINDS>': not video, audio or video,audio
+
+Usage: relay pull [OPTIONS] <SOURCE> <TARGET>
+
+For more information, try '--help'.
+";
+
 /// Lines, and what they print.
-const PRINTED: [(&str, &str); 8] = [
+const PRINTED: [(&str, &str); 15] = [
     ("relay --help", RELAY_HELP),
     ("relay serve --help", SERVE_HELP),
     ("relay talk --help", TALK_HELP),
@@ -166,6 +218,16 @@ const PRINTED: [(&str, &str); 8] = [
     ("relay pass --help", PASS_HELP),
     ("relay pass --to 0-0", NO_CHANNELS),
     ("relay --version", "relay 0.1.0\n"),
+    ("relay pull --help", PULL_HELP),
+    ("relay pull rtsp://a:b@h/x rtsp://h/x --nothing", HIDDEN),
+    ("relay pull --silent rtsp://a:b@h/x rtsp://h/x", HIDDEN),
+    (
+        "relay pull rtsp://h/x rtsp://h/x rtsp://h/x?password=b",
+        HIDDEN,
+    ),
+    ("relay rtsp://a:b@h/x rtsp://h/x", HIDDEN),
+    ("relay help pull rtsp://a:b@h/x", HIDDEN),
+    ("relay pull rtsp://h/x rtsp://h/x --tracks meta", NO_TRACKS),
 ];
 
 /// Returns whether a line is answered by this text.
