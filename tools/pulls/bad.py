@@ -28,8 +28,8 @@ def described(length, body):
 @dataclass
 class Bad:
     """A source that sends `once`, and then `ever` again and again with a pause of `pause` seconds, in place of the reply to the request `at`;
-    to PLAY it replies first, unless `is_mute`. `reason` is what a try of it ends for, or None if the try goes on. It reads nothing meanwhile,
-    unless `reads`. `challenge` is what it asks for with each 401, where `NONCE` is a new one."""
+    to PLAY it replies first, unless `is_mute`. `reason` is what a try of it ends for, or None if the try goes on; with `may_go_on` it ends so or goes on.
+    It reads nothing meanwhile, unless `reads`. `challenge` is what it asks for with each 401, where `NONCE` is a new one."""
 
     name: str
     at: str
@@ -39,6 +39,7 @@ class Bad:
     pause: float = 0
     reads: bool = False
     is_mute: bool = False
+    may_go_on: bool = False
     challenge: str = ""
     is_redirect: bool = False
     is_stalled: bool = False
@@ -79,8 +80,8 @@ SOURCES = (
     Bad("empty frames on unknown channels", "PLAY", SILENT, ever=UNKNOWN, pause=PAUSE),
     Bad("frames before DESCRIBE's reply", "DESCRIBE", NO_REPLY, ever=USUAL * 500),
     Bad("frames in place of PLAY's reply, 100 per second", "PLAY", "no reply to PLAY", ever=USUAL, pause=0.01, is_mute=True),
-    # Its reply is never late: the target is slower than the source, which is therefore never read for a second without a pause.
-    Bad("frames in place of PLAY's reply, without a pause", "PLAY", None, ever=USUAL * 500, is_mute=True),
+    # If the target is slower than the source, the source is never read for a second without a pause, and its reply is never late.
+    Bad("frames in place of PLAY's reply, without a pause", "PLAY", "no reply to PLAY", ever=USUAL * 500, is_mute=True, may_go_on=True),
     Bad("frames without a pause", "PLAY", None, ever=USUAL * 500),
     Bad("empty frames on a track's channel", "PLAY", None, ever=EMPTY, pause=PAUSE),
     Bad("frames without a pause while the target reads nothing", "PLAY", STALLED, ever=USUAL * 500, is_stalled=True),
