@@ -16,6 +16,9 @@ TWO = TRACKS + (
     "m=application 0 RTP/AVP 107\r\na=control:meta\r\n"
 )
 
+# Each value of a byte in turn, for packets of up to 65,535 bytes.
+EACH_BYTE = bytes(range(256)) * 258
+
 REASONS = {200: "OK", 302: "Moved Temporarily", 401: "Unauthorized", 403: "Forbidden", 404: "Not Found"}
 
 
@@ -202,7 +205,9 @@ class Pull:
 def rtp(number, size=200, ssrc=7, marker=0):
     """An RTP packet whose bytes are those of its number."""
     head = struct.pack(">BBHII", 0x80, 96 | marker << 7, number % 65_536, number * 90, ssrc)
-    return head + bytes((number * 31 + place) % 256 for place in range(size - 12))
+    # Thousands of packets are made while parts that depend on times run.
+    first = number * 31 % 256
+    return head + EACH_BYTE[first:first + size - 12]
 
 
 def answered(peer, count):
