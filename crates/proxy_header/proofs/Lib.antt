@@ -1,0 +1,11 @@
+pub mod Beginnings
+pub mod Blocks
+pub mod Bodies
+pub mod Breaks
+pub mod Clients
+pub mod Contents
+pub mod Headers
+pub mod Lines
+pub mod Lists
+pub mod OneHeader
+pub mod Parts
