@@ -1,10 +1,13 @@
 """A scripted camera that is an RTSP server, and `relay pull` between it and a server, for `pulling.py`."""
 import contextlib
+import fcntl
 import hashlib
 import re
+import select
 import socket
 import struct
 import subprocess
+import termios
 import threading
 import time
 
@@ -25,7 +28,8 @@ REASONS = {200: "OK", 302: "Moved Temporarily", 401: "Unauthorized", 403: "Forbi
 class Script:
     """What a scripted camera does. `replies` has for a method what its reply is: a status, bytes, or None for none. `frames` are sent after
     the reply of PLAY (`early` before it), once `go` is set. `piece` is how many bytes are sent at a time, `late` how many seconds a reply
-    waits, and `end` what comes after the frames: `stay`, `close` (it sends no more) or `gone` (it reads no more either)."""
+    waits, and `end` what comes after the frames: `stay`, `close` (it sends no more) or `gone` (once the client
+    takes no more, it neither sends nor reads)."""
 
     def __init__(self, frames=(), early=(), replies=None, piece=None, late=0, end="stay", timeout=60, secret=None, stale=0, location=None, waits=False):
         self.frames, self.early, self.replies, self.piece, self.late, self.end = frames, early, replies or {}, piece, late, end
@@ -33,6 +37,11 @@ class Script:
         self.go = threading.Event()
         if not waits:
             self.go.set()
+
+
+def unacknowledged(peer):
+    """How many bytes of those that were sent the other side's system hasn't acknowledged yet."""
+    return struct.unpack("i", fcntl.ioctl(peer, termios.TIOCOUTQ, bytes(4)))[0]
 
 
 class ServerCamera:
@@ -43,7 +52,7 @@ class ServerCamera:
         self.listener = socket.create_server(("127.0.0.1", 0))
         self.port = self.listener.getsockname()[1]
         self.url = f"rtsp://127.0.0.1:{self.port}/cam"
-        self.nonce, self.open = 0, []
+        self.nonce, self.open, self.delivered, self.has_left = 0, [], 0, threading.Event()
         threading.Thread(target=self.accept, daemon=True).start()
 
     def __enter__(self):
@@ -115,13 +124,25 @@ class ServerCamera:
     def play(self, peer):
         self.script.go.wait(60)
         with contextlib.suppress(OSError):
-            if self.script.piece:
+            if self.script.end == "gone":
+                self.leave(peer)
+            elif self.script.piece:
                 self.send(peer, b"".join(self.script.frames))
             else:
                 for it in self.script.frames:
                     peer.sendall(it)
-            if self.script.end != "stay":
-                peer.shutdown(socket.SHUT_WR if self.script.end == "close" else socket.SHUT_RDWR)
+            if self.script.end == "close":
+                peer.shutdown(socket.SHUT_WR)
+
+    def leave(self, peer):
+        """Sends until the client takes no more for half a second, and reads no more either. `delivered` is how many bytes its system has got:
+        the next request resets the connection, and a reset drops the others."""
+        data = memoryview(b"".join(self.script.frames))
+        while data and select.select([], [peer], [], 0.5)[1]:
+            data = data[peer.send(data[:65_536], socket.MSG_DONTWAIT):]
+        self.delivered = sum(map(len, self.script.frames)) - len(data) - unacknowledged(peer)
+        peer.shutdown(socket.SHUT_RDWR)
+        self.has_left.set()
 
     def good(self, method, uri, head):
         script = self.script

@@ -181,26 +181,29 @@ def unread_lines_hold_nothing(program):
 
 
 def camera_that_goes_away_loses_no_count(program):
-    """A camera sends 6,000 frames and is gone, and the target reads slowly: requests to the camera fail meanwhile, and each frame is
-    still in the account."""
-    frames = [frame(rtp(number, 1_400)) for number in range(6_000)]
+    """A camera sends until nothing more is taken, since the target reads nothing, and is gone: the next request to it resets its connection.
+    Once the target reads again, each frame that has come goes on and is in the account, and one that is cut is there too."""
+    frames = [frame(rtp(number, 1_400)) for number in range(20_000)]
     with ServerCamera(Script(frames, timeout=2, end="gone")) as source, socket.create_server(("127.0.0.1", 0)) as listener:
-        threading.Thread(target=reply_and_read_slowly, args=(listener,), daemon=True).start()
+        threading.Thread(target=reply_and_read_late, args=(listener, source.has_left), daemon=True).start()
         with Pull(program, source.url, f"rtsp://127.0.0.1:{listener.getsockname()[1]}/door", "--once", "--silent", "60") as pull:
             status = pull.status(60)
             counts = [int(it) for it in re.findall(r"\d+", pull.ends()[0].partition(": ")[2])[:4]] if pull.ends() else []
-            if status != 0 or sum(counts) != 6_000 or not pull.has("source closed the connection"):
-                yield f"{status}, {counts}, {pull.lines}"
+            whole, part = divmod(source.delivered, len(frames[0]))
+            if status != 1 or counts != [whole, 0, 0, int(part > 0)] or not pull.has("connection to the source lost"):
+                yield f"{status}, {counts} of {whole} frames and {part} bytes, {pull.lines}"
 
 
-def reply_and_read_slowly(listener):
-    """A target that replies to four requests, and then reads a megabyte a second."""
+def reply_and_read_late(listener, has_left):
+    """A target that replies to four requests, and then reads nothing until three seconds after the camera has left."""
     peer, _ = listener.accept()
     peer.setsockopt(socket.SOL_SOCKET, socket.SO_RCVBUF, 65_536)
     with contextlib.suppress(OSError):
         answered(peer, 4)
+        has_left.wait(30)
+        time.sleep(3)
         while peer.recv(65_536):
-            time.sleep(0.05)
+            pass
 
 
 def target_that_asks_for_a_password_is_told(program):
