@@ -11,6 +11,8 @@ import termios
 import threading
 import time
 
+from peers import until
+
 TRACKS = "v=0\r\no=- 0 0 IN IP4 127.0.0.1\r\ns=-\r\nt=0 0\r\n"
 
 # A camera's description: a video track, an audio track, and a section that isn't fetched.
@@ -44,6 +46,11 @@ def unacknowledged(peer):
     return struct.unpack("i", fcntl.ioctl(peer, termios.TIOCOUTQ, bytes(4)))[0]
 
 
+def acknowledged(peer):
+    """How many bytes it has acknowledged in all: `tcpi_bytes_acked` of Linux."""
+    return struct.unpack_from("Q", peer.getsockopt(socket.IPPROTO_TCP, socket.TCP_INFO, 136), 120)[0]
+
+
 class ServerCamera:
     """A camera that waits for a client, on a free port of this host. `asked` has each request: its method, its URI and its head."""
 
@@ -52,7 +59,8 @@ class ServerCamera:
         self.listener = socket.create_server(("127.0.0.1", 0))
         self.port = self.listener.getsockname()[1]
         self.url = f"rtsp://127.0.0.1:{self.port}/cam"
-        self.nonce, self.open, self.delivered, self.has_left = 0, [], 0, threading.Event()
+        self.nonce, self.open, self.has_left = 0, [], threading.Event()
+        self.before = self.sent = 0
         threading.Thread(target=self.accept, daemon=True).start()
 
     def __enter__(self):
@@ -135,14 +143,19 @@ class ServerCamera:
                 peer.shutdown(socket.SHUT_WR)
 
     def leave(self, peer):
-        """Sends until the client takes no more for half a second, and reads no more either. `delivered` is how many bytes its system has got:
-        the next request resets the connection, and a reset drops the others."""
+        """Sends until the client takes no more for half a second, and reads no more either."""
+        until(5, lambda: unacknowledged(peer) == 0)
+        self.before, self.sent = acknowledged(peer), 0
         data = memoryview(b"".join(self.script.frames))
-        while data and select.select([], [peer], [], 0.5)[1]:
-            data = data[peer.send(data[:65_536], socket.MSG_DONTWAIT):]
-        self.delivered = sum(map(len, self.script.frames)) - len(data) - unacknowledged(peer)
+        while self.sent < len(data) and select.select([], [peer], [], 0.5)[1]:
+            self.sent += peer.send(data[self.sent:self.sent + 65_536], socket.MSG_DONTWAIT)
         peer.shutdown(socket.SHUT_RDWR)
         self.has_left.set()
+
+    def delivered(self):
+        """How many bytes of the frames have come to the client's system. The next request to a camera that has left resets the connection, and a
+        reset drops the others. The end of the stream counts as a byte."""
+        return min(self.sent, acknowledged(self.open[0]) - self.before)
 
     def good(self, method, uri, head):
         script = self.script
