@@ -30,7 +30,7 @@
 #include <unistd.h>
 
 /* Times are in milliseconds. A 404 counts as one of a live mount if the mount's camera is still connected CERTAIN later. */
-enum { RETRY = 300, REPLY_WAIT = 10000, KEEPALIVE = 10000, CERTAIN = 1000, STEP = 5 };
+enum { RETRY = 300, REPLY_WAIT = 10000, KEEPALIVE = 10000, CERTAIN = 1000, BLACK = 500, STEP = 5 };
 
 enum { ROOM = 4096, FRAME_HEAD = 4, RTP_HEAD = 12, MOST_BYTES = 2048, MOST_ASKERS = 512, SIDE_BY_SIDE = 256, MOST_DOUBTS = 65536, MOST_EVENTS = 256 };
 
@@ -54,7 +54,8 @@ struct peer {
     unsigned turn;
     uint32_t next;
     uint64_t due, alive_due, last;
-    /* Since `mark`: packets lost in a connection, missed between two, ends and refusals; the longest time without a packet, and its end. */
+    /* Since `mark`: packets lost in a connection, missed between two, ends and refusals; the longest time without a packet, and the end of
+     * the last time of more than BLACK. */
     uint64_t lost, missed, closes, refused, gap, gap_end;
     char session[32];
     size_t len, unsent;
@@ -206,8 +207,8 @@ static void take_packet(struct peer *it, const uint8_t *packet, size_t len, uint
     if (it->has_had) {
         uint32_t ahead = number - it->next;
         if (ahead > 0 && ahead < 1u << 31) *(it->has_next ? &it->lost : &it->missed) += ahead;
-        uint64_t from = it->last;
-        if (now - from > it->gap) it->gap = now - from, it->gap_end = now;
+        if (now - it->last > it->gap) it->gap = now - it->last;
+        if (now - it->last > BLACK) it->gap_end = now;
     }
     it->next = number + 1;
     it->has_next = it->has_had = 1;

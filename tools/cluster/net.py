@@ -8,13 +8,21 @@ import sys
 # CLONE_NEWNET of <sched.h>.
 NETWORK = 0x40000000
 
-# The addresses are those of dist/haproxy.cfg. `far` is a second machine of clients, whose link is cut.
-PROXY = "10.0.0.2"
+# The addresses are those of dist/haproxy.cfg. `far` is a second machine of clients, whose link is cut. Clients connect to PROXY, which a
+# machine with HAProxy has beside its own address.
+PROXY, FIRST, SECOND = "10.0.0.2", "10.0.0.4", "10.0.0.3"
 RELAYS = [f"10.0.0.{11 + place}" for place in range(4)]
-MACHINES = {"proxy": PROXY, "clients": "10.0.0.100", "far": "10.0.0.101", **{f"relay{place + 1}": it for place, it in enumerate(RELAYS)}}
+EDGES = [f"10.0.0.{21 + place}" for place in range(3)]
+CLIENTS, FAR = "10.0.0.100", "10.0.0.101"
+MACHINES = {
+    "proxy": FIRST, "proxy2": SECOND, "clients": CLIENTS, "far": FAR,
+    **{f"relay{place + 1}": it for place, it in enumerate(RELAYS)},
+    **{f"edge{place + 1}": it for place, it in enumerate(EDGES)},
+}
 
-# The proxy is as the head of dist/haproxy.cfg says. Clients need 200,000 ports in some minutes.
-SETTINGS = {"proxy": ("net.ipv4.tcp_tw_reuse=1",), "clients": ("net.ipv4.tcp_tw_reuse=1", "net.ipv4.ip_local_port_range=1024 65535")}
+# The proxies are as the head of dist/haproxy.cfg says. Clients need 200,000 ports in some minutes.
+REUSE = "net.ipv4.tcp_tw_reuse=1"
+SETTINGS = {"proxy": (REUSE,), "proxy2": (REUSE,), "clients": (REUSE, "net.ipv4.ip_local_port_range=1024 65535")}
 
 
 def run(*words):
@@ -36,6 +44,7 @@ class Network:
             self.ip("switch", "link set br0 up")
             for name, address in MACHINES.items():
                 self.join(name, address)
+            self.ip("proxy", f"addr add {PROXY}/24 dev eth0")
         except BaseException:
             self.__exit__()
             raise

@@ -11,21 +11,35 @@ from peers import until
 CONFIG = pathlib.Path(__file__).resolve().parent.parent.parent / "dist/haproxy.cfg"
 
 
+def config():
+    return CONFIG.read_text(encoding="utf-8")
+
+
 def adapted(text, folder):
     """The configuration with its files in this folder. Its addresses are those of the machines."""
     return text.replace("/run/haproxy/", f"{folder}/").replace("log /dev/log local0", "log stderr format raw local0")
 
 
+def with_edges(text, name):
+    """The configuration with the section for the mount `big`, which has this name."""
+    head, section = text.split("#backend edges_of_big\n")
+    head = head.replace("    #use_backend edges_of_big", "    use_backend edges_of_big").replace("-m str big }", f"-m str {name} }}")
+    lines = [line.removeprefix("#") for line in section.splitlines(True)]
+    return head + "backend edges_of_big\n" + "".join(lines).replace("rtsp://edge/big ", f"rtsp://edge/{name} ")
+
+
 class Proxy:
     """A master of HAProxy and its workers."""
 
-    def __init__(self, net, folder, text):
-        self.net, self.folder = net, folder
-        self.path, self.socket, self.lines_at = f"{folder}/haproxy.cfg", f"{folder}/admin.sock", f"{folder}/haproxy.log"
-        pathlib.Path(self.path).write_text(text, encoding="utf-8")
+    def __init__(self, net, folder, text, machine="proxy"):
+        self.net, self.folder, self.machine = net, f"{folder}/{machine}", machine
+        os.mkdir(self.folder)
+        self.path, self.socket, self.lines_at = (f"{self.folder}/{name}" for name in ("haproxy.cfg", "admin.sock", "haproxy.log"))
+        self.text = adapted(text, self.folder)
+        pathlib.Path(self.path).write_text(self.text, encoding="utf-8")
 
     def __enter__(self):
-        words = [*self.net.command("proxy"), "haproxy", "-W", "-f", self.path]
+        words = [*self.net.command(self.machine), "haproxy", "-W", "-f", self.path]
         with open(self.lines_at, "a", encoding="utf-8") as lines:
             self.process = subprocess.Popen(words, stdout=lines, stderr=lines)
         if not until(10, lambda: self.process.poll() is not None or os.path.exists(self.socket)) or self.process.poll() is not None:
@@ -39,9 +53,12 @@ class Proxy:
         try:
             self.process.wait(10)
         except subprocess.TimeoutExpired:
-            for it in [*self.workers(), self.process.pid]:
-                os.kill(it, signal.SIGKILL)
-            self.process.wait()
+            self.kill()
+
+    def kill(self):
+        for it in [*self.workers(), self.process.pid]:
+            os.kill(it, signal.SIGKILL)
+        self.process.wait()
 
     def lines(self):
         return pathlib.Path(self.lines_at).read_text(encoding="utf-8", errors="replace")
@@ -65,8 +82,8 @@ class Proxy:
         head[0] = head[0].lstrip("# ")
         return {(row[0], row[1]): dict(zip(head, row)) for row in rows}
 
-    def is_up(self, name):
-        return self.stat()["relays", name]["status"].startswith("UP")
+    def is_up(self, name, backend="relays"):
+        return self.stat()[backend, name]["status"].startswith("UP")
 
     def downs(self):
         """How often a relay was marked down."""
@@ -83,7 +100,7 @@ class Proxy:
     def reload(self, text=None):
         """As `systemctl reload haproxy`. Returns once the new worker is there."""
         if text:
-            pathlib.Path(self.path).write_text(text, encoding="utf-8")
+            pathlib.Path(self.path).write_text(adapted(text, self.folder), encoding="utf-8")
         before = set(self.workers())
         self.process.send_signal(signal.SIGUSR2)
         if not until(30, lambda: set(self.workers()) - before):

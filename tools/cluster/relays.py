@@ -7,8 +7,9 @@ import signal
 import subprocess
 import threading
 import time
+import types
 
-from net import RELAYS
+from net import EDGES, RELAYS
 from peers import ALLOCATOR, until
 
 # How often each status page is asked for, in seconds, and how long its answer may take.
@@ -18,12 +19,16 @@ LOOK, ANSWER = 0.25, 1.0
 class Relay:
     """One relay on its machine. Its lines are in a file."""
 
-    def __init__(self, net, place, program, options, folder):
-        self.net, self.name, self.address, self.port = net, f"relay{place + 1}", RELAYS[place], 8554
-        self.reach, self.lines_at = self.address, f"{folder}/relay{place + 1}.log"
-        pages = "--http", f"{self.address}:9554"
-        self.words = [*net.command(self.name), program, "serve", f"{self.address}:{self.port}", *pages, "--until-eof", *options]
+    def __init__(self, net, name, address, program, options, folder):
+        self.net, self.name, self.address, self.port = net, name, address, 8554
+        self.reach, self.lines_at = self.address, f"{folder}/{name}.log"
+        more = "--http", f"{self.address}:9554", "--until-eof", *options
+        self.words = [*net.command(name), program, "serve", f"0.0.0.0:{self.port}", *more]
         self.process = None
+
+    def place(self):
+        """Where its peers connect to if they don't go through HAProxy."""
+        return types.SimpleNamespace(reach=self.address, port=self.port, address=f"{self.address}:{self.port}")
 
     def start(self):
         with open(self.lines_at, "a", encoding="utf-8") as lines:
@@ -63,7 +68,12 @@ class Relay:
 
 def making(net, program, options, folder):
     """The relays."""
-    return [Relay(net, place, program, options, folder) for place in range(len(RELAYS))]
+    return [Relay(net, f"relay{place + 1}", it, program, options, folder) for place, it in enumerate(RELAYS)]
+
+
+def edges(net, program, options, folder):
+    """The relays that fetch a mount."""
+    return [Relay(net, f"edge{place + 1}", it, program, options, folder) for place, it in enumerate(EDGES)]
 
 
 class Watch:
@@ -72,7 +82,6 @@ class Watch:
     def __init__(self, net, relays):
         self.net, self.relays, self.is_over = net, relays, False
         self.names, self.since, self.twice = {it.name: set() for it in relays}, {}, {}
-        self.seen_at = {}
         self.lock = threading.Lock()
         self.threads = [threading.Thread(target=self.look, args=(it,), daemon=True) for it in relays]
 
@@ -94,7 +103,6 @@ class Watch:
                 names = {it["name"] for it in page["recorded"]} if page else set()
                 with self.lock:
                     self.names[relay.name] = names
-                    self.seen_at[relay.name] = time.monotonic()
                     self.compare()
                 time.sleep(max(0, asked + LOOK - time.monotonic()))
 

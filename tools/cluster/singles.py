@@ -1,5 +1,4 @@
 """Trials of single clients through HAProxy, and the same ones at a relay itself where a time is compared."""
-import concurrent.futures
 import contextlib
 import os
 import pathlib
@@ -8,7 +7,7 @@ import time
 import types
 
 from net import PROXY, RELAYS
-from peers import OPTIONS, SDP, Camera, Frame, Peer, Player, frame, packet, until, wanted
+from peers import SDP, Camera, Frame, Peer, Player, frame, packet, until, wanted
 
 # The port of cameras and that of players of dist/haproxy.cfg.
 CAMERAS, PLAYERS = 8555, 8554
@@ -90,9 +89,10 @@ def announces(cameras, mount):
 
 
 def players_of(cluster, mount):
-    """How many players of a mount the relays have."""
+    """How many players of a mount the relays have. None if no relay has the mount."""
     pages = [it.status() for it in cluster.relays]
-    return sum(row["players"] for page in pages if page for row in page["recorded"] if row["name"] == mount)
+    found = [row["players"] for page in pages if page for row in page["recorded"] if row["name"] == mount]
+    return sum(found) if found else None
 
 
 def is_seen(cluster, mount):
@@ -113,7 +113,7 @@ def cut_player(cluster, direct=False):
     cluster.net.cut("far")
     try:
         with cluster.net.on("clients"):
-            return timed(50, lambda: not players_of(cluster, "quiet"))
+            return timed(50, lambda: players_of(cluster, "quiet") == 0)
     finally:
         mended(cluster)
         player.close()
@@ -129,7 +129,7 @@ def stalled_player(cluster, direct=False):
             player.take_little()
             wanted(player.play())
             is_seen(cluster, "fast")
-            gone = timed(50, lambda: not players_of(cluster, "fast"))
+            gone = timed(50, lambda: players_of(cluster, "fast") == 0)
             player.close()
             return gone
 
@@ -198,43 +198,6 @@ def silent(cluster):
     cluster.faults.append("a player that was silent for 50 s has no packet")
 
 
-def asks(players, request, spoken=b""):
-    """The status of the reply to a request, or 0, after how many seconds, and the connection."""
-    begun = time.monotonic()
-    peer = Peer(players)
-    peer.send(spoken or request)
-    try:
-        reply = peer.reply()
-    except OSError:
-        reply = None
-    return reply.status if reply else 0, time.monotonic() - begun, peer
-
-
-def crowd(cluster):
-    """1,100 others connect for a mount of one relay, through HAProxy. The camera of another mount of that relay comes meanwhile."""
-    relay = cluster.relays[0]
-    names = sorted(cluster.watch.of(relay.name))
-    request = f"OPTIONS rtsp://h/{names[0]} RTSP/1.0\r\nCSeq: 1\r\n\r\n".encode()
-    cluster.mark()
-    with cluster.net.on("clients"):
-        found = []
-        for _ in range(11):
-            # A thread is of the namespace of the one that starts it.
-            with concurrent.futures.ThreadPoolExecutor(100) as pool:
-                found += pool.map(lambda _: asks(place(PROXY, PLAYERS), request), range(100))
-        has_room = announces(place(RELAYS[0], 8554), "direct")
-        refused = relay.status()["server"]["refused_connections"]["full"]
-        for *_, peer in found:
-            peer.close()
-    served = [took for status, took, _ in found if status == 200]
-    waited = [took for status, took, _ in found if status == 0]
-    cluster.note(f"1,100 connections for one relay: {len(served)} served, {len(waited)} closed after {max(waited, default=0):.1f} s at most, "
-                 f"{sum(status == 503 for status, *_ in found)} got 503; the relay refused {refused}; a camera can connect directly: {has_room}")
-    if refused or not has_room:
-        cluster.faults.append(f"the relay has no connection left: it refused {refused}")
-    cluster.row("1,100 connections for one relay")
-
-
 def processor_seconds(pid):
     fields = pathlib.Path(f"/proc/{pid}/stat").read_text().rsplit(")", 1)[1].split()
     return (int(fields[11]) + int(fields[12])) / os.sysconf("SC_CLK_TCK")
@@ -266,51 +229,4 @@ def cost(cluster, players=20, seconds=10):
     cluster.note(f"1 x {players} players: HAProxy takes {spent / bytes_read * 1e9:.1f} processor seconds for a delivered GB")
 
 
-def servers_of(cluster, names):
-    """Asks on the cameras' port for names. The id of each name's server by the table."""
-    with cluster.net.on("clients"):
-        for it in names:
-            asks(place(PROXY, CAMERAS), f"OPTIONS rtsp://h/{it} RTSP/1.0\r\nCSeq: 1\r\n\r\n".encode())[2].close()
-    return cluster.proxy.table()
-
-
-def spread(cluster):
-    """How even the parts of the relays are."""
-    names = [f"cam-{it:03d}" for it in range(200)]
-    found = list(servers_of(cluster, names).values())
-    counts = [found.count(it) for it in range(1, 5)]
-    most = max(counts) * 4 / sum(counts)
-    cluster.note(f"200 names fall {', '.join(map(str, counts))}: the most of them is {most:.2f} of the mean")
-    if most > 1.3:
-        cluster.faults.append(f"a relay has {most:.2f} times the mean of the names")
-
-
-FORMS = ("DESCRIBE rtsp://h/{}", "DESCRIBE rtsp://user:word@h:554/{}", "DESCRIBE RTSP://h/{}/", "DESCRIBE rtsp://h/{}?query=/x", "DESCRIBE rtsp:/{}",
-         "SETUP rtsp://h/{}/trackID=0", "DESCRIBE rtsp://h/{}#part", "GET_PARAMETER rtsp://h/{}")
-
-
-# First lines without a name.
-NAMELESS = OPTIONS, b"OPTIONS rtsp://h RTSP/1.0\r\nCSeq: 1\r\n\r\n", b"?\r\n\r\n"
-
-
-def forms(cluster):
-    """Every form of a URL that names a mount comes to its relay, also in a request that comes byte by byte."""
-    wrong = set()
-    with cluster.net.on("clients"):
-        for number in range(min(cluster.load.mounts, 12)):
-            for text in FORMS:
-                request = f"{text.format(f'cam-{number:03d}')} RTSP/1.0\r\nCSeq: 1\r\nTransport: RTP/AVP/TCP;interleaved=0-1\r\n\r\n".encode()
-                status, _, peer = asks(place(PROXY, PLAYERS), request)
-                peer.close()
-                if status != 200:
-                    wrong.add(f"{text}: {status}")
-            with Peer(place(PROXY, PLAYERS)) as peer:
-                for it in request:
-                    peer.send(bytes([it]))
-                wanted(peer.reply())
-        nameless = [asks(place(PROXY, port), it)[0] for port in (CAMERAS, PLAYERS) for it in NAMELESS]
-    cluster.note(f"{len(FORMS)} forms of each name: {', '.join(sorted(wrong)) or 'each comes to its relay'}; without a name: {nameless}")
-    cluster.faults += sorted(wrong)
-
-
-TRIALS = cuts, stalls, lag, silent, crowd, spread, forms, cost
+TRIALS = cuts, stalls, lag, silent, cost

@@ -7,7 +7,7 @@ import time
 import fleet
 import proxy
 import relays
-from net import Network
+from net import FIRST, SECOND, Network
 from peers import OPTIONS, Camera, Peer, until
 
 # How long after a trial all pictures have to be there, in seconds.
@@ -22,33 +22,33 @@ HEAD = "| trial | mounts | players | pictures back: median, all | without | lost
 
 @dataclasses.dataclass
 class Load:
-    """What a run is: the program, options of the relays, numbers of mounts, players and unknown names, and how long a minute is."""
+    """What a run is: the program, numbers of mounts, players and unknown names, how long a minute is, and how many players a mount on edges
+    has."""
 
     program: str
     mounts: int
     players: int
     unknown: int
     minute: float
-    options: tuple = ()
+    edge_players: int
 
 
 class Cluster:
     """Four relays, HAProxy, cameras and players; all is ended at the end."""
 
     def __init__(self, load, text=None):
-        self.load, self.text, self.faults, self.notes, self.head = load, text, [], [], None
+        self.load, self.text, self.faults, self.notes, self.head = load, text or proxy.config(), [], [], None
         self.stack = contextlib.ExitStack()
 
     def __enter__(self):
         with contextlib.ExitStack() as stack:
             folder = stack.enter_context(tempfile.TemporaryDirectory())
             self.net = stack.enter_context(Network())
-            self.relays = relays.making(self.net, self.load.program, self.load.options, folder)
-            for it in self.relays:
-                stack.callback(it.kill)
-            relays.have_started(self.relays)
-            self.proxy_text = proxy.adapted(self.text or proxy.CONFIG.read_text(encoding="utf-8"), folder)
-            self.proxy = stack.enter_context(proxy.Proxy(self.net, folder, self.proxy_text))
+            has_header = any(line.endswith("send-proxy-v2") and not line.startswith("#") for line in self.text.splitlines())
+            self.options = ["--proxy-from", f"{FIRST},{SECOND}"] if has_header else []
+            self.relays = self.started(stack, relays.making(self.net, self.load.program, self.options, folder))
+            self.proxy = stack.enter_context(proxy.Proxy(self.net, folder, self.text))
+            self.prepare(stack, folder)
             self.watch = stack.enter_context(relays.Watch(self.net, self.relays))
             time.sleep(1)
             self.fleet = stack.enter_context(fleet.Fleet(self.net, fleet.built(folder), self.load.mounts, self.load.players))
@@ -60,6 +60,16 @@ class Cluster:
     def __exit__(self, *_):
         self.stack.close()
 
+    def started(self, stack, made):
+        """Starts relays, which are ended with the stack."""
+        for it in made:
+            stack.callback(it.kill)
+        relays.have_started(made)
+        return made
+
+    def prepare(self, stack, folder):
+        """What else has to be there before cameras and players come."""
+
     def settles(self, seconds=SETTLES):
         """Whether all pictures are there within this time."""
         return until(seconds, lambda: time.sleep(0.3) or not self.fleet.report().dark())
@@ -68,8 +78,9 @@ class Cluster:
         self.watch.taken()
         self.fleet.say("mark")
 
-    def row(self, what, names=frozenset(), twice_for=TWICE):
-        """A row about what was counted since the mark, in which these names were away. Keeps what must not be."""
+    def row(self, what, names=frozenset(), twice_for=TWICE, without=0, has_ended=False):
+        """A row about what was counted since the mark, in which these names were away. Keeps what must not be: as many players may be without a
+        picture, and if the mount has ended on an edge, the edge may answer 404."""
         found, twice = self.fleet.report(), self.watch.taken()
         away, others = found.of(names), found.of(names, False)
         median, longest = fleet.backs(away)
@@ -77,8 +88,8 @@ class Cluster:
         cells = (what, len(names), len(away), f"{median:.1f} s, {longest:.1f} s" if names else "", dark, fleet.lost(others), ends, missing,
                  f"{len(twice)}, {max(twice.values()):.1f} s" if twice else 0)
         self.print_row(HEAD, cells)
-        wrong = {"players without a picture": dark, "packets lost by others": fleet.lost(others), "ends of others": ends,
-                 "404s of live mounts": missing, "names on two relays": sum(it > twice_for for it in twice.values())}
+        wrong = {"players without a picture": max(0, dark - without), "packets lost by others": fleet.lost(others), "ends of others": ends,
+                 "404s of live mounts": 0 if has_ended else missing, "names on two relays": sum(it > twice_for for it in twice.values())}
         self.faults += [f"{what}: {count} {word}" for word, count in wrong.items() if count]
         return found
 
@@ -95,19 +106,26 @@ class Cluster:
         self.head = None
         self.notes.append(text)
 
-    def asked(self, what):
+    def asked(self, what, may_fail=True):
         """A line about the peers that asked for mounts meanwhile."""
         it = self.fleet.report().asked
+        failed = it["closed"] + it["other"]
+        if failed and not may_fail:
+            self.faults.append(f"{failed} requests got no reply, or another status")
         counts = f"{it['ok']} got 200, {it['missing']} 404, {it['other']} another status, {it['closed']} no reply"
         self.note(f"{what}: {counts}; slowest {it['slowest'] / 1000:.1f} s")
 
 
 def is_down(cluster, relay):
-    return until(30, lambda: not cluster.proxy.is_up(relay.name))
+    """Waits until HAProxy has marked a relay down."""
+    if not until(30, lambda: not cluster.proxy.is_up(relay.name)):
+        cluster.faults.append(f"{relay.name} isn't marked down")
 
 
 def is_up(cluster, relay):
-    return until(30, lambda: cluster.proxy.is_up(relay.name))
+    """Waits until HAProxy has marked a relay up."""
+    if not until(30, lambda: cluster.proxy.is_up(relay.name)):
+        cluster.faults.append(f"{relay.name} isn't marked up")
 
 
 def kill(cluster):
@@ -132,8 +150,7 @@ def back(cluster):
     cluster.fleet.say("ask 100")
     time.sleep(cluster.load.minute)
     relay.start()
-    if not is_up(cluster, relay):
-        cluster.faults.append("the relay isn't marked up")
+    is_up(cluster, relay)
     time.sleep(10)
     cluster.row("the same relay is back after a minute")
     cluster.asked(f"asked meanwhile, {len(names)} names of {cluster.load.mounts} are away from their first relay")
@@ -193,64 +210,19 @@ def short_cut(cluster):
     cluster.asked("asked meanwhile")
 
 
-def upgrade(cluster):
-    """Each relay is stopped and started anew, one after the other."""
-    for relay in cluster.relays:
-        names = cluster.watch.of(relay.name)
-        cluster.mark()
-        relay.stop()
-        relay.start()
-        time.sleep(3)
-        cluster.settles()
-        cluster.row(f"upgrade of {relay.name}", names)
-
-
-def moved_away(cluster, relay):
-    """Names of a relay move to others, and the relay is there again. The names."""
-    names = cluster.watch.of(relay.name)
-    relay.kill()
-    is_down(cluster, relay)
-    time.sleep(1)
-    cluster.settles()
-    relay.start()
-    is_up(cluster, relay)
-    return names
-
-
-def reload(cluster):
-    """HAProxy is reloaded a second and a minute after names were moved; then a relay is killed that the old processes have sessions to."""
-    moved_away(cluster, cluster.relays[0])
-    for seconds, what in (1, "a second"), (cluster.load.minute, "a minute"):
-        time.sleep(seconds)
-        cluster.mark()
-        cluster.fleet.say("ask 500")
-        cluster.proxy.reload()
-        time.sleep(10)
-        cluster.row(f"a reload {what} after names have moved")
-        cluster.asked("asked meanwhile")
-    cluster.fleet.say("ask 0")
-    cluster.note(f"processes of HAProxy: {len(cluster.proxy.workers())}")
-    relay = cluster.relays[1]
-    names = cluster.watch.of(relay.name)
-    cluster.mark()
-    relay.kill()
-    time.sleep(3)
-    cluster.settles()
-    cluster.row("KILL of a relay to which an old process has sessions", names)
-
-
 def full_mounts(cluster):
     """Other cameras take the mounts of a relay that are left, up to 64."""
     relay = cluster.relays[0]
     count, downs = 64 - len(cluster.watch.of(relay.name)), cluster.proxy.downs()
     cluster.mark()
     with cluster.net.on("clients"), contextlib.ExitStack() as stack:
-        relay.address = f"{relay.reach}:{relay.port}"
+        direct = relay.place()
         for place in range(count):
-            stack.enter_context(Camera(relay, f"own-{place}"))
-        status = stack.enter_context(Peer(relay)).ask("ANNOUNCE", "rtsp://h/more", body=b"v=0\r\nm=video 0 RTP/AVP 96\r\n").status
+            stack.enter_context(Camera(direct, f"own-{place}"))
+        status = stack.enter_context(Peer(direct)).ask("ANNOUNCE", "rtsp://h/more", body=b"v=0\r\nm=video 0 RTP/AVP 96\r\n").status
         time.sleep(15)
-        relay.address = relay.reach
+    if status != 503:
+        cluster.faults.append(f"the relay has another place: ANNOUNCE gets {status}")
     cluster.row(f"a relay with its 64 mounts taken for 15 s (another ANNOUNCE gets {status})")
     is_taken_for_dead(cluster, downs)
 
@@ -260,18 +232,22 @@ def full_connections(cluster):
     relay, held, downs = cluster.relays[0], [], cluster.proxy.downs()
     cluster.mark()
     with cluster.net.on("clients"), contextlib.ExitStack() as stack:
+        direct = relay.place()
         for _ in range(1_100):
-            peer = stack.enter_context(Peer(relay))
+            peer = stack.enter_context(Peer(direct))
             peer.send(OPTIONS)
             if (reply := peer.reply()) is None or reply.status != 200:
                 break
             held.append(peer)
-        end = time.monotonic() + 15
+        end, refused = time.monotonic() + 15, []
         while time.monotonic() < end:
-            with Peer(relay) as peer, contextlib.suppress(OSError):
+            with Peer(direct) as peer, contextlib.suppress(OSError):
                 reply = peer.reply()
+                refused.append(reply.status if reply else 0)
             time.sleep(0.5)
-    cluster.row(f"a relay with its 1,024 connections taken for 15 s ({len(held)} by others, the next gets {reply and reply.status})")
+    if set(refused) != {503}:
+        cluster.faults.append(f"the relay had places: others got {sorted(set(refused))}")
+    cluster.row(f"a relay with its 1,024 connections taken for 15 s ({len(held)} by others, {len(refused)} more get 503)")
     is_taken_for_dead(cluster, downs)
 
 
@@ -282,17 +258,19 @@ def is_taken_for_dead(cluster, downs):
 
 def unknown(cluster):
     """Many names are asked for that no camera has."""
-    used, memory, begun = cluster.proxy.used(), cluster.proxy.memory(), time.monotonic()
+    used, memory, downs, begun = cluster.proxy.used(), cluster.proxy.memory(), cluster.proxy.downs(), time.monotonic()
     cluster.mark()
     cluster.fleet.say(f"unknown {cluster.load.unknown}")
     cluster.fleet.waits_for("unknown done", 60 + cluster.load.unknown / 100)
     took = time.monotonic() - begun
     cluster.row(f"{cluster.load.unknown:,} unknown names asked for in {took:.0f} s")
-    cluster.asked("they")
+    cluster.asked("they", may_fail=False)
     cluster.note(f"names in the table: {used} before, {cluster.proxy.used()} after")
     cluster.note(f"memory of HAProxy: {memory:.0f} MB before, {cluster.proxy.memory():.0f} MB after")
     if cluster.proxy.used() != used:
         cluster.faults.append("unknown names are in the table")
+    if cluster.proxy.downs() != downs:
+        cluster.faults.append("a relay was marked down meanwhile")
 
 
-TRIALS = kill, back, stop, cut, short_cut, upgrade, reload, full_mounts, full_connections, unknown
+TRIALS = kill, back, stop, cut, short_cut, full_mounts, full_connections, unknown

@@ -2,6 +2,8 @@
 import dataclasses
 import time
 
+import names
+import procedures
 import relays
 import singles
 import trials
@@ -10,13 +12,13 @@ from trials import is_up
 
 def pause(cluster):
     """A relay is busy: it answers nothing for 5 seconds."""
-    downs, names = cluster.proxy.downs(), cluster.watch.of(cluster.relays[0].name)
+    downs, away = cluster.proxy.downs(), cluster.watch.of(cluster.relays[0].name)
     cluster.mark()
     relays.stopped(cluster.relays[0])
     time.sleep(5)
     relays.resumed(cluster.relays[0])
     time.sleep(5)
-    cluster.row("a relay that answers nothing for 5 s", names)
+    cluster.row("a relay that answers nothing for 5 s", away)
     if cluster.proxy.downs() != downs:
         cluster.faults.append("a busy relay is marked down, and all its connections are closed")
 
@@ -26,23 +28,22 @@ def reload_cut(cluster):
     relay = cluster.relays[0]
     cluster.proxy.reload()
     time.sleep(12)
-    names = cluster.watch.of(relay.name)
+    away = cluster.watch.of(relay.name)
     cluster.mark()
     cluster.net.cut(relay.name)
     time.sleep(40)
-    cluster.row("the link of a relay is cut after a reload", names)
+    cluster.row("the link of a relay is cut after a reload", away)
 
 
 def reorder(cluster):
     """The second relay is taken out of the configuration: only its own names may move."""
-    names = [f"new-{it:03d}" for it in range(200)]
-    before = named(cluster, singles.servers_of(cluster, names))
-    text = "".join(line for line in cluster.proxy_text.splitlines(True) if not line.strip().startswith("server relay2"))
-    cluster.proxy.reload(text)
+    found = [f"new-{it:03d}" for it in range(200)]
+    before = named(cluster, names.servers_of(cluster, found))
+    cluster.proxy.reload(procedures.without(cluster.text, "relay2"))
     time.sleep(12)
     cluster.proxy.ask("clear table relays")
-    after = named(cluster, singles.servers_of(cluster, names))
-    moved = sum(before[it] != after.get(it) for it in names if before[it] != "relay2")
+    after = named(cluster, names.servers_of(cluster, found))
+    moved = sum(before[it] != after.get(it) for it in found if before[it] != "relay2")
     cluster.note(f"{moved} of {sum(it != 'relay2' for it in before.values())} names of other relays have moved")
     if moved:
         cluster.faults.append(f"{moved} names of other relays move, too")
@@ -50,8 +51,8 @@ def reorder(cluster):
 
 def named(cluster, table):
     """The server of each name, by the server's name."""
-    names = {int(row["sid"]): server for (backend, server), row in cluster.proxy.stat().items() if backend == "relays" and server.startswith("relay")}
-    return {it: names[server] for it, server in table.items()}
+    by_id = {int(row["sid"]): server for (backend, server), row in cluster.proxy.stat().items() if backend == "relays" and server.startswith("relay")}
+    return {it: by_id[server] for it, server in table.items()}
 
 
 def late(cluster):
@@ -70,24 +71,33 @@ def late(cluster):
     cluster.asked("asked then")
 
 
-def ports(cluster):
+def ports(cluster, reuse=1):
     """Many unknown names are asked for, while the proxy has 1,000 ports for connections to a relay and not 28,000."""
-    cluster.net.set("proxy", "net.ipv4.tcp_tw_reuse=2")
+    cluster.net.set("proxy", f"net.ipv4.tcp_tw_reuse={reuse}")
     cluster.net.set("proxy", "net.ipv4.ip_local_port_range=32768 33767")
     cluster.load = dataclasses.replace(cluster.load, unknown=8_000)
     trials.unknown(cluster)
 
 
+def used_up_ports(cluster):
+    """The same with the default of Linux for ports that were used."""
+    ports(cluster, 2)
+
+
 def kill_moved(cluster):
     """A relay is ended by KILL that has names of another one, which is up again."""
-    trials.moved_away(cluster, cluster.relays[0])
+    procedures.moved_away(cluster, cluster.relays[0])
     relay = cluster.relays[1]
-    names = cluster.watch.of(relay.name)
+    away = cluster.watch.of(relay.name)
     cluster.mark()
     relay.kill()
     time.sleep(3)
     cluster.settles()
-    cluster.row("KILL of a relay that has names of another one", names)
+    cluster.row("KILL of a relay that has names of another one", away)
+
+
+# These are run with the whole configuration too.
+TRIALS = pause, reload_cut, reorder, late, ports, kill_moved
 
 
 @dataclasses.dataclass
@@ -113,32 +123,32 @@ STOPPING = ("    tcp-request content reject if { stopping }\n", "")
 STRIPPED = ''',regsub("[?#].*",""),regsub("^rtsps?:(//[^/]*)?/?","",i),regsub("/$",""),regsub("/trackID=[0-9]+$","")'''
 
 ALL = [
-    Without("`id` of servers", ((" id 1\n", "\n"), (" id 2\n", "\n"), (" id 3\n", "\n"), (" id 4\n", "\n")), reorder),
-    Without("the name less query, slash and `/trackID=k`", ((STRIPPED, ',regsub("^rtsps?:(//[^/]*)?/?","",i)'),), singles.forms),
+    Without("`id` of servers", tuple((f" id {it} ", " ") for it in range(1, 5)), reorder),
+    Without("the name less query, slash and `/trackID=k`", ((STRIPPED, ',regsub("^rtsps?:(//[^/]*)?/?","",i)'),), names.forms),
     Without("`hash-type consistent`", (("    hash-type consistent\n", ""),), reorder),
     Without("`balance hash` (`leastconn`)", (("balance hash var(txn.name)", "balance leastconn"), ("    hash-type consistent\n", "")), trials.kill),
     Without("`stick match` and `stick store-request`", STICK, late),
     Without("the table written by cameras alone", ((" if { so_name -m beg cameras }\n    # After a reload", "\n    # After a reload"),), trials.unknown),
     Without("no `expire` (with `expire 10s`)", ((" size 100k peers", " size 100k expire 10s peers"),), late),
-    Without("`peers` with itself", ((" peers haproxies\n    stick", "\n    stick"),), trials.reload),
-    Without("the wait for the table, and `reject if { stopping }`", (WAIT, STOPPING), trials.reload),
+    Without("`peers` with itself", ((" peers haproxies\n    stick", "\n    stick"),), procedures.reload),
+    Without("the wait for the table, and `reject if { stopping }`", (WAIT, STOPPING), procedures.reload),
     Without("no `redispatch`, no retries", (("no option redispatch", "option redispatch 1"), ("retries 0", "retries 3")), kill_moved),
     Without("`on-marked-down shutdown-sessions`", ((" on-marked-down shutdown-sessions", ""),), trials.cut),
-    Without("`maxconn` of servers", ((" maxconn 900 ", " "),), singles.crowd),
-    Without("`timeout queue`", (("    timeout queue 3s\n", ""),), singles.crowd),
+    Without("`maxconn` of servers", ((" maxconn 900 ", " "),), names.crowd),
+    Without("`timeout queue`", (("    timeout queue 3s\n", ""),), names.crowd),
     Without("`timeout check`", (("    timeout check 3s\n", ""),), pause),
     Without("503 as an answer of the check", (("(200|503)", "200"),), trials.full_connections),
     Without("`option tcp-check`", (("    option tcp-check\n", ""), ('    tcp-check connect default linger\n', ""),
                                    ('    tcp-check send "OPTIONS * RTSP/1.0\\r\\nCSeq: 1\\r\\n\\r\\n"\n', ""),
-                                   ('    tcp-check expect rstring "^RTSP/1\\.0 (200|503) "\n', "")), trials.stop),
+                                   ('    tcp-check expect min-recv 13 rstring "^RTSP/1\\.0 (200|503) "\n', "")), trials.stop),
     Without("`clitcpka` 10 s, 5 s, 2", (("    option clitcpka\n", ""),), singles.cuts),
     Without("`tcp-ut 20s` of `bind`", (("tcp-ut 20s\n    bind", "\n    bind"), ("name players tcp-ut 20s", "name players")), singles.stalls),
-    Without("`srvtcpka`, and `tcp-ut 20s` of servers", (("    option srvtcpka\n", ""), ("weight 100 tcp-ut 20s", "weight 100")), reload_cut),
+    Without("`srvtcpka`, and `tcp-ut 20s` of servers", (("    option srvtcpka\n", ""), *((f"id {it} tcp-ut 20s", f"id {it}") for it in range(1, 5))), reload_cut),
     Without("`tune.sndbuf.client`", (("    tune.sndbuf.client 262144\n", ""),), singles.lag),
     Without("`tune.rcvbuf.server`", (("    tune.rcvbuf.server 131072\n", ""),), singles.lag),
-    Without("timeouts of an hour (30 s)", (("timeout client 1h", "timeout client 30s"), ("timeout server 1h", "timeout server 30s"),
-                                           ("timeout tunnel 1h", "timeout tunnel 30s")), singles.silent),
+    Without("`timeout tunnel` of an hour (30 s)", (("timeout tunnel 1h", "timeout tunnel 30s"),), singles.silent),
     Without("`splice-auto`", (("    option splice-auto\n", ""),), singles.cost),
-    Without("net.ipv4.tcp_tw_reuse = 1", (), ports),
-    Without("`weight 100`", ((" weight 100", ""),), singles.spread),
+    Without("net.ipv4.tcp_tw_reuse = 1", (), used_up_ports),
+    Without("`send-proxy-v2`", ((" send-proxy-v2\n    # The hash", "\n    # The hash"),), names.addresses),
+    Without("`weight 100`", ((" weight 100", ""),), names.spread),
 ]

@@ -18,6 +18,7 @@ INSIDE = {
     "networks": "MOST_DIGITS",
     "pacing": "recent::MOST",
     "packet_ring": "WRITING NUMBER CELLS",
+    "proxy_header": "LOCAL PROXY BLOCK_HEAD",
     "process_figures": "TICK PAGE_BYTES",
     "pull_plan": "SCHEME_BYTES",
     "pull_session": "MOST_ASKS",

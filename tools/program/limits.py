@@ -232,7 +232,7 @@ NO_NUMBERS += [("--silent", "0"), ("--silent", "86401")]
 def faults_of_options_are_reported(program):
     """A server isn't started with a text that is no network, or a number out of range: its status is 2, and a line on standard error has
     the text."""
-    rows = [(f"--{name}-from", "NET", text, why) for name in ("publish", "play") for text, why in FAULTS]
+    rows = [(f"--{name}-from", "NET", text, why) for name in ("publish", "play", "proxy") for text, why in FAULTS]
     rows += [("--limit-exempt", "NET", text, why) for text, why in FAULTS]
     rows += [(option, "SECONDS" if option == "--silent" else "N", text, f"{text} is not in 1..=") for option, text in NO_NUMBERS]
     for option, value, text, why in rows:

@@ -45,6 +45,9 @@ VALUES = {
 # The sources whose texts have to be in the chapter by their words in any case, and a text of theirs that no line has.
 REASONS, NO_REASON = "relay_accounts/src/ending.rt", "done"
 
+# A reason of these that has its texts in a source of its own, and the sources of values in it, of whose texts the chapter may have some.
+REASON_WITHIN, FAULTS_WITHIN = "relay_accounts/src/header_end.rt", ("proxy_header/src/fault.rt",)
+
 # Lines that have no words of their own: what the table calls them.
 WORDLESS = {
     ("relay_main::serve", "{addr}: {error}"): "ADDR: ..",
@@ -88,7 +91,8 @@ def kinds():
 
 def words_of(path):
     """Returns the texts that a source writes for a value."""
-    return [form for form in WRITE.findall(text_of(TOP / "crates" / path)) if (path, form) != (REASONS, NO_REASON)]
+    within = words_of(REASON_WITHIN) if path == REASONS else []
+    return [form for form in WRITE.findall(text_of(TOP / "crates" / path)) if (path, form) != (REASONS, NO_REASON)] + within
 
 
 def forms_of(begin, form):
@@ -130,7 +134,7 @@ def fixed_words(text):
 
 def unwritten(words):
     """Whether no source writes words that the chapter has for a value."""
-    texts = [text for sources in VALUES.values() for path in sources for text in words_of(path)]
+    texts = [text for sources in (*VALUES.values(), FAULTS_WITHIN) for path in sources for text in words_of(path)]
     return not any(run in words or words in run for text in texts for run in fixed_words(text) if len(run) >= LETTERS)
 
 

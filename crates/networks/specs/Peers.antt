@@ -1,5 +1,5 @@
 -- The connections of a server, by the groups of their addresses.
-use Rattle.std.specs.Prelude.{ℕ, ◌==◌, Bool, false, not, ◌&&◌, List, filter, count_by, find, map, Option, if◌then◌else◌}
+use Rattle.std.specs.Prelude.{ℕ, ◌==◌, ◌≤◌, Bool, false, not, ◌&&◌, List, filter, count_by, find, map, Option, None, Some, if◌then◌else◌}
 use Rattle.networks.specs.declared.address.Address.{Address}
 use Rattle.networks.specs.declared.address.Address.TheVariants.{V4, V6}
 use Rattle.networks.specs.declared.peer_table.Peer.{Peer}
@@ -13,6 +13,11 @@ is_same a b = false
 -- how many connections a group has
 abbrev pub connections_of : (group : Address) → List Peer → ℕ
 connections_of group peers = count_by (λ peer. is_same peer.group group) peers
+
+-- a group has as many connections as it may, if that is limited
+abbrev pub IsFullFor : (group : Address) → (most : Option ℕ) → List Peer → Type 0
+IsFullFor group None peers = ⊥
+IsFullFor group (Some most) peers = most ≤ connections_of group peers
 
 -- how many other connections of a group have a mount
 abbrev pub others_with_mount : (conn : ℕ) → (group : Address) → List Peer → ℕ

@@ -14,4 +14,4 @@ pub use address::Address;
 pub use fault::NetworkFault;
 pub use network::Network;
 pub use networks::Networks;
-pub use peer_table::{Peer, PeerTable};
+pub use peer_table::{JoinFault, Peer, PeerTable};

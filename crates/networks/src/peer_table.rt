@@ -1,6 +1,6 @@
 //! The connections of a server, by the groups of their addresses.
 ghost use Rattle.std.specs.Prelude.{◌≡◌, ◌↔◌, ◌++◌, ◌∷◌, ◌<◌, [], true, false, IsSomeAnd, IsTrue, OnErr, OnOk};
-ghost use Rattle.networks.specs.Peers.{connections_of, entry_of, marked, others_with_mount, without};
+ghost use Rattle.networks.specs.Peers.{IsFullFor, connections_of, entry_of, marked, others_with_mount, without};
 ghost use Rattle.std.specs.Bool.{OnFalse, OnTrue};
 ghost use Rattle.std.specs.Option.{option_copied};
 
@@ -17,6 +17,14 @@ pub struct Peer {
     pub group: Address,
     /// Whether it has a mount, or is about to have one.
     pub has_mount: bool,
+}
+
+/// Why a connection wasn't added.
+#[derive(Clone, Copy, Debug, PartialEq, Eq)]
+pub enum JoinFault {
+    /// Its group has as many as it may.
+    Full,
+    OutOfMemory,
 }
 
 /// The connections of a server, by the groups of their addresses, and which of them have a mount. A contract sees their list.
@@ -62,6 +70,24 @@ impl PeerTable {
             has_mount: false,
         })?;
         Ok(())
+    }
+
+    /// Adds a connection of a group, unless that has `most` already. It has no mount.
+    pub fn join(&mut self, conn: u64, group: Address, most: Option<usize>) -> Result<(), JoinFault>
+        ensures full { IsFullFor group most self.old → result ≡ Err JoinFault.Full }
+        ensures room { result ≡ Err JoinFault.Full → IsFullFor group most self.old }
+        ensures added { OnOk result (self.new ≡ self.old ++ record { conn = conn; group = group; has_mount = false } ∷ []) }
+        ensures err { OnErr result (self.new ≡ self.old) }
+    {
+        if let Some(most) = most {
+            if self.connections(group) >= most {
+                return Err(JoinFault::Full);
+            }
+        }
+        match self.add(conn, group) {
+            Ok(()) => Ok(()),
+            Err(AllocError) => Err(JoinFault::OutOfMemory),
+        }
     }
 
     /// Removes a connection that has ended. The others keep their order.

@@ -20,7 +20,7 @@ told_end read frames.WriteFailed false = ends.WriteFailed
 told_end read sent false = read
 
 -- How a connection ended. A fault of its stream, that it was out of memory or had no thread, and that it was disconnected for
--- its silence or by the system, is reported whatever became of its frames.
+-- its silence, by the system or for a missing header of a proxy, is reported whatever became of its frames.
 abbrev pub end_of : ConnectionEnd → FrameEnd → (is_over : Bool) → ConnectionEnd
 end_of (ends.StreamFault fault) sent is_over = ends.StreamFault fault
 end_of ends.OutOfMemory sent is_over = ends.OutOfMemory
@@ -31,6 +31,7 @@ end_of ends.Reset sent is_over = ends.Reset
 end_of ends.NoAcknowledgement sent is_over = ends.NoAcknowledgement
 end_of ends.Silent sent is_over = ends.Silent
 end_of ends.NotSetUp sent is_over = ends.NotSetUp
+end_of (ends.NoHeader end) sent is_over = ends.NoHeader end
 end_of read sent is_over = told_end read sent is_over
 
 -- How a connection ended that the system has ended, if it has. After a reset no read and no write failed otherwise. If nothing

@@ -2,6 +2,7 @@
 ghost use Rattle.std.specs.Prelude.{◌≡◌};
 ghost use Rattle.relay_accounts.specs.Endings.{end_of as connection_end, end_by as end_by_failure, status_of as fault_status};
 
+use crate::header_end::HeaderEnd;
 use rtsp_message::{Fault, Status};
 use std::fmt;
 
@@ -28,6 +29,8 @@ pub enum ConnectionEnd {
     Silent,
     /// It announced a mount, and set up no track of it for a minute.
     NotSetUp,
+    /// It came from a proxy's address, and began with no header.
+    NoHeader(HeaderEnd),
 }
 
 impl fmt::Display for ConnectionEnd {
@@ -50,6 +53,7 @@ impl fmt::Display for ConnectionEnd {
             ConnectionEnd::NoAcknowledgement => write!(f, "no acknowledgement for 20 s"),
             ConnectionEnd::Silent => write!(f, "silent while recording"),
             ConnectionEnd::NotSetUp => write!(f, "no SETUP for 60 s after its ANNOUNCE"),
+            ConnectionEnd::NoHeader(end) => write!(f, "{end}"),
         }
     }
 }
@@ -88,7 +92,8 @@ pub fn end_of(read: ConnectionEnd, sent: FrameEnd, is_over: bool) -> ConnectionE
         | (ConnectionEnd::Reset, _)
         | (ConnectionEnd::NoAcknowledgement, _)
         | (ConnectionEnd::Silent, _)
-        | (ConnectionEnd::NotSetUp, _) => read,
+        | (ConnectionEnd::NotSetUp, _)
+        | (ConnectionEnd::NoHeader(_), _) => read,
         (_, FrameEnd::OutOfMemory) => ConnectionEnd::OutOfMemory,
         _ if is_over => ConnectionEnd::Done,
         (_, FrameEnd::WriteFailed) => ConnectionEnd::WriteFailed,

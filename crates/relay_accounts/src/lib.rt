@@ -5,6 +5,7 @@
 mod counts;
 mod ending;
 mod handover;
+mod header_end;
 mod incoming;
 mod last_activity;
 mod mount_tally;
@@ -14,6 +15,7 @@ mod seat_account;
 pub use counts::Counts;
 pub use ending::{ConnectionEnd, FrameEnd, WireFailure, end_by, end_of, status_of};
 pub use handover::{HandedOver, Handover};
+pub use header_end::HeaderEnd;
 pub use incoming::{publish_frames, skip_frames};
 pub use last_activity::LastActivity;
 pub use mount_tally::MountTally;

@@ -1,4 +1,7 @@
 //! What became of a connection, as log lines report it.
+ghost use Rattle.std.specs.Prelude.{◌≡◌, None, false};
+ghost use Rattle.relay_accounts.specs.Counting.{nothing_counted};
+
 use crate::counts::Counts;
 use crate::ending::ConnectionEnd;
 use base_syntax::Bytes;
@@ -34,4 +37,18 @@ pub struct Outcome {
     pub has_account: bool,
     /// Its part in the mount of its last session. `None` if it had none, or if there was no memory for the name.
     pub part: Option<Part>,
+}
+
+impl Outcome {
+    /// A connection ended so before its first request.
+    pub fn without_requests(end: ConnectionEnd) -> Outcome
+        ensures { result ≡ record { end = end; counts = nothing_counted; has_account = false; part = None } }
+    {
+        Outcome {
+            end,
+            counts: Counts::new(),
+            has_account: false,
+            part: None,
+        }
+    }
 }

@@ -133,12 +133,13 @@ fn endpoints_of(alloc: Global, matches: &ArgMatches) -> Result<Endpoints, AllocE
     })
 }
 
-/// Returns the networks from which peers may publish and play, and those without limits for an address.
+/// Returns the networks from which peers may publish and play, those without limits for an address, and those of proxies.
 fn origins_of(alloc: Global, matches: &ArgMatches) -> Result<Origins, Error> {
     Ok(Origins {
         publish: networks_of(alloc, matches, "publish-from")?,
         play: networks_of(alloc, matches, "play-from")?,
         exempt: networks_of(alloc, matches, "limit-exempt")?,
+        proxies: networks_of(alloc, matches, "proxy-from")?,
     })
 }
 

@@ -134,6 +134,7 @@ pub(crate) fn serve_command<'a>(alloc: Global) -> Result<Command<'a>, AllocError
         .arg(serve_options::per_address(alloc))?
         .arg(serve_options::mounts_per_address(alloc))?
         .arg(serve_options::limit_exempt(alloc))?
+        .arg(serve_options::proxy_from(alloc))?
         .arg(serve_options::publish_from(alloc))?
         .arg(serve_options::play_from(alloc))?
         .arg(serve_options::send_buffer(alloc))?

@@ -155,6 +155,15 @@ pub(crate) fn limit_exempt<'a>(alloc: Global) -> Arg<'a> {
         )
 }
 
+pub(crate) fn proxy_from<'a>(alloc: Global) -> Arg<'a> {
+    Arg::new(alloc, "proxy-from")
+        .long("proxy-from")
+        .value_name("NET")
+        .help(
+            "Addresses of proxies, as HAProxy with send-proxy-v2: a connection{n}from one begins with a PROXY header, whose client's address counts{n}[default: none]",
+        )
+}
+
 pub(crate) fn publish_from<'a>(alloc: Global) -> Arg<'a> {
     Arg::new(alloc, "publish-from")
         .long("publish-from")

@@ -70,7 +70,7 @@ pub struct Endpoints {
     pub http_players: bool,
 }
 
-/// The networks from which peers may publish and play: `None` is everywhere, or for `exempt` nowhere.
+/// The networks from which peers may publish and play: `None` is everywhere, or for `exempt` and `proxies` nowhere.
 #[derive(Debug, Drop)]
 pub struct Origins {
     /// The networks from which mounts may be announced.
@@ -79,6 +79,8 @@ pub struct Origins {
     pub play: Option<Networks>,
     /// The networks for which `per_address` and `mounts_per_address` don't apply.
     pub exempt: Option<Networks>,
+    /// The addresses of proxies, whose connections begin with a header.
+    pub proxies: Option<Networks>,
 }
 
 /// What `relay pass` passes on.

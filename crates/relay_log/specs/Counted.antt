@@ -34,7 +34,7 @@ pub record IsEmpty (state : State) : Type 0 where
   pub tallies : state.tallies ≡ replicate 4 untouched
   pub requests : state.requests ≡ []
   pub rates : state.rates ≡ record { known = []; others = record { second = 0; count = 0 } }
-  pub unlogged : state.unlogged ≡ replicate 11 untouched
+  pub unlogged : state.unlogged ≡ replicate 12 untouched
   pub unlogged_accounts : state.unlogged_accounts ≡ untouched
   pub moment : state.moment ≡ None
   pub is_open : state.is_closed ≡ false

@@ -17,10 +17,11 @@ place_of_end ends.Reset = Some 7
 place_of_end ends.NoAcknowledgement = Some 8
 place_of_end ends.Silent = Some 9
 place_of_end ends.NotSetUp = Some 10
+place_of_end (ends.NoHeader end) = Some 11
 
 -- what is said of each kind of ends, at its place
 abbrev pub kinds_of_ends : List (List ℕ)
-kinds_of_ends = codes "stream fault" ∷ codes "read failed" ∷ codes "write failed" ∷ codes "out of memory" ∷ codes "no thread" ∷ codes "session expired" ∷ codes "silent without a session" ∷ codes "left by a reset" ∷ codes "no acknowledgement" ∷ codes "silent while recording" ∷ codes "no SETUP" ∷ []
+kinds_of_ends = codes "stream fault" ∷ codes "read failed" ∷ codes "write failed" ∷ codes "out of memory" ∷ codes "no thread" ∷ codes "session expired" ∷ codes "silent without a session" ∷ codes "left by a reset" ∷ codes "no acknowledgement" ∷ codes "silent while recording" ∷ codes "no SETUP" ∷ codes "no PROXY header" ∷ []
 
 -- this is said of the ends that are counted at this place
 abbrev pub IsKindAt : (place : ℕ) → (kind : List ℕ) → Type 0

@@ -5,7 +5,7 @@ ghost use Rattle.relay_log.specs.Places.{place_of_end};
 use relay_accounts::ConnectionEnd;
 
 /// The kinds of ends that a warning reports, each at its place.
-pub(crate) const ENDS: [&str; 11] = [
+pub(crate) const ENDS: [&str; 12] = [
     "stream fault",
     "read failed",
     "write failed",
@@ -17,12 +17,13 @@ pub(crate) const ENDS: [&str; 11] = [
     "no acknowledgement",
     "silent while recording",
     "no SETUP",
+    "no PROXY header",
 ];
 
 /// The place of an end among them. `None` for a good one.
 pub(crate) fn place_of(end: ConnectionEnd) -> Option<usize>
     ensures place { result ≡ place_of_end end }
-    ensures within { IfSome result (λ place. place < 11) }
+    ensures within { IfSome result (λ place. place < 12) }
 {
     match end {
         ConnectionEnd::Done => None,
@@ -37,5 +38,6 @@ pub(crate) fn place_of(end: ConnectionEnd) -> Option<usize>
         ConnectionEnd::NoAcknowledgement => Some(8),
         ConnectionEnd::Silent => Some(9),
         ConnectionEnd::NotSetUp => Some(10),
+        ConnectionEnd::NoHeader(_) => Some(11),
     }
 }

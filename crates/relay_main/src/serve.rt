@@ -96,6 +96,7 @@ fn access_of(settings: Settings, origins: Origins) -> Access {
         connections: settings.per_address,
         mounts: settings.mounts_per_address,
         exempt: origins.exempt,
+        proxies: origins.proxies,
     }
 }
 

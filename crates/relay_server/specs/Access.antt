@@ -9,14 +9,14 @@ abbrev pub IsIn : Option (List Network) → Address → Type 0
 IsIn None address = Unit {0}
 IsIn (Some networks) address = Any (λ network. Holds network address) networks
 
--- it is in one of the networks to which the limits of an address don't apply
-abbrev pub IsExempt : Option (List Network) → Address → Type 0
-IsExempt None address = ⊥
-IsExempt (Some networks) address = Any (λ network. Holds network address) networks
+-- it is in one of these networks; without any it is in none
+abbrev pub IsListed : Option (List Network) → Address → Type 0
+IsListed None address = ⊥
+IsListed (Some networks) address = Any (λ network. Holds network address) networks
 
 -- a limit of an address: none where it is exempt
 abbrev pub IsLimitOf : (exempt : Option (List Network)) → (most : Option ℕ) → Address → (limit : Option ℕ) → Type 0
-IsLimitOf exempt most address limit = (IsExempt exempt address → limit ≡ None) × ((IsExempt exempt address → ⊥) → limit ≡ most)
+IsLimitOf exempt most address limit = (IsListed exempt address → limit ≡ None) × ((IsListed exempt address → ⊥) → limit ≡ most)
 
 -- what a connection may do: to publish, to play, and how many mounts its address may have, if they are limited
 pub record Granted : Type 0 where

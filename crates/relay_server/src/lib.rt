@@ -21,7 +21,8 @@ pub use listen::options::Options;
 pub use listen::rights::Rights;
 pub use listen::server::run_server;
 pub use listen::stopping::Stopping;
-pub use relay_accounts::{ConnectionEnd, Counts, Outcome, Part};
+pub use proxy_header::HeaderFault;
+pub use relay_accounts::{ConnectionEnd, Counts, HeaderEnd, Outcome, Part};
 pub use relay_fanout::{
     HangUp, Maker, RingMaker, Seat, Socket, Writers, WritingSide, limit_peers, set_send_buffer,
     stop_listening,

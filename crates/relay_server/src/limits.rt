@@ -15,6 +15,12 @@ pub(crate) const REFUSED_PEERS: usize = 64;
 /// For how many milliseconds a refused peer's connection stays, so that it reads why.
 pub(crate) const REFUSED_STAYS: u64 = 100;
 
+/// For how many milliseconds a connection from a proxy may take until its header is whole.
+pub(crate) const HEADER_WAIT: u64 = 2_000;
+
+/// How long the last look at a header's bytes waits after that, in microseconds: a process that was held finds them there.
+pub(crate) const LAST_LOOK: u64 = 1_000;
+
 /// How often a refused peer is read before it is closed: what it has sent and is never read would reset the connection.
 pub(crate) const REFUSED_READS: u32 = 4;
 

@@ -4,7 +4,7 @@
 //! waits for the ends of all. What is started once for all connections is in `helpers`: the threads that wake players, send frames,
 //! write and report lines, and close the sockets of refused peers. The listening thread takes one lock at a time: the book for one
 //! call, or a list of connections, sockets or refused peers for a walk over it. No lock is held while it accepts, writes a refusal
-//! or waits.
+//! or waits. Of a connection that comes from a proxy, its own thread reads the proxy's header first.
 pub(crate) mod accepting;
 pub(crate) mod accepts;
 pub(crate) mod access;
@@ -15,6 +15,7 @@ pub(crate) mod live_sockets;
 pub(crate) mod new_connection;
 pub(crate) mod options;
 pub(crate) mod peers;
+pub(crate) mod proxied;
 pub(crate) mod refused_peers;
 pub(crate) mod rights;
 pub(crate) mod server;

@@ -4,7 +4,8 @@ use base_syntax::Bytes;
 use log::sink::Memory;
 use log::warn;
 use relay_server::{
-    ConnectionEnd, Counts, Lines, Outcome, Part, Refusal, tell_end, tell_last_account,
+    ConnectionEnd, Counts, HeaderEnd, HeaderFault, Lines, Outcome, Part, Refusal, tell_end,
+    tell_last_account,
 };
 use rtsp_message::Fault;
 use std::alloc::Global;
@@ -15,7 +16,7 @@ use std::sync::Arc;
 use std::time::Duration;
 
 /// Each end, and its text. All but the first are logged as warnings.
-const ENDS: [(ConnectionEnd, &str); 16] = [
+const ENDS: [(ConnectionEnd, &str); 20] = [
     (ConnectionEnd::Done, "done"),
     (
         ConnectionEnd::StreamFault(Fault::BadLine),
@@ -55,6 +56,22 @@ const ENDS: [(ConnectionEnd, &str); 16] = [
     (
         ConnectionEnd::NotSetUp,
         "no SETUP for 60 s after its ANNOUNCE",
+    ),
+    (
+        ConnectionEnd::NoHeader(HeaderEnd::Late),
+        "no PROXY header for 2 s, but --proxy-from has this address: use the proxy or another address",
+    ),
+    (
+        ConnectionEnd::NoHeader(HeaderEnd::Cut),
+        "left within its PROXY header",
+    ),
+    (
+        ConnectionEnd::NoHeader(HeaderEnd::Bad(HeaderFault::NoHeader)),
+        "no PROXY header, but --proxy-from has this address: use the proxy or another address",
+    ),
+    (
+        ConnectionEnd::NoHeader(HeaderEnd::Bad(HeaderFault::BadLine)),
+        "bad PROXY line",
     ),
 ];
 

@@ -1,5 +1,6 @@
 //! The owners of a socket.
 ghost use Rattle.std.specs.Prelude.{IsOk};
+ghost use Rattle.std.specs.Io.{ReadsAtMost};
 
 use crate::limits::MOST_TRIES;
 use crate::net::hang_up::HangUp;
@@ -33,6 +34,15 @@ impl Socket {
 
     pub fn stream(&self) -> &TcpStream {
         self.shared.stream()
+    }
+
+    /// Reads as `read` does, and leaves the bytes for the next call.
+    pub fn peek(&self, buf: &mut [u8]) -> io::Result<usize>
+        ensures { ReadsAtMost result buf.new }
+    {
+        let peeked = self.stream().peek(buf);
+        self.shared.note(&peeked);
+        peeked
     }
 }
 

@@ -41,7 +41,7 @@ pub(super) struct State {
     /// How many ends of connections were logged of each address.
     rates: LineRates,
     /// Those that weren't logged, by `end_kinds::place_of`.
-    unlogged: [Tally; 11],
+    unlogged: [Tally; 12],
     /// Accounts that weren't logged.
     unlogged_accounts: Tally,
     /// The first moment that was set and hasn't come.
@@ -105,7 +105,7 @@ impl State {
             tallies: [Tally::new(); Refusal::COUNT],
             requests: RefusedRequests::new(alloc)?,
             rates: LineRates::new(alloc)?,
-            unlogged: [Tally::new(); 11],
+            unlogged: [Tally::new(); 12],
             unlogged_accounts: Tally::new(),
             moment: None,
             is_closed: false,
@@ -164,7 +164,7 @@ impl State {
     /// Whether a line may report an end of this kind, of a connection of this address. One of more than ten in a second is counted
     /// instead.
     pub(super) fn report_end(&mut self, place: usize, address: Address, now: u64) -> MayReport
-        requires { place < 11 }
+        requires { place < 12 }
         ensures known { IfSome (place_in address self.old.rates.known) (λ at. IsSomeAnd (slice_get self.old.rates.known at) (λ known. result ≡ Logged ↔ MayTell known.rate now)) }
         ensures told { result ≡ Logged → TellsAddress self.old.rates self.new.rates address now true }
         ensures left_out { (result ≡ Logged → ⊥) → TellsAddress self.old.rates self.new.rates address now false }

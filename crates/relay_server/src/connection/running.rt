@@ -9,7 +9,7 @@ use crate::listen::gate::Gate;
 use crate::listen::rights::Rights;
 use interleaved::{Sink, Source};
 use publisher::InStop;
-use relay_accounts::{ConnectionEnd, Counts, Outcome, status_of};
+use relay_accounts::{ConnectionEnd, Outcome, status_of};
 use relay_fanout::{HangUp, Maker, SendSide};
 use relay_log::Events;
 use rtsp_message::{Intake, Reply, Request, Status};
@@ -54,12 +54,7 @@ where
         Err(refused) => {
             let watch = clock.watch();
             turn_away(&rt, &shared, conn, &refused.value, &mut reader, watch);
-            return Outcome {
-                end: ConnectionEnd::OutOfMemory,
-                counts: Counts::new(),
-                has_account: false,
-                part: None,
-            };
+            return Outcome::without_requests(ConnectionEnd::OutOfMemory);
         }
     };
     let mut connection = Connection::new(

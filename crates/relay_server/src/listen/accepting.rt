@@ -9,6 +9,7 @@ use crate::listen::ending::take_out;
 use crate::listen::gate::Gate;
 use crate::listen::new_connection::NewConnection;
 use crate::listen::options::Options;
+use crate::listen::peers::Peers;
 use crate::listen::refused_peers::write_unavailable;
 use crate::listen::server::Server;
 use crate::listen::stopping::{Entered, Room};
@@ -111,8 +112,8 @@ where
     }
 }
 
-/// Lets a connection come and starts its thread. The thread that accepts is the only one that adds connections: so what is counted
-/// of all, and of an address, only falls meanwhile.
+/// Lets a connection come and starts its thread. The thread that accepts is the only one that adds connections to the book and to
+/// the count of threads, which only fall meanwhile. How many an address has is compared again as the connection is added.
 fn take_in<R, V, G, N>(
     rt: R,
     alloc: Global,
@@ -130,7 +131,8 @@ where
         return Err(Refusal::Full);
     };
     let address = Address::of(peer.ip());
-    if server.access.is_full(&rt, &server.peers, address) {
+    let is_proxy = server.access.is_proxy(address);
+    if !is_proxy && server.access.is_full(&rt, &server.peers, address) {
         return Err(room.refuse(Refusal::AddressFull));
     }
     let conn = match let_in(&rt, &server.shared.book) {
@@ -138,7 +140,10 @@ where
         Err(fault) => return Err(room.refuse(refusal_of(fault))),
     };
     let started = match NewConnection::new(rt, alloc, server, conn, shared, peer) {
-        Ok(new) => start(rt, alloc, server, room, shared, new),
+        Ok(new) => {
+            let known = if is_proxy { None } else { Some(address) };
+            start(rt, alloc, server, room, shared, new, known)
+        }
         Err(refused) => Err(room.refuse(Refusal::from(refused))),
     };
     if started.is_err() {
@@ -165,6 +170,7 @@ fn start<R, V, G, N>(
     room: Room,
     shared: &Arc<SharedSocket, Global>,
     new: NewConnection<R, V, G, N>,
+    address: Option<Address>,
 ) -> Result<(), Refusal>
 where
     R: Threads + Wait + Clock + Log + Copy + Send + Sync + 'static,
@@ -172,7 +178,7 @@ where
     G: Gate + Drop + Send + Sync + 'static,
     N: Moments + Copy + Send + Sync + 'static,
 {
-    let entered = server.enter(&rt, room, new.conn(), shared, new.group())?;
+    let entered = server.enter(&rt, room, new.conn(), shared, address)?;
     let run = move || new.run(rt, alloc);
     let started = if server.shared.gate.may_start() {
         thread::spawn(&rt, run)
@@ -192,25 +198,29 @@ where
 }
 
 impl<R: Wait, V, G, N> Server<R, V, G, N> {
-    /// Counts a connection that is to have a thread, with its socket and the group of its address. If there is no memory, it is
-    /// counted nowhere.
+    /// Counts a connection that is to have a thread, with its socket and, if that is known, its address. If its address has as many
+    /// connections as it may, or there is no memory, it is counted nowhere.
     fn enter(
         &self,
         rt: &R,
         room: Room,
         conn: u64,
         shared: &Arc<SharedSocket, Global>,
-        group: Address,
+        address: Option<Address>,
     ) -> Result<Entered, Refusal> {
         let socket = match self.live.add(rt, conn, shared) {
             Ok(socket) => socket,
             Err(refused) => return Err(room.refuse(Refusal::from(refused))),
         };
-        match self.peers.add(rt, socket, group) {
+        let Some(address) = address else {
+            return Ok(self.stopping.come(room, Peers::add_unknown(socket)));
+        };
+        let (group, most) = self.access.room_of(address);
+        match self.peers.add(rt, socket, group, most) {
             Ok(peer) => Ok(self.stopping.come(room, peer)),
-            Err(socket) => {
+            Err((socket, why)) => {
                 let _ = self.live.remove(rt, socket);
-                Err(room.refuse(Refusal::OutOfMemory))
+                Err(room.refuse(why))
             }
         }
     }

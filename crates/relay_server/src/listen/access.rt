@@ -1,6 +1,7 @@
 //! What peers may do by their addresses.
 ghost use Rattle.std.specs.Prelude.{◌≡◌, ◌↔◌, None, IfOk, IsTrue};
-ghost use Rattle.relay_server.specs.Access.{IsIn, IsExempt, IsLimitOf};
+ghost use Rattle.networks.specs.Groups.{IsGroupOf};
+ghost use Rattle.relay_server.specs.Access.{IsIn, IsLimitOf, IsListed};
 
 use crate::listen::peers::Peers;
 use crate::listen::rights::{MountPlace, Rights};
@@ -22,12 +23,15 @@ pub struct Access {
     pub mounts: Option<usize>,
     /// Where the two limits don't apply.
     pub exempt: Option<Networks>,
+    /// The addresses of proxies: a connection from one begins with a header that gives its client's address, which counts in its
+    /// place. `None` for none.
+    pub proxies: Option<Networks>,
 }
 
 impl Access {
     /// Everything may be done from everywhere.
     pub fn unlimited() -> Access
-        ensures { result ≡ record { publish_from = None; play_from = None; connections = None; mounts = None; exempt = None } }
+        ensures { result ≡ record { publish_from = None; play_from = None; connections = None; mounts = None; exempt = None; proxies = None } }
     {
         Access {
             publish_from: None,
@@ -35,13 +39,32 @@ impl Access {
             connections: None,
             mounts: None,
             exempt: None,
+            proxies: None,
         }
     }
 
     /// Whether one more connection of an address is too many.
     pub(crate) fn is_full(&self, rt: &impl Wait, peers: &Peers, address: Address) -> bool {
-        match self.limit_of(self.connections, address) {
-            Some(most) => peers.connections(rt, address.group()) >= most,
+        match self.room_of(address) {
+            (group, Some(most)) => peers.connections(rt, group) >= most,
+            (_, None) => false,
+        }
+    }
+
+    /// Returns the group by which an address's connections are counted, and how many of them there may be. `None` for any number.
+    pub(crate) fn room_of(&self, address: Address) -> (Address, Option<usize>)
+        ensures group { IsGroupOf address result.0 }
+        ensures most { IsLimitOf self.now.exempt self.now.connections address result.1 }
+    {
+        (address.group(), self.limit_of(self.connections, address))
+    }
+
+    /// Whether a connection of this address begins with a proxy's header.
+    pub(crate) fn is_proxy(&self, address: Address) -> bool
+        ensures { IsTrue result ↔ IsListed self.now.proxies address }
+    {
+        match &self.proxies {
+            Some(networks) => networks.contains(address),
             None => false,
         }
     }

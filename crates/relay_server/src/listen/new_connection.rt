@@ -9,13 +9,15 @@ use crate::connection::outgoing::Outgoing;
 use crate::connection::running::run_connection;
 use crate::listen::ending::Ending;
 use crate::listen::gate::Gate;
+use crate::listen::proxied::Proxied;
 use crate::listen::rights::Rights;
 use crate::listen::server::{RingShared, Server, SocketWriters};
 use interleaved::{Reading, Writing};
 use log::Log;
 use networks::Address;
 use packet_ring::Pass;
-use relay_fanout::{Maker, Seat, SharedSocket, Socket, WritingSide};
+use relay_accounts::{Outcome, end_by};
+use relay_fanout::{HangUp, Maker, Seat, SharedSocket, Socket, WritingSide};
 use relay_log::{Events, Teller};
 use session_state::{Moments, Words};
 use std::alloc::{AllocError, Global};
@@ -28,16 +30,23 @@ use std::time::Clock;
 pub(super) struct NewConnection<R, V, G, N> {
     shared: Arc<RingShared<V, G>, Global>,
     conn: u64,
-    /// The group of its peer's address.
-    group: Address,
+    origin: Origin,
     reader: Reading<IdleReader<R, Seat<Pass>, N, Socket>>,
     writer: Writing<Socket>,
     hang_up: Socket,
     writers: Option<Arc<SocketWriters, Global>>,
-    events: Events<R>,
+    teller: Teller<R>,
     clock: ConnectionClock<N>,
-    rights: Rights,
     ending: Ending<R>,
+}
+
+/// Where a connection comes from.
+#[derive(Drop)]
+enum Origin {
+    /// Its peer, which may do this.
+    Peer(Rights),
+    /// A proxy, whose header is read first.
+    Proxy(Proxied),
 }
 
 impl<R: Drop, V: Drop, G: Drop, N: Drop> Drop for NewConnection<R, V, G, N> {
@@ -45,14 +54,13 @@ impl<R: Drop, V: Drop, G: Drop, N: Drop> Drop for NewConnection<R, V, G, N> {
         let NewConnection {
             shared: _,
             conn: _,
-            group: _,
+            origin: _,
             reader: _,
             writer: _,
             hang_up: _,
             writers: _,
-            events: _,
+            teller: _,
             clock: _,
-            rights: _,
             ending: _,
         } = self;
     }
@@ -64,13 +72,6 @@ impl<R, V, G, N> NewConnection<R, V, G, N> {
         ensures { result ≡ self.now.conn }
     {
         self.conn
-    }
-
-    /// Returns the group of its peer's address.
-    pub(super) fn group(&self) -> Address
-        ensures { result ≡ self.now.group }
-    {
-        self.group
     }
 }
 
@@ -90,7 +91,6 @@ where
         socket: &Arc<SharedSocket, Global>,
         peer: SocketAddr,
     ) -> Result<NewConnection<R, V, G, N>, AllocError> {
-        let address = Address::of(peer.ip());
         let clock = ConnectionClock::new(alloc, server.moments)?;
         let read = Socket::of(socket)?;
         let book = &server.shared.book;
@@ -98,14 +98,13 @@ where
         Ok(NewConnection {
             shared: Arc::try_clone(&server.shared)?,
             conn,
-            group: address.group(),
+            origin: Origin::of(server, conn, socket, peer)?,
             reader: Reading::new(idle_reader),
             writer: Writing::new(Socket::of(socket)?),
             hang_up: Socket::of(socket)?,
             writers: share(&server.writers)?,
-            events: Events::new(server.teller(conn, peer)?),
+            teller: server.teller(conn, peer)?,
             clock,
-            rights: server.access.rights(&server.peers, conn, address)?,
             ending: server.ending(conn, peer)?,
         })
     }
@@ -123,26 +122,62 @@ where
         let NewConnection {
             shared,
             conn,
-            group: _,
+            origin,
             reader,
             writer,
             hang_up,
             writers,
-            events,
+            mut teller,
             clock,
-            rights,
-            ending,
+            mut ending,
         } = self;
+        let rights = match origin {
+            Origin::Peer(rights) => rights,
+            Origin::Proxy(proxied) => match proxied.meet(&rt, conn, teller.peer) {
+                Ok(client) => {
+                    teller.peer = client.peer;
+                    ending.peer = client.peer;
+                    client.rights
+                }
+                Err(end) => {
+                    let end = end_by(end, hang_up.failure());
+                    let _ = shared.book.lock(&rt).hangup(conn);
+                    ending.end(&rt, Outcome::without_requests(end));
+                    return;
+                }
+            },
+        };
         let longest = shared.maker.packet_bytes();
         let outgoing = Outgoing {
             writing: WritingSide::new(alloc, writer, longest),
             shutdown: hang_up,
             writers,
         };
+        let events = Events::new(teller);
         let outcome = run_connection(
             rt, alloc, shared, conn, reader, outgoing, events, clock, rights,
         );
         ending.end(&rt, outcome);
+    }
+}
+
+impl Origin {
+    /// A connection comes from this address over this socket.
+    fn of<R, V, G, N>(
+        server: &Server<R, V, G, N>,
+        conn: u64,
+        socket: &Arc<SharedSocket, Global>,
+        peer: SocketAddr,
+    ) -> Result<Origin, AllocError> {
+        let Server { access, peers, .. } = server;
+        let address = Address::of(peer.ip());
+        if access.is_proxy(address) {
+            let looks = server.idle_policy.looks;
+            let socket = Socket::of(socket)?;
+            let proxied = Proxied::new(access, peers, &server.refused, socket, looks)?;
+            return Ok(Origin::Proxy(proxied));
+        }
+        Ok(Origin::Peer(access.rights(peers, conn, address)?))
     }
 }
 

@@ -2,7 +2,8 @@
 ghost use Rattle.std.specs.Prelude.{◌≡◌};
 
 use crate::listen::live_sockets::LiveEntry;
-use networks::{Address, PeerTable};
+use networks::{Address, JoinFault, PeerTable};
+use relay_log::Refusal;
 use std::alloc::Global;
 use std::sync::{Mutex, Wait};
 
@@ -12,7 +13,7 @@ pub(crate) struct Peers {
     table: Mutex<PeerTable>,
 }
 
-/// A connection is among the peers, and its socket among the live ones. It has no `Drop`, so that it ends in `Peers::remove`, or
+/// A connection is among the peers, or is to be once its address is known, and its socket is among the live ones. It has no `Drop`, so that it ends in `Peers::remove`, or
 /// goes on to `Stopping::come`.
 pub(crate) struct PeerEntry {
     socket: LiveEntry,
@@ -54,16 +55,40 @@ impl Peers {
         self.table.lock(rt).connections(group)
     }
 
-    /// A connection of a group comes, whose socket was added. If there is no memory, the socket is to be removed.
+    /// A connection of a group comes, whose socket was added. If its group has `most` already, or there is no memory, the socket is to
+    /// be removed.
     pub(crate) fn add(
         &self,
         rt: &impl Wait,
         socket: LiveEntry,
         group: Address,
-    ) -> Result<PeerEntry, LiveEntry> {
-        match self.table.lock(rt).add(socket.conn(), group) {
+        most: Option<usize>,
+    ) -> Result<PeerEntry, (LiveEntry, Refusal)> {
+        match self.join(rt, socket.conn(), group, most) {
             Ok(()) => Ok(PeerEntry { socket }),
-            Err(_) => Err(socket),
+            Err(why) => Err((socket, why)),
+        }
+    }
+
+    /// A connection comes whose socket was added, and whose group isn't known yet: no group has it until it joins one.
+    pub(crate) fn add_unknown(socket: LiveEntry) -> PeerEntry
+        ensures { result.socket ≡ socket }
+    {
+        PeerEntry { socket }
+    }
+
+    /// A connection is one of a group, unless that has `most` already, or there is no memory.
+    pub(crate) fn join(
+        &self,
+        rt: &impl Wait,
+        conn: u64,
+        group: Address,
+        most: Option<usize>,
+    ) -> Result<(), Refusal> {
+        match self.table.lock(rt).join(conn, group, most) {
+            Ok(()) => Ok(()),
+            Err(JoinFault::Full) => Err(Refusal::AddressFull),
+            Err(JoinFault::OutOfMemory) => Err(Refusal::OutOfMemory),
         }
     }
 

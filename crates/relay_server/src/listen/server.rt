@@ -95,7 +95,7 @@ pub(super) struct Server<R, V, G, N> {
     pub(super) published: Arc<PublishedMounts, Global>,
     pub(super) live: Arc<LiveSockets, Global>,
     pub(super) peers: Arc<Peers, Global>,
-    pub(super) access: Access,
+    pub(super) access: Arc<Access, Global>,
     pub(super) stopping: Arc<Stopping, Global>,
     /// The clock, of which each connection has a copy.
     pub(super) moments: N,
@@ -154,7 +154,7 @@ impl<R: Wait + Clock + Copy, V: Drop, G: Drop, N: Copy> Server<R, V, G, N> {
             published: Arc::new(alloc, PublishedMounts::new(alloc)?)?,
             live: Arc::new(alloc, live)?,
             peers: Arc::new(alloc, Peers::new(alloc))?,
-            access,
+            access: Arc::new(alloc, access)?,
             stopping,
             moments,
             idle_policy: IdlePolicy {

@@ -66,7 +66,7 @@ const ACCEPTED: [(&str, Settings); 21] = [
     ),
     ("relay serve 127.0.0.1:8554", DEFAULTS),
     (
-        "relay serve a --keep 1 --seats 1 --packet-bytes 12 --accept 1 --gather 0 --back 0 --keep-ended --idle 0 --silent 1 --per-address 1 --mounts-per-address 1 --publish-from 10.0.0.0/8 --play-from ::/0 --limit-exempt 0.0.0.0/0,::/0 --writers 0 --direct --report 1 --send-buffer 16384",
+        "relay serve a --keep 1 --seats 1 --packet-bytes 12 --accept 1 --gather 0 --back 0 --keep-ended --idle 0 --silent 1 --per-address 1 --mounts-per-address 1 --publish-from 10.0.0.0/8 --play-from ::/0 --limit-exempt 0.0.0.0/0,::/0 --proxy-from 10.0.0.2 --writers 0 --direct --report 1 --send-buffer 16384",
         Settings {
             keep: 1,
             seats: 1,
@@ -220,7 +220,7 @@ fn a_server_does_what_its_line_says(rt: HostRuntime) -> Result<(), Fail> {
 }
 
 /// Lines of `serve` that are refused: no address, two of them, a number that is out of its range or none.
-const REFUSED: [&str; 50] = [
+const REFUSED: [&str; 51] = [
     "relay serve a --http",
     "relay serve a --http-players",
     "relay serve a --silent 0",
@@ -232,6 +232,7 @@ const REFUSED: [&str; 50] = [
     "relay serve a --publish-from 10.0.0.0/33",
     "relay serve a --publish-from ::/129",
     "relay serve a --publish-from 10.0.0.1/8",
+    "relay serve a --proxy-from 10.0.0.1/8",
     "relay serve a --play-from cam",
     "relay serve a --play-from 10.0.0.0/8,",
     "relay serve a --limit-exempt ,",

@@ -64,6 +64,9 @@ Options:
                                 [default: no limit]
       --limit-exempt <NET>      Networks that --per-address and --mounts-per-address don't
                                 apply to, as 10.0.0.5,fd00::/8 [default: none]
+      --proxy-from <NET>        Addresses of proxies, as HAProxy with send-proxy-v2: a connection
+                                from one begins with a PROXY header, whose client's address counts
+                                [default: none]
       --publish-from <NET>      Networks that can publish; others get 403. This is no
                                 authentication [default: all]
       --play-from <NET>         Networks that can play; others get 403. This is no
