@@ -96,21 +96,44 @@ def added(cluster):
 
 
 def taken_out(cluster):
-    """A relay is taken out: maintenance, then it is stopped, also after a reload whose old process has its sessions."""
-    for relay, is_reloaded in (cluster.relays[0], False), (cluster.relays[1], True):
-        if is_reloaded:
-            cluster.proxy.reload()
-            time.sleep(12)
-        away = cluster.watch.of(relay.name)
-        cluster.mark()
-        cluster.fleet.say("ask 100")
-        # At once: an old process keeps its sessions, and new players are sent elsewhere by now.
-        cluster.proxy.ask(f"set server relays/{relay.name} state maint")
-        relay.stop()
-        time.sleep(3)
-        cluster.settles()
-        cluster.row(f"{relay.name} is taken out{', after a reload' if is_reloaded else ''}", away)
-        cluster.asked("asked meanwhile")
+    """A relay is taken out: maintenance, then it is stopped."""
+    take_out(cluster, "relay1 is taken out")
+
+
+def taken_out_late(cluster):
+    """The same after a reload: the old process has the relay's sessions."""
+    cluster.proxy.reload()
+    time.sleep(12)
+    take_out(cluster, "relay1 is taken out after a reload")
+
+
+def take_out(cluster, what):
+    relay = cluster.relays[0]
+    away = cluster.watch.of(relay.name)
+    cluster.mark()
+    cluster.fleet.say("ask 100")
+    # At once: an old process keeps its sessions, and new players are sent elsewhere by now.
+    cluster.proxy.ask(f"set server relays/{relay.name} state maint")
+    relay.stop()
+    time.sleep(3)
+    cluster.settles()
+    cluster.row(what, away)
+    cluster.asked("asked meanwhile")
+
+
+def brought_back(cluster):
+    """Names that were moved are brought back to their first relay: the table is emptied, and all connections are closed."""
+    relay = cluster.relays[0]
+    away = moved_away(cluster, relay)
+    cluster.mark()
+    cluster.proxy.ask("clear table relays")
+    for it in cluster.relays:
+        cluster.proxy.ask(f"shutdown sessions server relays/{it.name}")
+    time.sleep(3)
+    cluster.settles()
+    cluster.row(f"the names of {relay.name} are brought back to it", set().union(*(cluster.watch.of(it.name) for it in cluster.relays)))
+    if cluster.watch.of(relay.name) != away:
+        cluster.faults.append(f"{relay.name} has {sorted(cluster.watch.of(relay.name))}, and not {sorted(away)}")
 
 
 class Keepalived:
@@ -191,4 +214,4 @@ def half_blind(cluster):
     cluster.note(f"{len(away)} names of that relay asked for through the second: {found.count(200)} got 200, {found.count(404)} 404")
 
 
-TRIALS = ((Cluster, upgrade), (Cluster, reload), (Three, added), (Cluster, taken_out), (Pair, lost_process), (Pair, lost_machine), (Pair, half_blind))
+TRIALS = ((Cluster, upgrade), (Cluster, reload), (Three, added), (Cluster, taken_out), (Cluster, taken_out_late), (Cluster, brought_back), (Pair, lost_process), (Pair, lost_machine), (Pair, half_blind))

@@ -96,8 +96,8 @@ def kill_moved(cluster):
     cluster.row("KILL of a relay that has names of another one", away)
 
 
-# These are run with the whole configuration too.
-TRIALS = pause, reload_cut, reorder, late, ports, kill_moved
+# These are run with the whole configuration too. `reload` has the case of `kill_moved`.
+TRIALS = pause, reload_cut, reorder, late, ports
 
 
 @dataclasses.dataclass
