@@ -224,7 +224,48 @@ def full_batches_gather_no_longer(program, *options):
         yield f"{BATCHES} full batches take {took} seconds"
 
 
-# So many packets of each of two mounts come while both gather. The players of both are to be woken for each.
+# After how many seconds a packet has come that isn't gathered, and before how many none has that is: packets gather for a tenth of a second,
+# and begin to up to a fiftieth earlier. After how many a gathering is surely over.
+AT_ONCE, GATHERED, OVER = 0.04, 0.06, 0.15
+
+
+def seconds_of(camera, player, number):
+    """For how many seconds a packet is under way."""
+    begun = time.monotonic()
+    camera.publish([number])
+    if (came := player.numbers(1)) != [number]:
+        raise AssertionError(f"for packet {number} come {came}")
+    return time.monotonic() - begun
+
+
+def packets_that_gather(cameras, players):
+    """Which packets of two new mounts are gathered that shouldn't be, and the other way round. Each row: how many seconds to wait, the
+    mount, and whether its packet is gathered."""
+    rows = [(OVER, 0, True), (OVER, 1, True)]
+    # A packet alone comes at once, and within its gathering one of the other mount doesn't; nor does the next of the same one.
+    rows += [(OVER, 0, False), (0.01, 1, True), (OVER, 0, False), (0.01, 0, True)]
+    # That gathering brought two, and so the next packet is gathered; that brought one.
+    rows += [(OVER, 0, True), (OVER, 0, False), (OVER, 1, False)]
+    for place, (before, mount, is_gathered) in enumerate(rows):
+        time.sleep(before)
+        took = seconds_of(cameras[mount], players[mount], place)
+        if not (took > GATHERED if is_gathered else took < AT_ONCE):
+            yield f"packet {place} of {rows} takes {took:.3f} seconds"
+
+
+def single_packets_come_at_once(program, *options):
+    """A packet that begins a gathering comes at once if its mount's last one brought one packet: one time of four."""
+    for _ in range(4):
+        with ending(program, 4, "--gather", "100", "--seats", "1", *options) as server, contextlib.ExitStack() as peers:
+            cameras = [peers.enter_context(Camera(server, name)) for name in ("cam", "door")]
+            players = [peers.enter_context(Player(server, name)) for name in ("cam", "door")]
+            faults = list(packets_that_gather(cameras, players))
+        if not faults:
+            return
+    yield from faults
+
+
+# So many times two packets of each of two mounts come while both gather. The players of both are to be woken for each.
 TOGETHER = 5
 
 
@@ -233,11 +274,12 @@ def mounts_that_gather_together_come_together(program, *options):
     with ending(program, 4, "--gather", "100", "--seats", "1", *options) as server, contextlib.ExitStack() as peers:
         cameras = [peers.enter_context(Camera(server, name)) for name in ("cam", "door")]
         players = [peers.enter_context(Player(server, name)) for name in ("cam", "door")]
-        for number in range(TOGETHER):
+        for number in range(0, 2 * TOGETHER, 2):
+            both = [number, number + 1]
             for camera in cameras:
-                camera.publish([number])
-            if (came := [numbers_up_to(player, number, 3) for player in players]) != [[number]] * 2:
-                yield f"of the packets {number} of two mounts come {came}"
+                camera.publish(both)
+            if (came := [numbers_up_to(player, number + 1, 3) for player in players]) != [both] * 2:
+                yield f"of the packets {both} of two mounts come {came}"
 
 
 # So many packets of 16,000 bytes are more than a socket's buffers hold.
@@ -396,4 +438,4 @@ PARTS = [
     (stalled_hold_up_their_mount_alone, ()),
 ]
 
-ALONE = [(part, mode) for part in (slow_players_cost_no_other, full_batches_gather_no_longer) for mode in MODES]
+ALONE = [(part, mode) for part in (slow_players_cost_no_other, full_batches_gather_no_longer, single_packets_come_at_once) for mode in MODES]

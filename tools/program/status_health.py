@@ -101,26 +101,26 @@ def quiet_server_is_well(program):
 
 def thread_that_stands_still_is_named(program):
     """The waking thread and the writer, each of which has something to do and stands still, are named after two seconds, and no more once
-    they go on."""
+    they go on. Two packets come together each time, since one alone isn't waited with."""
     if not may_trace():
         return
     with pages_of(program, "--writers", "1") as (server, port), Camera(server) as camera, Player(server) as player:
-        camera.publish([0])
-        if player.numbers(1) != [0]:
-            yield "the player has got another packet"
+        camera.publish([0, 1])
+        if player.numbers(2) != [0, 1]:
+            yield "the player has got other packets"
         time.sleep(0.3)
         said = []
         for number, thread in enumerate(waiting_for_a_word(server.pid), 1):
             with standing_still([thread]):
-                camera.publish([number])
+                camera.publish([2 * number, 2 * number + 1])
                 if not select.select([player.socket], [], [], 0.5)[0]:
                     if not is_well(port):
                         yield f"at once it says {answer(port, '/health')}"
                     time.sleep(LATE)
                     status, _, body = answer(port, "/health")
                     said.append((status, body))
-            if player.numbers(1) != [number]:
-                yield "the player hasn't got the packet afterwards"
+            if player.numbers(2) != [2 * number, 2 * number + 1]:
+                yield "the player hasn't got the packets afterwards"
             if not is_well(port):
                 yield f"once it goes on it says {answer(port, '/health')}"
         if sorted(said) != [(503, b"late: waking\n"), (503, b"late: writer 0\n")]:

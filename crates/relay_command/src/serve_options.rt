@@ -44,7 +44,7 @@ pub(crate) fn gather<'a>(alloc: Global) -> Arg<'a> {
         .default_value("5")
         .value_parser(clap::value_parser!(u16).range(0..101))
         .help(
-            "How many milliseconds packets wait for more packets before they{n}are sent, unless 16 have come (0 to 100)",
+            "At most how many milliseconds packets wait for more packets{n}before they are sent, unless 16 have come (0 to 100)",
         )
 }
 

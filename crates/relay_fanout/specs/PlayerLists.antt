@@ -1,5 +1,5 @@
 -- The players of a writer.
-use Rattle.std.specs.Prelude.{ℕ, ◌≡◌, ◌<◌, ◌==◌, Bool, true, false, List, [], ◌∷◌, Any, length, nat_lt, if◌then◌else◌}
+use Rattle.std.specs.Prelude.{ℕ, ◌≡◌, ◌<◌, ◌≤◌, ◌==◌, Bool, true, false, Option, None, Some, IsSome, List, Any, length, nat_lt, slice_get, slice_set, if◌then◌else◌}
 use Rattle.relay_fanout.specs.declared.sending.player_list.Listed.{Listed}
 
 -- who is in a writer's list, in the order in which they are looked at, and how often one came or left
@@ -22,3 +22,20 @@ is_other turn entry = if entry.turn == turn then false else true
 -- how often a list has changed that has become this one: once if somebody was taken out
 abbrev pub taken_out : {P : Type 0} → (old new : List (Listed P)) → ℕ
 taken_out old new = if nat_lt (length new) (length old) then 1 else 0
+
+-- what a look left of a player: until how many wake-ups there is nothing to do for it
+abbrev pub left : {P : Type 0} → (turn : ℕ) → (quiet : Option ℕ) → Listed P → Listed P
+left turn quiet entry = if entry.turn == turn then record entry { quiet = quiet } else entry
+
+-- what a look left is noted of who is at this place, if it has this turn
+abbrev pub noted_of : {P : Type 0} → Option (Listed P) → (place turn : ℕ) → (quiet : Option ℕ) → List (Listed P) → List (Listed P)
+noted_of None place turn quiet listed = listed
+noted_of (Some entry) place turn quiet listed = slice_set listed place (left turn quiet entry)
+
+-- the list after that
+abbrev pub noted_at : {P : Type 0} → (place turn : ℕ) → (quiet : Option ℕ) → List (Listed P) → List (Listed P)
+noted_at place turn quiet listed = noted_of (slice_get listed place) place turn quiet listed
+
+-- for each player from one place to another there was nothing to do when it was last looked at
+abbrev pub AreQuiet : {P : Type 0} → (from to : ℕ) → List (Listed P) → Type 0
+AreQuiet {P} from to listed = (place : ℕ) (entry : Listed P) → from ≤ place → place < to → slice_get listed place ≡ Some entry → IsSome entry.quiet

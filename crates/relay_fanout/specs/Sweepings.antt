@@ -1,8 +1,9 @@
 -- A writer's sweep between two players.
-use Rattle.std.specs.Prelude.{◌≡◌, ℕ, ◌+◌}
+use Rattle.std.specs.Prelude.{◌≡◌, ◌≤◌, ℕ, ◌+◌, false, None, ⊤}
 use Rattle.waking.specs.declared.sweep.Next.{Next}
 use Rattle.waking.specs.declared.sweep.Next.TheVariants.{Sleep, Again, Later, Over}
-use Rattle.relay_fanout.specs.declared.sending.sweeping.Sweeping.{Sweeping}
+use Rattle.waking.specs.declared.sweep.Sweep.{Sweep}
+use Rattle.relay_fanout.specs.declared.wake.writers_word.WordRead.{WordRead}
 use Rattle.relay_fanout.specs.declared.sending.sweeping.Found.{Found}
 use Rattle.relay_fanout.specs.declared.sending.sweeping.Found.TheVariants.{Player, NoMore}
 
@@ -13,7 +14,21 @@ place_after Again place = place + 1
 place_after (Later time) place = place + 1
 place_after Over place = place
 
--- what was found goes on with the sweep as it is: the word that was read first, and what was next for the players so far
-abbrev pub GoesOnWith : {P : Type 0} → Sweeping → Found P → Type 0
-GoesOnWith sweeping (Player player at_player) = at_player.sweeping ≡ sweeping
-GoesOnWith sweeping (NoMore swept) = (swept.word ≡ sweeping.word) × (swept.sweep ≡ sweeping.sweep)
+-- the sweep goes on with the word that was read first, and with what was next for its players so far
+abbrev pub GoesOnWith : {P : Type 0} → WordRead → Sweep → Found P → Type 0
+GoesOnWith word sweep (Player player at_player) = (at_player.sweeping.word ≡ word) × (at_player.sweeping.sweep ≡ sweep)
+GoesOnWith word sweep (NoMore swept) = (swept.word ≡ word) × (swept.sweep ≡ sweep)
+
+-- who was found stands at this place or behind it
+abbrev pub IsFrom : {P : Type 0} → (place : ℕ) → Found P → Type 0
+IsFrom place (Player player at_player) = place ≤ at_player.sweeping.place
+IsFrom place (NoMore swept) = ⊤
+
+-- nothing was next for anybody yet
+abbrev pub IsFirst : Sweep → Type 0
+IsFirst sweep = (sweep.again ≡ false) × (sweep.later ≡ None)
+
+-- the sweep begins with this word
+abbrev pub Begins : {P : Type 0} → WordRead → Found P → Type 0
+Begins word (Player player at_player) = (at_player.sweeping.word ≡ word) × IsFirst at_player.sweeping.sweep
+Begins word (NoMore swept) = (swept.word ≡ word) × IsFirst swept.sweep

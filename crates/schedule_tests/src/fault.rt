@@ -12,6 +12,8 @@ pub(crate) enum Fault {
     WrongMoment,
     /// A writer doesn't read again how often its list has changed.
     ChangePassedOver,
+    /// A player is passed over for which there was nothing to do, though its mount's players were woken since.
+    WakeupPassedOver,
 }
 
 /// What a simulation has found.

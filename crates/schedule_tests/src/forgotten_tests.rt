@@ -23,6 +23,7 @@ fn each_fault_is_found(rt: HostRuntime) {
         Fault::WordReadLate,
         Fault::WrongMoment,
         Fault::ChangePassedOver,
+        Fault::WakeupPassedOver,
     ] {
         let is_found = (0..FAULTY).any(|seed| Simulation::run(rt.alloc(), seed, fault).is_some());
         assert!(&rt; is_found, "{fault:?}");

@@ -28,6 +28,8 @@ pub(crate) struct Entry {
     /// Which of its connection's players it is.
     pub(crate) number: u64,
     pub(crate) turn: u64,
+    /// After how many wake-ups of its mount's players there is nothing to do for it, as its last look left it.
+    pub(crate) quiet: Option<u64>,
 }
 
 /// The players of a writer.
@@ -52,9 +54,19 @@ impl List {
             player,
             number,
             turn,
+            quiet: None,
         });
         self.changes = self.changes.wrapping_add(1);
         turn
+    }
+
+    /// Notes what a look left of the player of this turn, if it is at this place.
+    pub(crate) fn note(&mut self, place: usize, turn: u64, quiet: Option<u64>) {
+        if let Some(entry) = self.entries.get_mut(place) {
+            if entry.turn == turn {
+                entry.quiet = quiet;
+            }
+        }
     }
 
     /// A player leaves, if it is here.

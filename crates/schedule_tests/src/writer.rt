@@ -108,13 +108,21 @@ impl Writer {
         Some(Place::Between(0))
     }
 
-    /// Comes to a player: reads how often its mount's players were woken, and asks whether there is anything to do.
+    /// Comes to a player: reads how often its mount's players were woken, passes over it if it is quiet, and asks whether there is
+    /// anything to do.
     fn meet(&mut self, world: &mut World) -> Option<Place> {
         let Some(entry) = world.lists.get(self.number)?.entries.get(self.at) else {
             return Some(Place::Ends);
         };
         let entry = *entry;
         let player_wakeups = world.mounts.get(mount_of(entry.player))?.player_wakeups;
+        let is_quiet = match (world.fault, entry.quiet) {
+            (Fault::WakeupPassedOver, quiet) => quiet.is_some(),
+            (_, quiet) => quiet == Some(player_wakeups),
+        };
+        if is_quiet {
+            return Some(Place::Between(self.at.wrapping_add(1)));
+        }
         let now = world.now;
         let link = world.links.get_mut(entry.player)?;
         let look = Look {
@@ -235,10 +243,16 @@ impl Writer {
         let link = world.links.get_mut(look.entry.player)?;
         link.is_looked_at = false;
         link.next = next;
+        let quiet = match &link.state {
+            Some(state) if link.number == look.entry.number => state.quiet(),
+            _ => None,
+        };
+        let list = world.lists.get_mut(self.number)?;
         if next != Next::Over {
+            list.note(self.at, look.entry.turn, quiet);
             return Some(Place::Between(self.at.wrapping_add(1)));
         }
-        world.lists.get_mut(self.number)?.remove(look.entry.turn);
+        list.remove(look.entry.turn);
         Some(Place::Between(self.at))
     }
 

@@ -12,8 +12,8 @@ use Rattle.status_json.specs.declared.key.Key.TheVariants as keys
 use Rattle.status_json.specs.declared.key.PacketKey.TheVariants as packets
 use Rattle.status_json.specs.Json.{addr_text, keyed, list_text, string_text, truth_text}
 use Rattle.status_json.specs.Serving.{server_text}
-use Rattle.status_json.specs.declared.track_rows.TrackRow.{TrackRow}
-use Rattle.status_json.specs.Tracks.{described_text, track_row_text, tracks_in}
+use Rattle.status_json.specs.declared.tracks.CountedTrack.{CountedTrack}
+use Rattle.status_json.specs.Tracks.{counted_track_text, described_text, tracks_in}
 
 -- what became of the frames that came to mounts
 unfoldable pub came_front : MountTally → List ℕ
@@ -47,7 +47,7 @@ pub record Figures : Type 0 where
   pub is_live : Bool
   pub players : ℕ
   pub sums : MountSums
-  pub tracks : List TrackRow
+  pub tracks : List CountedTrack
   pub behind : ℕ
 
 unfoldable pub figures_in : Snapshot → NamedSums → Figures
@@ -71,7 +71,7 @@ figures_in_text f =
     keyed keys.Packets (came_text f.sums.came)
     ++ keyed keys.BytesIn (decimal f.sums.came.bytes)
     ++ keyed keys.SlowedMs (decimal f.sums.came.slowed)
-    ++ keyed keys.Tracks (list_text track_row_text f.tracks)
+    ++ keyed keys.Tracks (list_text counted_track_text f.tracks)
 
 unfoldable pub figures_out_text : Figures → List ℕ
 figures_out_text f =

@@ -7,7 +7,7 @@ mod lists;
 mod objects;
 mod serving;
 mod status_text;
-mod track_rows;
+mod tracks;
 mod values;
 
 pub use status_text::put_status;

@@ -5,7 +5,7 @@ ghost use Rattle.status_json.specs.Status.{figures_front, figures_in, figures_in
 use crate::counts::{write_packets, write_players};
 use crate::key::{Key, PacketKey};
 use crate::lists::{Written, write_list};
-use crate::track_rows::{TrackRow, track_rows};
+use crate::tracks::{CountedTrack, counted_tracks};
 use crate::values::{write_addr, write_number, write_text, write_truth};
 use mount_series::{MountSums, NamedSums};
 use status::{MountStatus, PlayerStatus, Snapshot};
@@ -19,7 +19,7 @@ pub(crate) struct NameRow<'a> {
     is_live: bool,
     players: u64,
     sums: MountSums,
-    tracks: Vec<TrackRow>,
+    tracks: Vec<CountedTrack>,
     behind: u64,
 }
 
@@ -54,7 +54,7 @@ impl<'a> NameRow<'a> {
             name,
             is_live: named.recorded > 0,
             players: snapshot.players_of(name) as u64,
-            tracks: track_rows(alloc, &sums.came.tracks)?,
+            tracks: counted_tracks(alloc, &sums.came.tracks)?,
             sums,
             behind: snapshot.behind_of(name),
         })

@@ -246,7 +246,7 @@ pub data LookStep : Type 0 where
   passes_over : (time : ℕ) → LookStep
   -- the writer has the player, and reads how often its mount's players were woken
   reads_wakes : LookStep
-  -- there is nothing to do
+  -- there is nothing to do: the look ends, or there was none, since the sweep passes over the player
   finds_nothing : LookStep
   -- it isn't time to try it again
   finds_no_time : (time : ℕ) → LookStep

@@ -1,5 +1,5 @@
 -- What a writer knows of a player, and what is next before a look at it. Moments are in milliseconds.
-use Rattle.std.specs.Prelude.{ℕ, ◌-◌, ◌==◌, ◌||◌, ◌&&◌, not, Bool, true, nat_lt, Option, None, Some, is_some, if◌then◌else◌}
+use Rattle.std.specs.Prelude.{◌≡◌, ℕ, ◌-◌, ◌==◌, ◌||◌, ◌&&◌, not, Bool, true, nat_lt, Option, None, Some, is_some, if◌then◌else◌}
 use Rattle.pacing.specs.declared.patience.Patience.{Patience}
 use Rattle.waking.specs.declared.attention.Attention.{Attention}
 use Rattle.waking.specs.declared.ending.Ending.{Ending}
@@ -37,6 +37,10 @@ next_before player player_wakeups now is_read =
     if has_failed player.ending then Some Over
     else if player.attention.again then None
     else next_quiet player.patience player.ending player.attention player_wakeups now is_read
+
+-- whatever the time, there is nothing to do for it where its mount's players were woken so often
+abbrev pub SleepsAt : PlayerState → (player_wakeups : ℕ) → Type 0
+SleepsAt player player_wakeups = (now : ℕ) (is_read : Bool) → next_before player player_wakeups now is_read ≡ Some Sleep
 
 -- its line was taken by another, and it is looked at again once that gives it back; one whose frames have failed is over
 abbrev pub player_skipped : PlayerState → PlayerState

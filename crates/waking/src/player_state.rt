@@ -1,9 +1,9 @@
 //! What a writer knows of a player, and decides before a look at it.
-ghost use Rattle.std.specs.Prelude.{◌≡◌, true, false, Some, IfSome};
-ghost use Rattle.waking.specs.Machine.{knows};
+ghost use Rattle.std.specs.Prelude.{◌≡◌, ◌↔◌, ℕ, true, false, Some, IfSome};
+ghost use Rattle.waking.specs.Machine.{finds_nothing, knows};
 ghost use Rattle.waking.specs.declared.sweep.Next.TheVariants.{Sleep, Over};
 ghost use Rattle.waking.specs.Endings.{has_failed as has_failed_by};
-ghost use Rattle.waking.specs.PlayerStates.{comer, next_before, next_idle, next_skipped, player_skipped, waits, written_ending as written_ending_of};
+ghost use Rattle.waking.specs.PlayerStates.{SleepsAt, comer, next_before, next_idle, next_skipped, player_skipped, waits, written_ending as written_ending_of};
 ghost use Rattle.waking.specs.Steps.{IsStep, MayMake, step_before, step_skipped};
 
 use crate::attention::Attention;
@@ -66,6 +66,19 @@ impl PlayerState {
             }
             Some(_) => None,
             None => self.idle(player_wakeups, now),
+        }
+    }
+
+    /// After how many wake-ups of its mount's players there is nothing to do for it, whatever the time: until there are more of them, a
+    /// sweep may pass over it. `None` if it is to be looked at.
+    pub fn quiet(&self) -> Option<u64>
+        ensures quiet { (seen : ℕ) → (result ≡ Some seen) ↔ SleepsAt self.now seen }
+        ensures step { IfSome result (λ seen. IsStep finds_nothing seen self.now self.now Sleep) }
+        ensures may { IfSome result (λ seen. MayMake knows finds_nothing seen self.now) }
+    {
+        match (self.attention.again, self.patience, self.ending) {
+            (false, None, None) => Some(self.attention.seen),
+            _ => None,
         }
     }
 

@@ -3,11 +3,11 @@
 //! A publisher puts a packet, or the end, into the ring, marks the mount and notifies the waking thread. Or it empties the marks,
 //! counts a wake-up and raises the writers' word. The law of `waking` is about this order, so each call returns what the next one
 //! takes.
-ghost use Rattle.std.specs.Prelude.{◌≡◌, ◌+◌, ◌<◌, ◌↔◌, ◌⊎◌, IsSome, IsTrue, IfOk, IfErr, OnErr, IsErrOf, length};
+ghost use Rattle.std.specs.Prelude.{◌≡◌, ◌+◌, ◌<◌, ◌^◌, ◌↔◌, ◌⊎◌, IsSome, IsTrue, IfOk, IfErr, OnErr, IsErrOf, length};
 ghost use Rattle.cursor.specs.declared.refusals.Refused.{Refused};
 ghost use Rattle.cursor.specs.Feeds.{Appends};
 ghost use Rattle.cursor.specs.Log.{packet_of};
-ghost use Rattle.relay_fanout.specs.Marks.{answered};
+ghost use Rattle.relay_fanout.specs.Marks.{answered, packets_gathered};
 
 use crate::limits::TAKES;
 use crate::mount::tallies::Tallies;
@@ -28,6 +28,10 @@ pub(crate) struct Marks {
     /// Whether no packet comes any more.
     ended: AtomicBool,
     player_wakeups: WakeWord,
+    /// How many packets the last gathering brought that had some.
+    brought: AtomicU64,
+    /// Whether a packet has begun the gathering that is under way, and its players were woken for it at once.
+    sent: AtomicBool,
 }
 
 /// A packet was counted by its sequence number as its publisher offers it, and wasn't published since. It has no `Drop`, so that it
@@ -95,6 +99,8 @@ impl Marks {
             marked: AtomicU64::new(NO_MARKS),
             ended: AtomicBool::new(false),
             player_wakeups: WakeWord::new(),
+            brought: AtomicU64::new(0),
+            sent: AtomicBool::new(false),
         }
     }
 
@@ -135,9 +141,23 @@ impl Marks {
         Emptied(())
     }
 
-    /// Takes the marks, if there are any: the step `takes_marks`, or `finds_no_marks`.
+    /// Returns whether the players are woken at once for a packet that has begun a gathering: the last one brought no other.
+    pub(crate) fn sends_at_once(&self) -> bool {
+        let is_one = self.brought.load(Ordering::SeqCst) == 1;
+        if is_one {
+            self.sent.store(true, Ordering::SeqCst);
+        }
+        is_one
+    }
+
+    /// Takes the marks, if there are any: the step `takes_marks`, or `finds_no_marks`. A gathering is over.
     pub(crate) fn take_marks(&self) -> Option<Emptied> {
-        if are_marks(self.marked.swap(NO_MARKS, Ordering::SeqCst)) {
+        let marks = self.marked.swap(NO_MARKS, Ordering::SeqCst);
+        let brought = packets_of(marks, self.sent.swap(false, Ordering::SeqCst));
+        if brought > 0 {
+            self.brought.store(brought, Ordering::SeqCst);
+        }
+        if are_marks(marks) {
             Some(Emptied(()))
         } else {
             None
@@ -149,6 +169,11 @@ impl Marks {
         let Emptied(()) = emptied;
         self.player_wakeups.raise();
         Counted(())
+    }
+
+    /// Returns how often the players were woken.
+    pub(crate) fn wakeups(&self) -> u64 {
+        self.player_wakeups.load()
     }
 
     /// Returns how often the players were woken, for a look at the ring.
@@ -164,13 +189,14 @@ impl Marks {
 
 impl Marked {
     /// Notifies the waking thread: the step `notifies`, or `finds_notified`. If the mount has a full batch, it needn't gather
-    /// longer.
-    pub(crate) fn notify(self, wake_signal: &WakeSignal) {
+    /// longer. Returns whether this begins a gathering.
+    pub(crate) fn notify(self, wake_signal: &WakeSignal) -> bool {
         let Marked { is_batch } = self;
         if is_batch {
             wake_signal.hurry();
+            false
         } else {
-            wake_signal.notify();
+            wake_signal.notify()
         }
     }
 }
@@ -191,6 +217,17 @@ impl Counted {
             (one, None) => one,
             (Some(one), Some(Counted(()))) => Some(one),
         }
+    }
+}
+
+/// Returns how many packets a gathering brought, with the one that began it if its players were woken for it at once.
+fn packets_of(marks: u64, has_sent: bool) -> u64
+    ensures many { marks + 1 < 2 ^ 64 → result ≡ packets_gathered marks has_sent }
+{
+    if has_sent {
+        marks.saturating_add(1)
+    } else {
+        marks
     }
 }
 

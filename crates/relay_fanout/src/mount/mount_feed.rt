@@ -179,7 +179,9 @@ impl<R: Wait + Clock + Drop, F: Feed> Feed for MountFeed<R, F> {
             self.signal.post(&self.rt, &logged, track, point);
         }
         if self.registered {
-            self.signal.mark(logged).notify(&self.wake_signal);
+            if self.signal.mark(logged).notify(&self.wake_signal) {
+                self.signal.begin_gathering();
+            }
         } else {
             self.signal.wake_for(logged);
         }

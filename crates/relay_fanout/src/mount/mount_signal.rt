@@ -93,6 +93,14 @@ impl MountSignal {
         self.marks.mark(logged)
     }
 
+    /// A packet of this mount has begun a gathering of all mounts. Wakes the players at once if the mount's last gathering brought one
+    /// packet: then waiting brings no other.
+    pub(crate) fn begin_gathering(&self) {
+        if self.marks.sends_at_once() {
+            self.wake();
+        }
+    }
+
     /// Wakes the players if packets came since they were last woken, except those that a writer has: for them the writers' word
     /// is to be raised.
     pub(crate) fn wake_if_marked(&self) -> Option<Counted> {
@@ -221,6 +229,11 @@ impl MountSignal {
     /// Wakes the players that have a thread of their own, and the writers.
     fn wake_all(&self, emptied: Emptied) {
         self.marks.count(emptied).raise(&self.wake_signal.writers);
+    }
+
+    /// Returns how often the players were woken.
+    pub(crate) fn wakeups(&self) -> u64 {
+        self.marks.wakeups()
     }
 
     /// Returns how often the players were woken, for a look at the ring.

@@ -1,5 +1,5 @@
 //! The players of a writer, as a value.
-ghost use Rattle.std.specs.Prelude.{◌≡◌, ◌+◌, ◌<◌, ◌^◌, ◌++◌, ◌∷◌, [], filter, length, slice_get, IfOk, OnOk, OnErr};
+ghost use Rattle.std.specs.Prelude.{◌≡◌, ◌↔◌, ◌+◌, ◌<◌, ◌≤◌, ◌^◌, ◌++◌, ◌∷◌, [], None, Some, IsTrue, filter, length, slice_get, IfOk, OnOk, OnErr};
 ghost use Rattle.std.specs.Option.{option_copied};
 
 use std::alloc::{AllocError, Global};
@@ -10,6 +10,24 @@ use std::marker::Model;
 pub(super) struct Listed<P> {
     pub(super) player: P,
     pub(super) turn: u64,
+    /// Until how many wake-ups of its mount's players there is nothing to do for it, as its last look left it. `None` if it is to be
+    /// looked at.
+    quiet: Option<u64>,
+}
+
+/// A player knows how often its mount's players were woken.
+pub(super) trait Wakeups {
+    /// Returns how often they were.
+    fn player_wakeups(&self) -> u64;
+}
+
+impl<P> Listed<P> {
+    /// Whether a sweep may pass over it, where its mount's players were woken so often.
+    fn is_quiet(&self, player_wakeups: u64) -> bool
+        ensures { IsTrue result ↔ (self.now.quiet ≡ Some player_wakeups) }
+    {
+        self.quiet == Some(player_wakeups)
+    }
 }
 
 /// The players of a writer, and how often one came or left. Each has a turn of its own.
@@ -33,7 +51,7 @@ impl<P> Model for PlayerList<P> {
 }
 
 impl<P: Drop> PlayerList<P> {
-    ghost use Rattle.relay_fanout.specs.PlayerLists.{Listing, HasTurn, is_other, taken_out};
+    ghost use Rattle.relay_fanout.specs.PlayerLists.{Listing, HasTurn, is_other, noted_at, taken_out};
 
     /// Nobody has come.
     pub(super) fn new(alloc: Global) -> PlayerList<P>
@@ -69,16 +87,32 @@ impl<P: Drop> PlayerList<P> {
     /// Adds a player after the others. Returns its turn, which no other player of the list has. The only error is out of memory,
     /// or a list that has changed 2^64 - 1 times.
     pub(super) fn add(&mut self, player: P) -> Result<u64, AllocError>
-        ensures added { OnOk result (self.new ≡ record { listed = self.old.listed ++ record { player = player; turn = self.old.changes } ∷ []; changes = self.old.changes + 1 }) }
+        ensures added { OnOk result (self.new ≡ record { listed = self.old.listed ++ record { player = player; turn = self.old.changes; quiet = None } ∷ []; changes = self.old.changes + 1 }) }
         ensures turn { IfOk result (λ turn. turn ≡ self.old.changes) }
         ensures own { IfOk result (λ turn. ¬ (HasTurn self.old.listed turn)) }
         ensures refused { OnErr result (self.new ≡ self.old) }
     {
         let turn = self.changes;
         let next = turn.checked_add(1).ok_or(AllocError)?;
-        self.listed.push(Listed { player, turn })?;
+        self.listed.push(Listed {
+            player,
+            turn,
+            quiet: None,
+        })?;
         self.changes = next;
         Ok(turn)
+    }
+
+    /// Notes what a look left of the player of this turn, if it is still at this place. Else nothing changes, and it is looked at
+    /// again.
+    pub(super) fn note(&mut self, place: usize, turn: u64, quiet: Option<u64>)
+        ensures noted { self.new ≡ record self.old { listed = noted_at place turn quiet self.old.listed } }
+    {
+        if let Some(listed) = self.listed.get_mut(place) {
+            if listed.turn == turn {
+                listed.quiet = quiet;
+            }
+        }
     }
 
     /// Removes the player of this turn, if it is here. The others stay as they are.
@@ -92,5 +126,26 @@ impl<P: Drop> PlayerList<P> {
         if self.listed.len() < before {
             self.changes = self.changes.saturating_add(1);
         }
+    }
+}
+
+impl<P: Wakeups + Drop> PlayerList<P> {
+    ghost use Rattle.relay_fanout.specs.PlayerLists.{AreQuiet};
+
+    /// Returns the place of the first player from this one on that is to be looked at: how many there are if there is none. It passes over
+    /// a player only if there was nothing to do for it at its last look, and its mount's players weren't woken since.
+    pub(super) fn to_look_at(&self, place: usize) -> usize
+        ensures passed { AreQuiet place result self.now.listed }
+        ensures on { place ≤ result }
+    {
+        for at in place..self.len() {
+            let Some(listed) = self.get(at) else {
+                return at;
+            };
+            if !listed.is_quiet(listed.player.player_wakeups()) {
+                return at;
+            }
+        }
+        place.max(self.len())
     }
 }

@@ -111,7 +111,7 @@ impl SeatHold {
             return Err(NoWriter);
         };
         let put_in = player.play(rt, signal, self.seat, channels, after_end);
-        self.sender = Sender::Writer(writers.add(rt, player, put_in)?);
+        self.sender = Sender::Writer(writers.add(rt, player, &self.signal, put_in)?);
         Ok(())
     }
 

@@ -1,17 +1,17 @@
-//! A writer's sweep over its players: the word is read, the list's changes are read, each player is looked at, the changes are read
-//! again, and the writer sleeps on the word that was read. The law of `waking` is about this order, so each call returns what the
-//! next one takes.
-ghost use Rattle.std.specs.Prelude.{◌≡◌, ◌+◌, ◌<◌, ◌^◌, None, false};
+//! A writer's sweep over its players: the word is read, the list's changes are read, each player is looked at that isn't quiet, the
+//! changes are read again, and the writer sleeps on the word that was read. The law of `waking` is about this order, so each call
+//! returns what the next one takes.
+ghost use Rattle.std.specs.Prelude.{◌+◌, ◌<◌, ◌^◌};
 ghost use Rattle.waking.specs.Sweeps.{added};
-ghost use Rattle.relay_fanout.specs.Sweepings.{GoesOnWith, place_after};
+ghost use Rattle.relay_fanout.specs.Sweepings.{Begins, GoesOnWith, IsFrom, place_after};
 
-use crate::sending::player_list::{Listed, PlayerList};
+use crate::sending::player_list::{PlayerList, Wakeups};
 use crate::wake::writers_word::{Awake, WordRead, WritersWord};
 use std::sync::{Mutex, Wait};
 use waking::{Next, Sweep};
 
-/// The word and then the list's changes were read, and the players before `place` were looked at: the writer is `between` two of
-/// them in the machine of `waking`. It has no `Drop`, so that it ends in `next`.
+/// The word and then the list's changes were read, and the players before `place` were looked at or passed over: the writer is `between`
+/// two of them in the machine of `waking`. It has no `Drop`, so that it ends in `next`.
 pub(super) struct Sweeping {
     word: WordRead,
     sweep: Sweep,
@@ -37,43 +37,41 @@ pub(super) enum Found<P> {
     NoMore(Swept),
 }
 
-/// A player of a list can be looked at while the list isn't locked.
-pub(super) trait Share {
+/// A player of a list can be looked at while the list isn't locked, by `S`.
+pub(super) trait Share<S> {
     /// Returns one more owner, or `None` if it can't have one.
-    fn share(&self) -> Option<Self>;
+    fn share(&self) -> Option<S>;
 }
 
 impl Sweeping {
-    /// Reads the list's changes, after the word: both are the step `begins`.
-    pub(super) fn begin<P: Drop>(
+    /// Reads the list's changes, after the word: both are the step `begins`. Returns the first player that is to be looked at.
+    pub(super) fn begin<S, P: Share<S> + Wakeups + Drop>(
         rt: &impl Wait,
         list: &Mutex<PlayerList<P>>,
         word: WordRead,
-    ) -> Sweeping
-        ensures word { result.word ≡ word }
-        ensures first { result.place ≡ 0 }
-        ensures nothing { (result.sweep.again ≡ false) × (result.sweep.later ≡ None) }
-    {
-        Sweeping {
-            word,
-            sweep: Sweep::new(list.lock(rt).changes()),
-            place: 0,
-        }
-    }
-
-    /// Returns the next player, which is to be looked at. If there is none, reads the list's changes again.
-    pub(super) fn next<P: Share + Drop>(
-        self,
-        rt: &impl Wait,
-        list: &Mutex<PlayerList<P>>,
-    ) -> Found<P>
-        ensures { GoesOnWith self result }
+    ) -> Found<S>
+        ensures { Begins word result }
     {
         let list = list.lock(rt);
+        let sweeping = Sweeping {
+            word,
+            sweep: Sweep::new(list.changes()),
+            place: 0,
+        };
+        sweeping.next(&list)
+    }
+
+    /// Returns the next player that is to be looked at. The machine's looks at those that it passes over are `reads_wakes` and
+    /// `finds_nothing`. If there is none, reads the list's changes again.
+    fn next<S, P: Share<S> + Wakeups + Drop>(self, list: &PlayerList<P>) -> Found<S>
+        ensures goes_on { GoesOnWith self.word self.sweep result }
+        ensures place { IsFrom self.place result }
+    {
         let Sweeping { word, sweep, place } = self;
-        if let Some(Listed { player, turn }) = list.get(place) {
-            if let Some(player) = player.share() {
-                let turn = *turn;
+        let place = list.to_look_at(place);
+        if let Some(listed) = list.get(place) {
+            if let Some(player) = listed.player.share() {
+                let turn = listed.turn;
                 let sweeping = Sweeping { word, sweep, place };
                 return Found::Player(player, AtPlayer { sweeping, turn });
             }
@@ -88,17 +86,17 @@ impl Sweeping {
 }
 
 impl AtPlayer {
-    /// The player was looked at, and this is next for it. One that has nothing more to send is taken out of the list. If it has
-    /// come again meanwhile, that is another turn, which stays.
-    pub(super) fn looked<P: Drop>(
+    /// The player was looked at, and this is next for it, and this long it is quiet (`PlayerState::quiet`). One that has nothing more to
+    /// send is taken out of the list. If it has come again meanwhile, that is another turn, which stays. Returns the next player.
+    pub(super) fn looked<S, P: Share<S> + Wakeups + Drop>(
         self,
         rt: &impl Wait,
         list: &Mutex<PlayerList<P>>,
         next: Next,
-    ) -> Sweeping
-        ensures word { result.word ≡ self.sweeping.word }
-        ensures added { result.sweep ≡ added next self.sweeping.sweep }
-        ensures place { self.sweeping.place + 1 < 2 ^ 64 → result.place ≡ place_after next self.sweeping.place }
+        quiet: Option<u64>,
+    ) -> Found<S>
+        ensures goes_on { GoesOnWith self.sweeping.word (added next self.sweeping.sweep) result }
+        ensures place { self.sweeping.place + 1 < 2 ^ 64 → IsFrom (place_after next self.sweeping.place) result }
     {
         let AtPlayer { sweeping, turn } = self;
         let Sweeping {
@@ -107,12 +105,14 @@ impl AtPlayer {
             mut place,
         } = sweeping;
         sweep.add(next);
+        let mut list = list.lock(rt);
         if next == Next::Over {
-            list.lock(rt).remove(turn);
+            list.remove(turn);
         } else {
+            list.note(place, turn, quiet);
             place = place.saturating_add(1);
         }
-        Sweeping { word, sweep, place }
+        Sweeping { word, sweep, place }.next(&list)
     }
 }
 

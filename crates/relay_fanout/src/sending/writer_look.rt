@@ -23,7 +23,7 @@ use waking::{Answer, Course, Failure, Flushed, Next};
 
 impl<T: Tap + Leave + Drop, W: TrySink + Drop, H: HangUp + Drop> SendSide<T, W, H> {
     /// Makes a writer's look at the player of this number, and does nothing if a later player is in its place. While the thread that reads
-    /// puts the player in or takes it out, the look is retried after a moment.
+    /// puts the player in or takes it out, the look is retried after a moment. Returns what is next, and how long it is quiet.
     pub(crate) fn look(
         &self,
         rt: &impl Wait,
@@ -31,20 +31,21 @@ impl<T: Tap + Leave + Drop, W: TrySink + Drop, H: HangUp + Drop> SendSide<T, W, 
         buf: &mut Vec<u8>,
         now: Reading,
         waits: Waits,
-    ) -> Next {
+    ) -> (Next, Option<u64>) {
         let Some(mut seat) = self.seat.try_lock() else {
-            return Next::Later(1);
+            return (Next::Later(1), None);
         };
         let SeatTap { tap, player } = &mut *seat;
         match player {
             Some(player) => {
                 if player.number() == number {
-                    player.look(rt, tap, &self.writing, &self.shutdown, buf, now, waits)
+                    let next = player.look(rt, tap, &self.writing, &self.shutdown, buf, now, waits);
+                    (next, player.state.quiet())
                 } else {
-                    Next::Sleep
+                    (Next::Sleep, None)
                 }
             }
-            None => Next::Sleep,
+            None => (Next::Sleep, None),
         }
     }
 }

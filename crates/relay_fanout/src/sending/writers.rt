@@ -2,11 +2,12 @@
 ghost use Rattle.std.specs.Prelude.{◌≡◌, IfOk, IfSome};
 
 use crate::mount::leave::Leave;
+use crate::mount::mount_signal::MountSignal;
 use crate::net::hang_up::HangUp;
 use crate::reading::Reading;
 use crate::sending::coming::{Place, PutIn};
 use crate::sending::fewest::Fewest;
-use crate::sending::player_list::PlayerList;
+use crate::sending::player_list::{PlayerList, Wakeups};
 use crate::sending::send_side::SendSide;
 use crate::sending::sweeping::{Found, Share, Sweeping, Swept};
 use crate::sending::waits::Waits;
@@ -56,13 +57,19 @@ impl<T: Drop, W: Sink + Drop, H: Drop> Drop for Writers<T, W, H> {
 pub struct NoWriter;
 
 /// The players of one writer.
-type WriterList<T, W, H> = Mutex<PlayerList<Player<T, W, H>>>;
+type WriterList<T, W, H> = Mutex<PlayerList<Member<T, W, H>>>;
 
-/// A player of a writer.
+/// A player that a writer looks at.
 struct Player<T, W: Sink, H> {
     shared: Arc<SendSide<T, W, H>, Global>,
     /// Which of its connection's players it is.
     number: u64,
+}
+
+/// A player of a writer, and the signal of its mount.
+struct Member<T, W: Sink, H> {
+    player: Player<T, W, H>,
+    signal: Arc<MountSignal, Global>,
 }
 
 impl<T: Drop, W: Sink + Drop, H: Drop> Drop for Player<T, W, H> {
@@ -74,14 +81,29 @@ impl<T: Drop, W: Sink + Drop, H: Drop> Drop for Player<T, W, H> {
     }
 }
 
-impl<T, W: Sink, H> Share for Player<T, W, H> {
+impl<T: Drop, W: Sink + Drop, H: Drop> Drop for Member<T, W, H> {
+    fn drop(self) {
+        let Member {
+            player: _,
+            signal: _,
+        } = self;
+    }
+}
+
+impl<T, W: Sink, H> Share<Player<T, W, H>> for Member<T, W, H> {
     fn share(&self) -> Option<Player<T, W, H>>
-        ensures { IfSome result (λ player. player.number ≡ self.now.number) }
+        ensures { IfSome result (λ player. player.number ≡ self.now.player.number) }
     {
         Some(Player {
-            shared: Arc::try_clone(&self.shared).ok()?,
-            number: self.number,
+            shared: Arc::try_clone(&self.player.shared).ok()?,
+            number: self.player.number,
         })
+    }
+}
+
+impl<T, W: Sink, H> Wakeups for Member<T, W, H> {
+    fn player_wakeups(&self) -> u64 {
+        self.signal.wakeups()
     }
 }
 
@@ -123,14 +145,16 @@ impl<T: Drop, W: Sink + Drop, H: Drop> Writers<T, W, H> {
         count
     }
 
-    /// Gives a connection's player that was put in to the writer with the fewest, and wakes it. Returns its place.
+    /// Gives a connection's player that was put in, of the mount with this signal, to the writer with the fewest, and wakes it. Returns
+    /// its place.
     pub(crate) fn add(
         &self,
         rt: &impl Wait,
         shared: &Arc<SendSide<T, W, H>, Global>,
+        signal: &Arc<MountSignal, Global>,
         put_in: PutIn,
     ) -> Result<Place, NoWriter> {
-        let Ok(shared) = Arc::try_clone(shared) else {
+        let (Ok(shared), Ok(signal)) = (Arc::try_clone(shared), Arc::try_clone(signal)) else {
             return put_in.refuse(NoWriter);
         };
         let Some((writer, list)) = self.with_fewest(rt) else {
@@ -140,7 +164,7 @@ impl<T: Drop, W: Sink + Drop, H: Drop> Writers<T, W, H> {
             shared,
             number: put_in.number(),
         };
-        let placed = put_in.place(rt, writer, list, player)?;
+        let placed = put_in.place(rt, writer, list, Member { player, signal })?;
         Ok(placed.raise(&self.wake_signal.writers))
     }
 
@@ -194,7 +218,7 @@ impl<T: Tap + Leave + Drop, W: TrySink + Drop, H: HangUp + Drop> Writers<T, W, H
         }
     }
 
-    /// Looks at each player of a list once.
+    /// Looks at each player of a list once that isn't quiet.
     fn look_at_all(
         &self,
         rt: &impl Wait,
@@ -203,13 +227,13 @@ impl<T: Tap + Leave + Drop, W: TrySink + Drop, H: HangUp + Drop> Writers<T, W, H
         buf: &mut Vec<u8>,
         now: Reading,
     ) -> Swept {
-        let mut sweeping = Sweeping::begin(rt, list, word);
+        let mut found = Sweeping::begin(rt, list, word);
         for _ in rt.forever() {
-            match sweeping.next(rt, list) {
+            match found {
                 Found::NoMore(swept) => return swept,
                 Found::Player(player, at_player) => {
-                    let next = player.shared.look(rt, player.number, buf, now, self.waits);
-                    sweeping = at_player.looked(rt, list, next);
+                    let (next, quiet) = player.shared.look(rt, player.number, buf, now, self.waits);
+                    found = at_player.looked(rt, list, next, quiet);
                 }
             }
         }

@@ -42,6 +42,6 @@ impl EndSet {
     /// Notifies the waking thread, which is to end.
     pub(crate) fn notify(self, wake_signal: &WakeSignal) {
         let EndSet(()) = self;
-        wake_signal.notify();
+        let _ = wake_signal.notify();
     }
 }

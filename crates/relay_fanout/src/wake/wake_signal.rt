@@ -56,16 +56,17 @@ impl WakeSignal {
         }
     }
 
-    /// Notifies that some mount was marked. Costs a load unless the waking thread sleeps.
-    pub(crate) fn notify(&self) {
-        if self.state.load(Ordering::SeqCst) == QUIET
+    /// Notifies that some mount was marked. Costs a load unless the waking thread sleeps. Returns whether it slept, or was about to.
+    pub(crate) fn notify(&self) -> bool {
+        let is_first = self.state.load(Ordering::SeqCst) == QUIET
             && self
                 .state
                 .compare_exchange(QUIET, NOTIFIED, Ordering::SeqCst, Ordering::SeqCst)
-                .is_ok()
-        {
+                .is_ok();
+        if is_first {
             self.state.wake_one();
         }
+        is_first
     }
 
     /// Notifies that some mount has a full batch, which needn't gather longer.

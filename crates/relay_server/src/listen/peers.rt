@@ -13,8 +13,8 @@ pub(crate) struct Peers {
     table: Mutex<PeerTable>,
 }
 
-/// A connection is among the peers, or is to be once its address is known, and its socket is among the live ones. It has no `Drop`, so that it ends in `Peers::remove`, or
-/// goes on to `Stopping::come`.
+/// A connection is among the peers, or is to be once its address is known, and its socket is among the live ones. It has no `Drop`, so
+/// that it ends in `Peers::remove`, or goes on to `Stopping::come`.
 pub(crate) struct PeerEntry {
     socket: LiveEntry,
 }

@@ -15,8 +15,8 @@ use std::time::Clock;
 
 /// The peers that were refused and stay a moment, so that they read why.
 ///
-/// The thread that accepts and those of connections from a proxy put them in, and one thread closes them, which also writes the rows of refusals. The lock is held for a
-/// change of the list alone, and no other is taken meanwhile.
+/// The thread that accepts and those of connections from a proxy put them in, and one thread closes them, which also writes the rows of
+/// refusals. The lock is held for a change of the list alone, and no other is taken meanwhile.
 pub(super) struct RefusedPeers {
     refusing: Arc<Refusing, Global>,
     leaving: Mutex<State<Socket>>,

@@ -38,8 +38,8 @@ Options:
       --seats <N>               How many players a mount can have (1 to 1024) [default: 64]
       --packet-bytes <N>        The longest packet that is relayed, in bytes
                                 (12 to 65535) [default: 16384]
-      --gather <MS>             How many milliseconds packets wait for more packets before they
-                                are sent, unless 16 have come (0 to 100) [default: 5]
+      --gather <MS>             At most how many milliseconds packets wait for more packets
+                                before they are sent, unless 16 have come (0 to 100) [default: 5]
       --writers <N>             How many threads send packets; 0: one thread per player
                                 (0 to 64) [default: one per processor]
       --direct                  Copy each packet once for each player, from the ring, and imply

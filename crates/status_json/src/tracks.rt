@@ -12,18 +12,18 @@ use transport_header::MOST_TRACKS;
 
 /// The counts of a track of a mount.
 #[derive(Clone, Copy, Debug, PartialEq, Eq, Drop)]
-pub(crate) struct TrackRow {
+pub(crate) struct CountedTrack {
     /// Its number, 0 to 15.
     track: usize,
     counts: SequenceCounts,
 }
 
-impl Written for TrackRow {
-    ghost use Rattle.status_json.specs.Tracks.{track_row_text};
+impl Written for CountedTrack {
+    ghost use Rattle.status_json.specs.Tracks.{counted_track_text};
 
-    ghost text = { track_row_text };
+    ghost text = { counted_track_text };
 
-    #[tactic(auto, unfolding(crate::specs::Tracks::track_row_text))]
+    #[tactic(auto, unfolding(crate::specs::Tracks::counted_track_text))]
     fn write(&self, out: &mut Vec<u8>) -> Result<(), AllocError> {
         write_number(out, Key::OfTrack(TrackKey::Track), self.track as u64)?;
         write_number(out, Key::OfTrack(TrackKey::Missing), self.counts.missing())?;
@@ -51,18 +51,21 @@ impl Written for TrackStatus {
 }
 
 /// Returns a track's counts with its number. `None` if it has no counts.
-fn track_row(tracks: &TrackCounts, track: usize) -> Option<TrackRow>
+fn counted_track(tracks: &TrackCounts, track: usize) -> Option<CountedTrack>
     ensures { result ≡ track_in tracks.now track }
 {
     let counts = tracks.of_track(track)?;
-    Some(TrackRow { track, counts })
+    Some(CountedTrack { track, counts })
 }
 
 /// Returns the counts of each track that has some, in the order of the tracks.
-pub(crate) fn track_rows(alloc: Global, tracks: &TrackCounts) -> Result<Vec<TrackRow>, AllocError>
+pub(crate) fn counted_tracks(
+    alloc: Global,
+    tracks: &TrackCounts,
+) -> Result<Vec<CountedTrack>, AllocError>
     ensures { IfOk result (λ rows. rows.items ≡ tracks_in tracks.now) }
 {
     (0..MOST_TRACKS)
-        .filter_map(|track| track_row(tracks, track))
+        .filter_map(|track| counted_track(tracks, track))
         .collect(alloc)
 }

@@ -3,7 +3,7 @@ use borrow.Author.Tests.{tests}
 use Rattle.std.proofs.lemmas.Iterator.{YieldsList-from_range, items_from_collect}
 use Rattle.std.proofs.lemmas.Iterator.Consumers.{YieldsList-from_filter_map}
 use Rattle.status_json.specs.Tracks.{track_in, tracks_in}
-use Rattle.status_json.proofs.track_rows.track_rows.Goals as goal
+use Rattle.status_json.proofs.tracks.counted_tracks.Goals as goal
 
 pub returns : goal.returns
 unfolding tracks_in
