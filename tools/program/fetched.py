@@ -30,8 +30,8 @@ REASONS = {200: "OK", 302: "Moved Temporarily", 401: "Unauthorized", 403: "Forbi
 class Script:
     """What a scripted camera does. `replies` has for a method what its reply is: a status, bytes, or None for none. `frames` are sent after
     the reply of PLAY (`early` before it), once `go` is set. `piece` is how many bytes are sent at a time, `late` how many seconds a reply
-    waits, and `end` what comes after the frames: `stay`, `close` (it sends no more) or `gone` (once the client
-    takes no more, it neither sends nor reads)."""
+    waits, and `end` what comes after the frames: `stay`, `close` (it sends no more) or `gone` (it replies to no
+    request after PLAY, and once the client takes no more, it neither sends nor reads)."""
 
     def __init__(self, frames=(), early=(), replies=None, piece=None, late=0, end="stay", timeout=60, secret=None, stale=0, location=None, waits=False):
         self.frames, self.early, self.replies, self.piece, self.late, self.end = frames, early, replies or {}, piece, late, end
@@ -61,6 +61,7 @@ class ServerCamera:
         self.url = f"rtsp://127.0.0.1:{self.port}/cam"
         self.nonce, self.open, self.has_left = 0, [], threading.Event()
         self.before = self.sent = 0
+        self.has_played = False
         threading.Thread(target=self.accept, daemon=True).start()
 
     def __enter__(self):
@@ -92,7 +93,8 @@ class ServerCamera:
         peer.setsockopt(socket.IPPROTO_TCP, socket.TCP_NODELAY, 1)
         rest = b""
         with contextlib.suppress(OSError):
-            while True:
+            # A reply would stand in the middle of a frame that isn't taken whole.
+            while not (self.has_played and self.script.end == "gone"):
                 while b"\r\n\r\n" not in rest:
                     piece = peer.recv(65_536)
                     if not piece:
@@ -126,6 +128,7 @@ class ServerCamera:
                 lines.append(f"Content-Length: {len(body)}")
             self.send(peer, ("\r\n".join(lines) + "\r\n\r\n" + body).encode())
         if method == "PLAY":
+            self.has_played = True
             threading.Thread(target=self.play, args=(peer,), daemon=True).start()
         return answer != "close"
 
@@ -151,6 +154,10 @@ class ServerCamera:
             self.sent += peer.send(data[self.sent:self.sent + 65_536], socket.MSG_DONTWAIT)
         peer.shutdown(socket.SHUT_RDWR)
         self.has_left.set()
+
+    def is_reset(self):
+        """Whether the connection of a camera that has left was reset: `tcpi_state` of Linux is TCP_CLOSE."""
+        return self.open[0].getsockopt(socket.IPPROTO_TCP, socket.TCP_INFO, 1)[0] == 7
 
     def delivered(self):
         """How many bytes of the frames have come to the client's system. The next request to a camera that has left resets the connection, and a

@@ -537,8 +537,9 @@ def publisher_is_read_at_any_rate(program, *options):
             yield f"10,000,000 bytes after its PAUSE take {took:.1f} s"
 
 
-# After how many seconds a connection is disconnected that has announced a mount and sets up no track, and at the latest.
-SETUP_WAIT, LATEST = 60, 63
+# After how many seconds a connection is disconnected that has announced a mount and sets up no track, and at the latest. It is looked for
+# once a second, and the line is awaited by looks with half a second and requests between them.
+SETUP_WAIT, LATEST = 60, 66
 
 GOES_UNSET = "no SETUP for 60 s after its ANNOUNCE"
 
@@ -553,7 +554,8 @@ def announced_mount_is_to_be_set_up(program):
             wanted(peers.enter_context(Peer(server, EXEMPT)).ask("ANNOUNCE", f"rtsp://h/{number}", body=SDP))
         for peer, name in (asks, "asks"), (floods_it, "frames"):
             wanted(peer.ask("ANNOUNCE", f"rtsp://h/{name}", body=SDP))
-        while time.monotonic() < begun + LATEST + 1 and len(gone) < 2:
+        announced = time.monotonic()
+        while time.monotonic() < announced + LATEST + 1 and len(gone) < 2:
             with contextlib.suppress(OSError, AttributeError):
                 asks.ask("OPTIONS", "*")
                 asks.ask("ANNOUNCE", "rtsp://h/again", body=SDP)
@@ -561,9 +563,9 @@ def announced_mount_is_to_be_set_up(program):
                 floods_it.send(frame(bytes(8)))
             ready.is_read()
             until(0.5, lambda: False)
-            gone |= {it: time.monotonic() - begun for it in names if it not in gone and ends_told(server, it)}
-        if not all(SETUP_WAIT <= gone.get(it, 0) <= LATEST for it in names):
-            yield f"they are disconnected after {gone}: {server.lines}"
+            gone |= {it: time.monotonic() for it in names if it not in gone and ends_told(server, it)}
+        if not all(begun + SETUP_WAIT <= gone.get(it, 0) <= announced + LATEST for it in names):
+            yield f"they are disconnected at {gone} after ANNOUNCE from {begun} to {announced}: {server.lines}"
         if any(not ends_told(server, it)[0].endswith(GOES_UNSET) for it in gone):
             yield f"{server.lines} are logged"
         if set(others := not_logged(server)) != {"no SETUP"}:

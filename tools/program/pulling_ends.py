@@ -184,8 +184,8 @@ def camera_that_goes_away_loses_no_count(program):
     """A camera sends until nothing more is taken, since the target reads nothing, and is gone: the next request to it resets its connection.
     Once the target reads again, each frame that has come goes on and is in the account, and one that is cut is there too."""
     frames = [frame(rtp(number, 1_400)) for number in range(20_000)]
-    with ServerCamera(Script(frames, timeout=2, end="gone")) as source, socket.create_server(("127.0.0.1", 0)) as listener:
-        threading.Thread(target=reply_and_read_late, args=(listener, source.has_left), daemon=True).start()
+    with ServerCamera(Script(frames, timeout=8, end="gone")) as source, socket.create_server(("127.0.0.1", 0)) as listener:
+        threading.Thread(target=reply_and_read_late, args=(listener, source), daemon=True).start()
         with Pull(program, source.url, f"rtsp://127.0.0.1:{listener.getsockname()[1]}/door", "--once", "--silent", "60") as pull:
             status = pull.status(60)
             counts = [int(it) for it in re.findall(r"\d+", pull.ends()[0].partition(": ")[2])[:4]] if pull.ends() else []
@@ -196,14 +196,15 @@ def camera_that_goes_away_loses_no_count(program):
                 yield f"{status}, {counts} of {whole} frames and {part} bytes, {pull.lines}"
 
 
-def reply_and_read_late(listener, has_left):
-    """A target that replies to four requests, and then reads nothing until three seconds after the camera has left."""
+def reply_and_read_late(listener, source):
+    """A target that replies to four requests, and then reads nothing until the connection to a camera that has left is reset."""
     peer, _ = listener.accept()
     peer.setsockopt(socket.SOL_SOCKET, socket.SO_RCVBUF, 65_536)
     with contextlib.suppress(OSError):
         answered(peer, 4)
-        has_left.wait(30)
-        time.sleep(3)
+        source.has_left.wait(30)
+        until(15, source.is_reset)
+        time.sleep(1)
         while peer.recv(65_536):
             pass
 

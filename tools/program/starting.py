@@ -1,4 +1,5 @@
 """Starts: what a command line has to say, what help says, the allocator's settings, and where players start."""
+import contextlib
 import os
 import pathlib
 import socket
@@ -89,10 +90,13 @@ def allocator_is_set(program):
 
 def variables_of(script):
     """The environment of the program that a script runs, or nothing while it doesn't run."""
-    children = pathlib.Path(f"/proc/{script}/task/{script}/children").read_text().split()
-    pids = [pid for pid in children if os.readlink(f"/proc/{pid}/exe").rpartition("/")[2] not in ("bash", "sleep")]
-    texts = [pathlib.Path(f"/proc/{pid}/environ").read_text() for pid in pids]
-    return dict(word.partition("=")[::2] for text in texts for word in text.split("\0") if word)
+    # A child of the script may end while it is read.
+    with contextlib.suppress(FileNotFoundError, ProcessLookupError):
+        children = pathlib.Path(f"/proc/{script}/task/{script}/children").read_text().split()
+        pids = [pid for pid in children if os.readlink(f"/proc/{pid}/exe").rpartition("/")[2] not in ("bash", "sleep")]
+        texts = [pathlib.Path(f"/proc/{pid}/environ").read_text() for pid in pids]
+        return dict(word.partition("=")[::2] for text in texts for word in text.split("\0") if word)
+    return {}
 
 
 def numbers_from(player, last):
