@@ -265,6 +265,35 @@ def single_packets_come_at_once(program, *options):
     yield from faults
 
 
+# So often a full batch comes after a packet alone, and after how many seconds they have come in all. A gathering that is over early, which
+# happens, makes one of them short.
+AFTER_ONE, BATCHES_OVER = 10, 0.25
+
+
+def seconds_after_one(camera, player, first):
+    """For how many seconds a full batch is under way after a gathering that brought one packet."""
+    for number in first, first + 1:
+        time.sleep(OVER)
+        seconds_of(camera, player, number)
+    time.sleep(OVER)
+    batch, begun = list(range(first + 2, first + 2 + FULL)), time.monotonic()
+    camera.publish(batch)
+    if (came := player.numbers(FULL)) != batch:
+        raise AssertionError(f"for packets {batch} come {came}")
+    return time.monotonic() - begun
+
+
+def batches_after_one_gather_no_longer(program, *options):
+    """A full batch after a packet alone is sixteen with its first packet, which comes at once: one time of two."""
+    with ending(program, 2, "--gather", "100", "--seats", "1", *options) as server, Camera(server) as camera, Player(server) as player:
+        firsts, took = iter(range(0, 2 * AFTER_ONE * (FULL + 2), FULL + 2)), []
+        for _ in range(2):
+            took.append([seconds_after_one(camera, player, next(firsts)) for _ in range(AFTER_ONE)])
+            if sum(took[-1]) < BATCHES_OVER:
+                return
+        yield f"{AFTER_ONE} full batches, each after a packet alone, take {took} seconds"
+
+
 # So many times two packets of each of two mounts come while both gather. The players of both are to be woken for each.
 TOGETHER = 5
 
@@ -438,4 +467,4 @@ PARTS = [
     (stalled_hold_up_their_mount_alone, ()),
 ]
 
-ALONE = [(part, mode) for part in (slow_players_cost_no_other, full_batches_gather_no_longer, single_packets_come_at_once) for mode in MODES]
+ALONE = [(part, mode) for part in (slow_players_cost_no_other, full_batches_gather_no_longer, single_packets_come_at_once, batches_after_one_gather_no_longer) for mode in MODES]

@@ -1,5 +1,5 @@
 -- The players of a writer.
-use Rattle.std.specs.Prelude.{ℕ, ◌≡◌, ◌<◌, ◌≤◌, ◌==◌, Bool, true, false, Option, None, Some, IsSome, List, Any, length, nat_lt, slice_get, slice_set, if◌then◌else◌}
+use Rattle.std.specs.Prelude.{ℕ, ◌≡◌, ◌≢◌, ◌<◌, ◌≤◌, ◌==◌, Bool, true, false, Option, None, Some, List, Any, length, nat_lt, slice_get, slice_set, if◌then◌else◌}
 use Rattle.relay_fanout.specs.declared.sending.player_list.Listed.{Listed}
 
 -- who is in a writer's list, in the order in which they are looked at, and how often one came or left
@@ -36,6 +36,14 @@ noted_of (Some entry) place turn quiet listed = slice_set listed place (left tur
 abbrev pub noted_at : {P : Type 0} → (place turn : ℕ) → (quiet : Option ℕ) → List (Listed P) → List (Listed P)
 noted_at place turn quiet listed = noted_of (slice_get listed place) place turn quiet listed
 
--- for each player from one place to another there was nothing to do when it was last looked at
-abbrev pub AreQuiet : {P : Type 0} → (from to : ℕ) → List (Listed P) → Type 0
-AreQuiet {P} from to listed = (place : ℕ) (entry : Listed P) → from ≤ place → place < to → slice_get listed place ≡ Some entry → IsSome entry.quiet
+-- a sweep may pass over this player: its last look left nothing to do until there is another wake-up of its mount's players, and there was none
+abbrev pub IsPassed : {P : Type 0} → (were_woken : P → ℕ → Type 0) → Listed P → Type 0
+IsPassed were_woken entry = (seen : ℕ) × (entry.quiet ≡ Some seen) × were_woken entry.player seen
+
+-- it is to look at this one
+abbrev pub IsToBeLookedAt : {P : Type 0} → (were_woken : P → ℕ → Type 0) → Listed P → Type 0
+IsToBeLookedAt were_woken entry = (seen : ℕ) × (entry.quiet ≢ Some seen) × were_woken entry.player seen
+
+-- it may pass over each player from one place to another
+abbrev pub ArePassed : {P : Type 0} → (were_woken : P → ℕ → Type 0) → (from to : ℕ) → List (Listed P) → Type 0
+ArePassed {P} were_woken from to listed = (place : ℕ) (entry : Listed P) → from ≤ place → place < to → slice_get listed place ≡ Some entry → IsPassed were_woken entry

@@ -1,9 +1,10 @@
 -- A writer's sweep between two players.
-use Rattle.std.specs.Prelude.{◌≡◌, ◌≤◌, ℕ, ◌+◌, false, None, ⊤}
+use Rattle.std.specs.Prelude.{◌≡◌, ◌≤◌, ℕ, ◌+◌, false, None, IsSomeAnd, slice_get}
 use Rattle.waking.specs.declared.sweep.Next.{Next}
 use Rattle.waking.specs.declared.sweep.Next.TheVariants.{Sleep, Again, Later, Over}
 use Rattle.waking.specs.declared.sweep.Sweep.{Sweep}
 use Rattle.relay_fanout.specs.declared.wake.writers_word.WordRead.{WordRead}
+use Rattle.relay_fanout.specs.PlayerLists.{ArePassed, IsToBeLookedAt, Listing}
 use Rattle.relay_fanout.specs.declared.sending.sweeping.Found.{Found}
 use Rattle.relay_fanout.specs.declared.sending.sweeping.Found.TheVariants.{Player, NoMore}
 
@@ -19,10 +20,11 @@ abbrev pub GoesOnWith : {P : Type 0} → WordRead → Sweep → Found P → Type
 GoesOnWith word sweep (Player player at_player) = (at_player.sweeping.word ≡ word) × (at_player.sweeping.sweep ≡ sweep)
 GoesOnWith word sweep (NoMore swept) = (swept.word ≡ word) × (swept.sweep ≡ sweep)
 
--- who was found stands at this place or behind it
-abbrev pub IsFrom : {P : Type 0} → (place : ℕ) → Found P → Type 0
-IsFrom place (Player player at_player) = place ≤ at_player.sweeping.place
-IsFrom place (NoMore swept) = ⊤
+-- who was found is in the list, and all from this place to there were passed over; or the list has changed so often
+abbrev pub IsNextOf : {P S : Type 0} → (were_woken : P → ℕ → Type 0) → Listing P → (place : ℕ) → Found S → Type 0
+IsNextOf were_woken list place (Player player at_player) = (place ≤ at_player.sweeping.place) × ArePassed were_woken place at_player.sweeping.place list.listed
+    × IsSomeAnd (slice_get list.listed at_player.sweeping.place) (λ entry. (entry.turn ≡ at_player.turn) × IsToBeLookedAt were_woken entry)
+IsNextOf were_woken list place (NoMore swept) = swept.changes ≡ list.changes
 
 -- nothing was next for anybody yet
 abbrev pub IsFirst : Sweep → Type 0

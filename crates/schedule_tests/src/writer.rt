@@ -118,7 +118,7 @@ impl Writer {
         let player_wakeups = world.mounts.get(mount_of(entry.player))?.player_wakeups;
         let is_quiet = match (world.fault, entry.quiet) {
             (Fault::WakeupPassedOver, quiet) => quiet.is_some(),
-            (_, quiet) => quiet == Some(player_wakeups),
+            (_, quiet) => quiet.is_some_and(|quiet| quiet.lasts(player_wakeups)),
         };
         if is_quiet {
             return Some(Place::Between(self.at.wrapping_add(1)));

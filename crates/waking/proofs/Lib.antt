@@ -2,5 +2,5 @@ mod AfterLooks
 mod Invariant
 mod Keeping
 mod Players
-mod Quiet
 mod Schedules
+mod Sleeps

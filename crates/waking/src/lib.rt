@@ -9,6 +9,7 @@ mod look;
 mod looking;
 mod phase;
 mod player_state;
+mod quiet;
 mod sweep;
 mod word;
 
@@ -18,5 +19,6 @@ pub use laws::no_player_is_forgotten;
 pub use look::{After, Course, Flushed, Found};
 pub use phase::Phase;
 pub use player_state::PlayerState;
+pub use quiet::Quiet;
 pub use sweep::{Next, Sweep};
 pub use word::{NO_MARKS, are_marks, next_word};

@@ -8,6 +8,7 @@ ghost use Rattle.waking.specs.Steps.{IsStep, MayMake, step_before, step_skipped}
 
 use crate::attention::Attention;
 use crate::ending::{Ending, has_failed};
+use crate::quiet::Quiet;
 use crate::sweep::Next;
 use pacing::Patience;
 
@@ -69,16 +70,16 @@ impl PlayerState {
         }
     }
 
-    /// After how many wake-ups of its mount's players there is nothing to do for it, whatever the time: until there are more of them, a
-    /// sweep may pass over it. `None` if it is to be looked at.
-    pub fn quiet(&self) -> Option<u64>
+    /// For how long there is nothing to do for it, whatever the time: until its mount's players are woken again, a sweep may pass over it.
+    /// `None` if it is to be looked at.
+    pub fn quiet(&self) -> Option<Quiet>
         ensures quiet { (seen : ℕ) → (result ≡ Some seen) ↔ SleepsAt self.now seen }
         ensures step { IfSome result (λ seen. IsStep finds_nothing seen self.now self.now Sleep) }
         ensures may { IfSome result (λ seen. MayMake knows finds_nothing seen self.now) }
     {
-        match (self.attention.again, self.patience, self.ending) {
-            (false, None, None) => Some(self.attention.seen),
-            _ => None,
+        match self.asleep_after() {
+            Some(player_wakeups) => Some(Quiet::after(player_wakeups)),
+            None => None,
         }
     }
 
@@ -104,6 +105,18 @@ impl PlayerState {
             return None;
         }
         self.ending
+    }
+
+    /// After how many wake-ups there is nothing to do for it, whatever the time.
+    fn asleep_after(&self) -> Option<u64>
+        ensures quiet { (seen : ℕ) → (result ≡ Some seen) ↔ SleepsAt self.now seen }
+        ensures step { IfSome result (λ seen. IsStep finds_nothing seen self.now self.now Sleep) }
+        ensures may { IfSome result (λ seen. MayMake knows finds_nothing seen self.now) }
+    {
+        match (self.attention.again, self.patience, self.ending) {
+            (false, None, None) => Some(self.attention.seen),
+            _ => None,
+        }
     }
 
     /// What is next if there is nothing to do now, where no bytes wait.

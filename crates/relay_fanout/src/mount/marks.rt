@@ -1,8 +1,8 @@
 //! The marks of a mount, and the word that its players sleep on.
 //!
 //! A publisher puts a packet, or the end, into the ring, marks the mount and notifies the waking thread. Or it empties the marks,
-//! counts a wake-up and raises the writers' word. The law of `waking` is about this order, so each call returns what the next one
-//! takes.
+//! counts a wake-up and raises the writers' word, as it also does behind a packet that begins a gathering, if the one before brought one.
+//! The law of `waking` is about this order, so each call returns what the next one takes.
 ghost use Rattle.std.specs.Prelude.{◌≡◌, ◌+◌, ◌<◌, ◌^◌, ◌↔◌, ◌⊎◌, IsSome, IsTrue, IfOk, IfErr, OnErr, IsErrOf, length};
 ghost use Rattle.cursor.specs.declared.refusals.Refused.{Refused};
 ghost use Rattle.cursor.specs.Feeds.{Appends};
@@ -28,10 +28,10 @@ pub(crate) struct Marks {
     /// Whether no packet comes any more.
     ended: AtomicBool,
     player_wakeups: WakeWord,
-    /// How many packets the last gathering brought that had some.
-    brought: AtomicU64,
-    /// Whether a packet has begun the gathering that is under way, and its players were woken for it at once.
-    sent: AtomicBool,
+    /// How many packets came in the last gathering in which some did.
+    last_gathered: AtomicU64,
+    /// Whether the players were woken at once for the packet that began the gathering that is under way.
+    has_sent: AtomicBool,
 }
 
 /// A packet was counted by its sequence number as its publisher offers it, and wasn't published since. It has no `Drop`, so that it
@@ -99,8 +99,8 @@ impl Marks {
             marked: AtomicU64::new(NO_MARKS),
             ended: AtomicBool::new(false),
             player_wakeups: WakeWord::new(),
-            brought: AtomicU64::new(0),
-            sent: AtomicBool::new(false),
+            last_gathered: AtomicU64::new(0),
+            has_sent: AtomicBool::new(false),
         }
     }
 
@@ -112,8 +112,9 @@ impl Marks {
             .fetch_update(Ordering::SeqCst, Ordering::SeqCst, |marks| {
                 Some(next_word(marks))
             });
+        let has_sent = self.has_sent.load(Ordering::SeqCst);
         Marked {
-            is_batch: before.is_ok_and(is_last_of_batch),
+            is_batch: before.is_ok_and(|marks| is_last_of_batch(packets_of(marks, has_sent))),
         }
     }
 
@@ -141,11 +142,12 @@ impl Marks {
         Emptied(())
     }
 
-    /// Returns whether the players are woken at once for a packet that has begun a gathering: the last one brought no other.
-    pub(crate) fn sends_at_once(&self) -> bool {
-        let is_one = self.brought.load(Ordering::SeqCst) == 1;
+    /// A packet has begun a gathering. Notes and returns whether the players are to be woken for it at once: if one packet came in the last
+    /// gathering.
+    pub(crate) fn note_begun(&self) -> bool {
+        let is_one = self.last_gathered.load(Ordering::SeqCst) == 1;
         if is_one {
-            self.sent.store(true, Ordering::SeqCst);
+            self.has_sent.store(true, Ordering::SeqCst);
         }
         is_one
     }
@@ -153,9 +155,9 @@ impl Marks {
     /// Takes the marks, if there are any: the step `takes_marks`, or `finds_no_marks`. A gathering is over.
     pub(crate) fn take_marks(&self) -> Option<Emptied> {
         let marks = self.marked.swap(NO_MARKS, Ordering::SeqCst);
-        let brought = packets_of(marks, self.sent.swap(false, Ordering::SeqCst));
-        if brought > 0 {
-            self.brought.store(brought, Ordering::SeqCst);
+        let gathered = packets_of(marks, self.has_sent.swap(false, Ordering::SeqCst));
+        if gathered > 0 {
+            self.last_gathered.store(gathered, Ordering::SeqCst);
         }
         if are_marks(marks) {
             Some(Emptied(()))
@@ -189,7 +191,7 @@ impl Marks {
 
 impl Marked {
     /// Notifies the waking thread: the step `notifies`, or `finds_notified`. If the mount has a full batch, it needn't gather
-    /// longer. Returns whether this begins a gathering.
+    /// longer. Returns whether this begins a gathering of all mounts.
     pub(crate) fn notify(self, wake_signal: &WakeSignal) -> bool {
         let Marked { is_batch } = self;
         if is_batch {

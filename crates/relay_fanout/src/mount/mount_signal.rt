@@ -96,7 +96,7 @@ impl MountSignal {
     /// A packet of this mount has begun a gathering of all mounts. Wakes the players at once if the mount's last gathering brought one
     /// packet: then waiting brings no other.
     pub(crate) fn begin_gathering(&self) {
-        if self.marks.sends_at_once() {
+        if self.marks.note_begun() {
             self.wake();
         }
     }

@@ -1,24 +1,28 @@
 //! The players of a writer, as a value.
-ghost use Rattle.std.specs.Prelude.{◌≡◌, ◌↔◌, ◌+◌, ◌<◌, ◌≤◌, ◌^◌, ◌++◌, ◌∷◌, [], None, Some, IsTrue, filter, length, slice_get, IfOk, OnOk, OnErr};
+ghost use Rattle.std.specs.Prelude.{◌≡◌, ◌↔◌, ◌+◌, ◌<◌, ◌≤◌, ◌^◌, ◌++◌, ◌∷◌, [], None, Some, IsTrue, filter, length, slice_get, IfOk, IfSome, ℕ, OnOk, OnErr};
 ghost use Rattle.std.specs.Option.{option_copied};
 
 use std::alloc::{AllocError, Global};
 use std::marker::Model;
+use waking::Quiet;
 
 /// A player of a writer's list, and its turn: how often the list had changed before it came.
 #[derive(Drop)]
 pub(super) struct Listed<P> {
     pub(super) player: P,
     pub(super) turn: u64,
-    /// Until how many wake-ups of its mount's players there is nothing to do for it, as its last look left it. `None` if it is to be
-    /// looked at.
-    quiet: Option<u64>,
+    /// For how long there is nothing to do for it, as its last look left it. `None` if it is to be looked at.
+    quiet: Option<Quiet>,
 }
 
-/// A player knows how often its mount's players were woken.
+/// A player of a mount.
 pub(super) trait Wakeups {
-    /// Returns how often they were.
-    fn player_wakeups(&self) -> u64;
+    /// At some moment since its mount's players were last asked for, they had been woken so often.
+    ghost were_woken: { Self → ℕ → Type 0 };
+
+    /// Returns how often its mount's players were woken by now.
+    fn player_wakeups(&self) -> u64
+        ensures { were_woken self.now result };
 }
 
 impl<P> Listed<P> {
@@ -26,7 +30,10 @@ impl<P> Listed<P> {
     fn is_quiet(&self, player_wakeups: u64) -> bool
         ensures { IsTrue result ↔ (self.now.quiet ≡ Some player_wakeups) }
     {
-        self.quiet == Some(player_wakeups)
+        match self.quiet {
+            Some(quiet) => quiet.lasts(player_wakeups),
+            None => false,
+        }
     }
 }
 
@@ -105,7 +112,7 @@ impl<P: Drop> PlayerList<P> {
 
     /// Notes what a look left of the player of this turn, if it is still at this place. Else nothing changes, and it is looked at
     /// again.
-    pub(super) fn note(&mut self, place: usize, turn: u64, quiet: Option<u64>)
+    pub(super) fn note(&mut self, place: usize, turn: u64, quiet: Option<Quiet>)
         ensures noted { self.new ≡ record self.old { listed = noted_at place turn quiet self.old.listed } }
     {
         if let Some(listed) = self.listed.get_mut(place) {
@@ -130,12 +137,13 @@ impl<P: Drop> PlayerList<P> {
 }
 
 impl<P: Wakeups + Drop> PlayerList<P> {
-    ghost use Rattle.relay_fanout.specs.PlayerLists.{AreQuiet};
+    ghost use Rattle.relay_fanout.specs.PlayerLists.{ArePassed, IsToBeLookedAt};
 
-    /// Returns the place of the first player from this one on that is to be looked at: how many there are if there is none. It passes over
-    /// a player only if there was nothing to do for it at its last look, and its mount's players weren't woken since.
-    pub(super) fn to_look_at(&self, place: usize) -> usize
-        ensures passed { AreQuiet place result self.now.listed }
+    /// Returns the place of the first player from this one on that is to be looked at. If there is none, it is behind them all. It passes
+    /// over a player only if there was nothing to do for it at its last look, and its mount's players weren't woken since.
+    pub(super) fn next_place(&self, place: usize) -> usize
+        ensures passed { ArePassed P.were_woken place result self.now.listed }
+        ensures found { IfSome (slice_get self.now.listed result) (IsToBeLookedAt P.were_woken) }
         ensures on { place ≤ result }
     {
         for at in place..self.len() {

@@ -1,14 +1,14 @@
 //! A writer's sweep over its players: the word is read, the list's changes are read, each player is looked at that isn't quiet, the
 //! changes are read again, and the writer sleeps on the word that was read. The law of `waking` is about this order, so each call
 //! returns what the next one takes.
-ghost use Rattle.std.specs.Prelude.{◌+◌, ◌<◌, ◌^◌};
-ghost use Rattle.waking.specs.Sweeps.{added};
-ghost use Rattle.relay_fanout.specs.Sweepings.{Begins, GoesOnWith, IsFrom, place_after};
+ghost use Rattle.std.specs.Prelude.{◌≡◌, ◌+◌, ◌<◌, ◌^◌};
+ghost use Rattle.waking.specs.Sweeps.{added, begun};
+ghost use Rattle.relay_fanout.specs.Sweepings.{Begins, GoesOnWith, IsNextOf, place_after};
 
 use crate::sending::player_list::{PlayerList, Wakeups};
 use crate::wake::writers_word::{Awake, WordRead, WritersWord};
 use std::sync::{Mutex, Wait};
-use waking::{Next, Sweep};
+use waking::{Next, Quiet, Sweep};
 
 /// The word and then the list's changes were read, and the players before `place` were looked at or passed over: the writer is `between`
 /// two of them in the machine of `waking`. It has no `Drop`, so that it ends in `next`.
@@ -53,22 +53,45 @@ impl Sweeping {
         ensures { Begins word result }
     {
         let list = list.lock(rt);
-        let sweeping = Sweeping {
+        Sweeping::first(word, list.changes()).next(&list)
+    }
+
+    /// No player was looked at, and the list had changed so often.
+    fn first(word: WordRead, changes: u64) -> Sweeping
+        ensures { result ≡ record { word = word; sweep = begun changes; place = 0 } }
+    {
+        Sweeping {
             word,
-            sweep: Sweep::new(list.changes()),
+            sweep: Sweep::new(changes),
             place: 0,
-        };
-        sweeping.next(&list)
+        }
+    }
+
+    /// The player at its place was looked at, and this is next for it: one that has nothing more to send is taken out there.
+    fn behind(self, next: Next) -> Sweeping
+        ensures goes_on { (result.word ≡ self.word) × (result.sweep ≡ added next self.sweep) }
+        ensures place { self.place + 1 < 2 ^ 64 → result.place ≡ place_after next self.place }
+    {
+        let Sweeping {
+            word,
+            mut sweep,
+            mut place,
+        } = self;
+        sweep.add(next);
+        if next != Next::Over {
+            place = place.saturating_add(1);
+        }
+        Sweeping { word, sweep, place }
     }
 
     /// Returns the next player that is to be looked at. The machine's looks at those that it passes over are `reads_wakes` and
     /// `finds_nothing`. If there is none, reads the list's changes again.
     fn next<S, P: Share<S> + Wakeups + Drop>(self, list: &PlayerList<P>) -> Found<S>
         ensures goes_on { GoesOnWith self.word self.sweep result }
-        ensures place { IsFrom self.place result }
+        ensures next { IsNextOf P.were_woken list.now self.place result }
     {
         let Sweeping { word, sweep, place } = self;
-        let place = list.to_look_at(place);
+        let place = list.next_place(place);
         if let Some(listed) = list.get(place) {
             if let Some(player) = listed.player.share() {
                 let turn = listed.turn;
@@ -86,33 +109,25 @@ impl Sweeping {
 }
 
 impl AtPlayer {
-    /// The player was looked at, and this is next for it, and this long it is quiet (`PlayerState::quiet`). One that has nothing more to
-    /// send is taken out of the list. If it has come again meanwhile, that is another turn, which stays. Returns the next player.
+    /// The player was looked at, and this is next for it, and for so long it is quiet. One that has nothing more to send is taken out of the
+    /// list. If it has come again meanwhile, that is another turn, which stays. Returns the next player.
     pub(super) fn looked<S, P: Share<S> + Wakeups + Drop>(
         self,
         rt: &impl Wait,
         list: &Mutex<PlayerList<P>>,
         next: Next,
-        quiet: Option<u64>,
+        quiet: Option<Quiet>,
     ) -> Found<S>
-        ensures goes_on { GoesOnWith self.sweeping.word (added next self.sweeping.sweep) result }
-        ensures place { self.sweeping.place + 1 < 2 ^ 64 → IsFrom (place_after next self.sweeping.place) result }
+        ensures { GoesOnWith self.sweeping.word (added next self.sweeping.sweep) result }
     {
         let AtPlayer { sweeping, turn } = self;
-        let Sweeping {
-            word,
-            mut sweep,
-            mut place,
-        } = sweeping;
-        sweep.add(next);
         let mut list = list.lock(rt);
         if next == Next::Over {
             list.remove(turn);
         } else {
-            list.note(place, turn, quiet);
-            place = place.saturating_add(1);
+            list.note(sweeping.place, turn, quiet);
         }
-        Sweeping { word, sweep, place }.next(&list)
+        sweeping.behind(next).next(&list)
     }
 }
 

@@ -19,11 +19,11 @@ use interleaved::{Failed, TrySink};
 use player::OutStop;
 use relay_accounts::HandedOver;
 use std::sync::Wait;
-use waking::{Answer, Course, Failure, Flushed, Next};
+use waking::{Answer, Course, Failure, Flushed, Next, Quiet};
 
 impl<T: Tap + Leave + Drop, W: TrySink + Drop, H: HangUp + Drop> SendSide<T, W, H> {
     /// Makes a writer's look at the player of this number, and does nothing if a later player is in its place. While the thread that reads
-    /// puts the player in or takes it out, the look is retried after a moment. Returns what is next, and how long it is quiet.
+    /// puts the player in or takes it out, the look is retried after a moment. Returns what is next, and for how long it is quiet.
     pub(crate) fn look(
         &self,
         rt: &impl Wait,
@@ -31,7 +31,7 @@ impl<T: Tap + Leave + Drop, W: TrySink + Drop, H: HangUp + Drop> SendSide<T, W, 
         buf: &mut Vec<u8>,
         now: Reading,
         waits: Waits,
-    ) -> (Next, Option<u64>) {
+    ) -> (Next, Option<Quiet>) {
         let Some(mut seat) = self.seat.try_lock() else {
             return (Next::Later(1), None);
         };

@@ -102,6 +102,10 @@ impl<T, W: Sink, H> Share<Player<T, W, H>> for Member<T, W, H> {
 }
 
 impl<T, W: Sink, H> Wakeups for Member<T, W, H> {
+    ghost use Rattle.std.specs.Prelude.{⊤};
+
+    ghost were_woken = { λ member count. ⊤ };
+
     fn player_wakeups(&self) -> u64 {
         self.signal.wakeups()
     }

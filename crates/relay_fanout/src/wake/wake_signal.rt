@@ -56,7 +56,8 @@ impl WakeSignal {
         }
     }
 
-    /// Notifies that some mount was marked. Costs a load unless the waking thread sleeps. Returns whether it slept, or was about to.
+    /// Notifies that some mount was marked. Costs a load unless the waking thread sleeps. Returns whether this is
+    /// the first notification since it began to ask mounts for marks.
     pub(crate) fn notify(&self) -> bool {
         let is_first = self.state.load(Ordering::SeqCst) == QUIET
             && self

@@ -1,18 +1,12 @@
-use Rattle.std.proofs.Common.{Some, ap, subst, sym}
-use Rattle.waking.specs.PlayerStates.{SleepsAt}
-use Rattle.waking.proofs.Quiet.{sleeps_there, sleeps_where}
+use Rattle.std.proofs.Common.{◌≡◌, ◌∙◌, ap, subst, sym, Some}
+use Rattle.waking.specs.Machine.{finds_nothing, knows}
+use Rattle.waking.specs.Steps.{MayMake}
 use Rattle.waking.proofs.player_state.PlayerState.quiet.Goals as goal
 
-pub returns-in-false-None-None-clause-quiet : goal.returns-in-false-None-None-clause-quiet
-returns-in-false-None-None-clause-quiet c seen =
-    let at = c.in-false-None-None in
-    ((λ is. subst (SleepsAt c.args.self.now) (cc) (sleeps_there c.args.self.now at.is-0 at.is-1 at.is-2)), (λ h. ap Some (sym (sleeps_where c.args.self.now seen h).3)))
+pub returns-in-Some-clause-quiet : goal.returns-in-Some-clause-quiet
+returns-in-Some-clause-quiet c seen =
+    let same : c.asleep_after.result ≡ Some c.after.result = c.in-Some.is ∙ ap Some (sym c.after.ensures) in
+    ((λ is. (c.asleep_after.ensures.quiet seen).0 (same ∙ is)), (λ h. sym same ∙ (c.asleep_after.ensures.quiet seen).1 h))
 
-pub returns-in_default-clause-quiet : goal.returns-in_default-clause-quiet
-returns-in_default-clause-quiet c seen = ((λ is. absurd (cc)), (λ h. absurd (cc (sleeps_where c.args.self.now seen h).0)))
-
-pub returns-in_default-2-clause-quiet : goal.returns-in_default-2-clause-quiet
-returns-in_default-2-clause-quiet c seen = ((λ is. absurd (cc)), (λ h. absurd (cc (sleeps_where c.args.self.now seen h).2)))
-
-pub returns-in_default-3-clause-quiet : goal.returns-in_default-3-clause-quiet
-returns-in_default-3-clause-quiet c seen = ((λ is. absurd (cc)), (λ h. absurd (cc (sleeps_where c.args.self.now seen h).1)))
+pub returns-in-Some-clause-may : goal.returns-in-Some-clause-may
+returns-in-Some-clause-may c = subst (λ seen. MayMake knows finds_nothing seen c.args.self.now) (sym c.after.ensures) c.in-Some.ensures.may
