@@ -2,7 +2,7 @@
 use crate::fault::{Fault, Finding};
 use crate::link::Link;
 use std::alloc::Global;
-use waking::{NO_MARKS, Quiet, next_word};
+use waking::{NO_MARKS, next_word};
 
 pub(crate) const MOUNTS: usize = 2;
 
@@ -28,8 +28,8 @@ pub(crate) struct Entry {
     /// Which of its connection's players it is.
     pub(crate) number: u64,
     pub(crate) turn: u64,
-    /// For how long there is nothing to do for it, as its last look left it.
-    pub(crate) quiet: Option<Quiet>,
+    /// After how many wake-ups of its mount's players there is nothing to do for it, as its last look left it.
+    pub(crate) quiet: Option<u64>,
 }
 
 /// The players of a writer.
@@ -61,7 +61,7 @@ impl List {
     }
 
     /// Notes what a look left of the player of this turn, if it is at this place.
-    pub(crate) fn note(&mut self, place: usize, turn: u64, quiet: Option<Quiet>) {
+    pub(crate) fn note(&mut self, place: usize, turn: u64, quiet: Option<u64>) {
         if let Some(entry) = self.entries.get_mut(place) {
             if entry.turn == turn {
                 entry.quiet = quiet;

@@ -118,7 +118,7 @@ impl Writer {
         let player_wakeups = world.mounts.get(mount_of(entry.player))?.player_wakeups;
         let is_quiet = match (world.fault, entry.quiet) {
             (Fault::WakeupPassedOver, quiet) => quiet.is_some(),
-            (_, quiet) => quiet.is_some_and(|quiet| quiet.lasts(player_wakeups)),
+            (_, quiet) => quiet == Some(player_wakeups),
         };
         if is_quiet {
             return Some(Place::Between(self.at.wrapping_add(1)));
@@ -247,8 +247,13 @@ impl Writer {
             Some(state) if link.number == look.entry.number => state.quiet(),
             _ => None,
         };
+        let is_quiet = match quiet {
+            Some(quiet) => quiet.lasts(look.player_wakeups),
+            None => false,
+        };
         let list = world.lists.get_mut(self.number)?;
         if next != Next::Over {
+            let quiet = is_quiet.then_some(look.player_wakeups);
             list.note(self.at, look.entry.turn, quiet);
             return Some(Place::Between(self.at.wrapping_add(1)));
         }
