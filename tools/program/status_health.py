@@ -101,7 +101,7 @@ def quiet_server_is_well(program):
 
 def thread_that_stands_still_is_named(program):
     """The waking thread and the writer, each of which has something to do and stands still, are named after two seconds, and no more once
-    they go on. Two packets come together each time, since one alone isn't waited with."""
+    they go on. Two packets come together each time, since one alone is sent at once."""
     if not may_trace():
         return
     with pages_of(program, "--writers", "1") as (server, port), Camera(server) as camera, Player(server) as player:
