@@ -72,10 +72,11 @@ def late(cluster):
 
 
 def ports(cluster, reuse=1):
-    """Many unknown names are asked for, while the proxy has 1,000 ports for connections to a relay and not 28,000."""
+    """Many unknown names are asked for, while the proxy has 3,000 ports for connections to a relay and not 28,000. A port is free again after a
+    second: the names are asked for as fast as they have replies, some thousands a second at four relays."""
     cluster.net.set("proxy", f"net.ipv4.tcp_tw_reuse={reuse}")
-    cluster.net.set("proxy", "net.ipv4.ip_local_port_range=32768 33767")
-    cluster.load = dataclasses.replace(cluster.load, unknown=8_000)
+    cluster.net.set("proxy", "net.ipv4.ip_local_port_range=32768 35767")
+    cluster.load = dataclasses.replace(cluster.load, unknown=24_000)
     trials.unknown(cluster)
 
 
