@@ -1,11 +1,12 @@
 //! A sink that gathers what is written.
-ghost use Rattle.std.specs.Prelude.{◌≡◌, ◌+◌, ◌-◌, ◌<◌, ◌≤◌, ◌⊎◌, [], ◌++◌, true, false, drop, min, length, take, IfOk, OnOk, OnErr};
+ghost use Rattle.std.specs.Prelude.{◌≡◌, ◌+◌, ◌-◌, ◌<◌, ◌≤◌, ◌⊎◌, [], ◌++◌, true, false, drop, min, length, take, IfOk, OnOk, OnErr, IsTrue, ◌↔◌};
 ghost use Rattle.std.specs.Io.KnownBytes.{Appends, Keeps};
 ghost use Rattle.interleaved.specs.Gatherings.{gathered, Fills, PassesOn};
 
 use crate::device::{Failed, Sink, TrySink};
 use crate::whole_write::{WriteCut, write_all};
 use std::marker::Model;
+use std::mem;
 
 /// A sink over another one, which keeps what is written in a buffer and passes it on in one write, at
 /// `flush` or when the buffer is full. It has failed where the inner one has.
@@ -63,6 +64,33 @@ impl<W: Sink + Drop> Gathering<W> {
         ensures most { result ≤ self.now.size }
     {
         self.count
+    }
+
+    /// How many bytes it can keep.
+    pub fn size(&self) -> usize
+        ensures { result ≡ self.now.size }
+    {
+        self.buffer.len()
+    }
+
+    /// Changes its buffer for another one if it keeps nothing. Returns whether it does.
+    pub fn swap_buffer(&mut self, other: &mut Vec<u8>) -> bool
+        ensures empty { IsTrue result ↔ (self.old.kept ≡ []) }
+        ensures swapped { result ≡ true → (self.new ≡ record self.old { size = length other.old.items }) × (length other.new.items ≡ self.old.size) }
+        ensures same { result ≡ false → (self.new ≡ self.old) × (other.new ≡ other.old) }
+    {
+        if self.count > 0 {
+            return false;
+        }
+        mem::swap(&mut self.buffer, other);
+        true
+    }
+
+    /// Drops what is kept.
+    pub fn clear(&mut self)
+        ensures { self.new ≡ record self.old { kept = [] } }
+    {
+        self.count = 0;
     }
 
     /// Passes on all that is kept. `Failed` where the inner sink doesn't take it all, because it fails

@@ -1,7 +1,7 @@
 -- The players of a writer as they come and leave, and which of them a sweep passes over.
-use Rattle.std.proofs.Common.{◌≡◌, ◌≢◌, ◌≤◌, ◌∙◌, ◌+◌, ap, arith, rules, subst, sym, inl, inr, ℕ, Some, List, All, length, slice_get}
+use Rattle.std.proofs.Common.{◌≡◌, ◌≢◌, ◌≤◌, ◌∙◌, ◌+◌, ap, arith, rules, subst, sym, inl, inr, ℕ, None, Some, List, All, length, slice_get}
 use Rattle.std.proofs.lemmas.Bool.Decides.{eqb_tells}
-use Rattle.std.proofs.lemmas.Option.{slice_get_within}
+use Rattle.std.proofs.lemmas.Option.{slice_get_cases, slice_get_within}
 use Rattle.relay_fanout.specs.declared.sending.player_list.Listed.{Listed}
 use Rattle.relay_fanout.specs.PlayerLists.{ArePassed, CameBefore, HasTurn, IsPassed}
 
@@ -33,3 +33,12 @@ ArePassed-and {P} were_woken from to listed next is passed so_far place entry af
 pub ArePassed-all : {P : Type 0} (were_woken : P → ℕ → Type 0) (from to last : ℕ) (listed : List (Listed P)) → length listed ≤ to → ArePassed were_woken from to listed
     → ArePassed were_woken from last listed
 ArePassed-all were_woken from to last listed far so_far place entry after before inside = so_far place entry after (omega (arith, slice_get_within listed place entry inside, far)) inside
+
+-- all to the list's end are passed over where it has nobody at the next place
+pub ArePassed-to_end : {P : Type 0} (were_woken : P → ℕ → Type 0) (from to : ℕ) (listed : List (Listed P)) → slice_get listed to ≡ None → ArePassed were_woken from to listed
+    → ArePassed were_woken from (length listed) listed
+ArePassed-to_end were_woken from to listed nobody so_far =
+    elim (slice_get_cases listed to).1 [
+      | inl somebody ↦ absurd (search (rules, sym nobody ∙ somebody.2))
+      | inr past ↦ ArePassed-all were_woken from to (length listed) listed past.0 so_far
+    ]

@@ -22,6 +22,7 @@ pub(crate) mod sweeping;
 pub(crate) mod tap_place;
 pub(crate) mod waits;
 pub(crate) mod way;
+pub(crate) mod writer_buffers;
 pub(crate) mod writer_look;
 pub(crate) mod writer_player;
 pub(crate) mod writers;

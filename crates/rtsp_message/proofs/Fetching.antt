@@ -8,6 +8,7 @@ use Rattle.rtsp_message.specs.declared.unit.Unit.{Unit as StreamUnit}
 use Rattle.rtsp_message.specs.Stream.{Ending, ReadsOn}
 use Rattle.rtsp_message.specs.Intakes.{IntakeState, Gave, ReadsOnce}
 use Rattle.rtsp_message.specs.IntakeFields.{state_of}
+use Rattle.rtsp_message.specs.Pieces.{bytes_in}
 
 -- The fields after bytes were read from the source, unless some were held.
 pub record Fetched {S : Type 0} (incoming : S → Option (List ℕ)) (bound : S → ℕ) (gives : S → List ℕ → S → Type 0) (old : IntakeState S) (i : Inside S) : Type 0 where
@@ -18,11 +19,12 @@ pub record Fetched {S : Type 0} (incoming : S → Option (List ℕ)) (bound : S 
   pub came : Gave gives old.source pieces i.source
   pub whole : concat pieces ≡ read
   pub once : ReadsOnce gives old (state_of i)
-  pub held : drop i.from (take i.held i.piece) ≡ old.held ++ read
+  pub held : drop i.from (take i.held (bytes_in i.piece)) ≡ old.held ++ read
   pub reading : i.reader.reading ≡ old.reading
   pub queue : into_iter_items i.units ≡ old.queue
-  pub within : i.held ≤ 65536
-  pub fits : i.held ≤ length i.piece
+  pub fits : i.held ≤ length (bytes_in i.piece)
+  pub room : 0 < length (bytes_in i.piece)
+  pub most : length (bytes_in i.piece) ≤ 65536
   pub some : i.from < i.held
   pub was_going : old.ended ≡ false
   pub going : i.ended ≡ false

@@ -14,4 +14,5 @@ pub mod Reply
 pub mod Statuses
 pub mod ServerStream
 pub mod Intakes
+pub mod Pieces
 pub mod IntakeFields

@@ -3,16 +3,13 @@ ghost use Rattle.std.specs.Prelude.{◌≡◌, ◌<◌, ◌≤◌, ◌+◌, [], 
 
 use crate::fault::Fault;
 use crate::part::part_len;
+use crate::piece::Piece;
 use crate::reader::Reader;
 use crate::unit::Unit;
 use interleaved::Source;
 use std::alloc::Global;
 use std::marker::Model;
 use std::vec::IntoIter;
-
-/// The most bytes that are read from a source at once: one system call mostly brings all that a publisher has sent since the
-/// last one.
-const PIECE: usize = 65_536;
 
 /// What an intake returns.
 #[derive(Drop)]
@@ -35,7 +32,7 @@ pub struct Intake<S: Source> {
     reader: Reader,
     units: IntoIter<Unit>,
     /// What the last read brought: the first `held` of these bytes. The reader has taken the first `from` of them.
-    piece: [u8; PIECE],
+    piece: Piece,
     held: usize,
     from: usize,
     /// The source has given all its bytes.
@@ -80,7 +77,7 @@ impl<S: Source + Drop> Intake<S> {
             source,
             reader: Reader::new(alloc),
             units: Vec::new(alloc).into_iter(),
-            piece: [0; PIECE],
+            piece: Piece::new(),
             held: 0,
             from: 0,
             ended: false,
@@ -115,7 +112,7 @@ impl<S: Source + Drop> Intake<S> {
         ensures few { result < S.bound self.now.source + 139_264 }
         ensures queued { length self.now.queue ≤ 2_048 }
     {
-        let held = &self.piece[..self.held];
+        let held = &self.piece.as_slice()[..self.held];
         let unread = self.source.left() + (held.len() - self.from) as u64;
         unread + self.reader.waiting() as u64 + self.units.len() as u64
     }
@@ -188,7 +185,8 @@ impl<S: Source + Drop> Intake<S> {
             return Some(Next::End);
         }
         if self.from == self.held {
-            match self.source.read(&mut self.piece) {
+            self.piece.lengthen(self.alloc, self.held);
+            match self.piece.read_from(&mut self.source) {
                 Ok(0) => {
                     self.ended = true;
                     return Some(Next::End);
@@ -200,7 +198,7 @@ impl<S: Source + Drop> Intake<S> {
                 Err(_) => return Some(Next::ReadFailed),
             }
         }
-        let front = &self.piece[..self.held];
+        let front = &self.piece.as_slice()[..self.held];
         let bytes = &front[self.from..];
         let len = part_len(self.reader.waiting(), self.reader.missing(), bytes);
         match self.reader.feed(&bytes[..len]) {

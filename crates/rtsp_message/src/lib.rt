@@ -17,6 +17,7 @@ mod look;
 mod part;
 mod peer;
 mod peer_reader;
+mod piece;
 mod plain;
 mod reader;
 mod received;

@@ -36,7 +36,7 @@ fn a_reply_of_any_length_is_written_out_at_once(rt: HostRuntime) {
     };
     let bytes = Arc::try_clone(&watch.written).expect(&rt, "a count of its users");
     let sink = Written { rt, bytes, manner };
-    let line = WritingSide::new(alloc, Writing::new(sink), 0);
+    let line = WritingSide::new(alloc, Writing::new(sink));
     let player: SendSide<Subscriber, _, _> = SendSide::new(line, Open);
     let wake_signal = WakeSignal::new();
     let mut all = 0usize;

@@ -226,10 +226,6 @@ impl Maker for Rings {
         self.maker.keep()
     }
 
-    fn packet_bytes(&self) -> usize {
-        self.maker.packet_bytes()
-    }
-
     fn back(&self) -> Back {
         self.maker.back()
     }

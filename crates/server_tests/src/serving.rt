@@ -72,7 +72,7 @@ pub(crate) fn line_in<R: Wait + Clock + Abort + Drop>(
     manner: Manner,
 ) -> WritingSide<Writing<Written<R>>> {
     let bytes = Arc::try_clone(bytes).expect(&rt, "a count of its users");
-    WritingSide::new(alloc, Writing::new(Written { rt, bytes, manner }), 16)
+    WritingSide::new(alloc, Writing::new(Written { rt, bytes, manner }))
 }
 
 /// What a test and a connection share: what is written to its peer, and the word that lets the peer on.

@@ -115,7 +115,7 @@ where
         shared,
         conn,
         Reading::new(idle_reader),
-        sent_on(WritingSide::new(alloc, Writing::new(sink), 16)),
+        sent_on(WritingSide::new(alloc, Writing::new(sink))),
         Events::none(),
         connection_clock,
         Rights::all(),

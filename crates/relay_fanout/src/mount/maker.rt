@@ -25,9 +25,6 @@ pub trait Maker {
     /// Returns how many packets are kept for a player that is behind.
     fn keep(&self) -> u64;
 
-    /// Returns how many bytes the longest packet has.
-    fn packet_bytes(&self) -> usize;
-
     /// Returns with which packets from before each PLAY begins.
     fn back(&self) -> Back;
 

@@ -102,12 +102,6 @@ impl Maker for RingMaker {
         self.keep as u64
     }
 
-    fn packet_bytes(&self) -> usize
-        ensures { result ≡ self.now.packet_bytes }
-    {
-        self.packet_bytes
-    }
-
     fn back(&self) -> Back
         ensures { result ≡ self.now.back }
     {

@@ -12,6 +12,7 @@ use crate::sending::send_side::SendSide;
 use crate::sending::sent_frames::SentFrames;
 use crate::sending::tap_place::TapPlace;
 use crate::sending::way::Way;
+use crate::sending::writer_buffers::frames_buffer;
 use cursor::Lend;
 use interleaved::Sink;
 use player::OutStop;
@@ -94,10 +95,18 @@ impl<T: Lend + Leave + Drop, W: Sink + Drop, H: HangUp + Drop> SendSide<T, W, H>
         known: &mut KnownLevel,
         handover: &mut Handover,
     ) -> FrameEnd {
-        match Way::new(alloc, sending.is_direct, tap.packet_bytes()) {
-            Ok(mut way) => self.send_from(rt, tap, sending, known, &mut way, handover),
-            Err(_) => FrameEnd::OutOfMemory,
-        }
+        let Ok(mut way) = Way::new(alloc, sending.is_direct, tap.packet_bytes()) else {
+            return FrameEnd::OutOfMemory;
+        };
+        // Without memory for it each frame is written by itself.
+        let mut frames = match frames_buffer(alloc, tap.packet_bytes()) {
+            Ok(frames) => frames,
+            Err(_) => Vec::new(alloc),
+        };
+        self.writing.swap_buffer(rt, &mut frames);
+        let end = self.send_from(rt, tap, sending, known, &mut way, handover);
+        self.writing.swap_buffer(rt, &mut frames);
+        end
     }
 
     fn send_from(

@@ -1,9 +1,9 @@
 //! A writer's sweep over its players: the word is read, the list's changes are read, each player is looked at that isn't quiet, the
 //! changes are read again, and the writer sleeps on the word that was read. The law of `waking` is about this order, so each call
 //! returns what the next one takes.
-ghost use Rattle.std.specs.Prelude.{◌≡◌, ◌+◌, ◌<◌, ◌^◌};
+ghost use Rattle.std.specs.Prelude.{◌≡◌, ◌+◌, ◌<◌, ◌^◌, IfNone};
 ghost use Rattle.waking.specs.Sweeps.{added, begun};
-ghost use Rattle.relay_fanout.specs.Sweepings.{Begins, GoesOnWith, IsNextOf, place_after};
+ghost use Rattle.relay_fanout.specs.Sweepings.{Begins, GoesOnWith, IsLeft, IsNextOf, place_after};
 
 use crate::sending::player_list::{PlayerList, Wakeups};
 use crate::wake::writers_word::{Awake, WordRead, WritersWord};
@@ -39,8 +39,12 @@ pub(super) enum Found<P> {
 
 /// A player of a list can be looked at while the list isn't locked, by `S`.
 pub(super) trait Share<S> {
+    /// It was asked for one more owner, which it can't have.
+    ghost was_refused: { Self → Type 0 };
+
     /// Returns one more owner, or `None` if it can't have one.
-    fn share(&self) -> Option<S>;
+    fn share(&self) -> Option<S>
+        ensures refused { IfNone result (was_refused self.now) };
 }
 
 impl Sweeping {
@@ -88,7 +92,7 @@ impl Sweeping {
     /// `finds_nothing`. If there is none, reads the list's changes again.
     fn next<S, P: Share<S> + Wakeups + Drop>(self, list: &PlayerList<P>) -> Found<S>
         ensures goes_on { GoesOnWith self.word self.sweep result }
-        ensures next { IsNextOf P.were_woken list.now self.place result }
+        ensures next { IsNextOf P.were_woken P.was_refused list.now self.place result }
     {
         let Sweeping { word, sweep, place } = self;
         let place = list.next_place(place);
@@ -120,14 +124,28 @@ impl AtPlayer {
     ) -> Found<S>
         ensures { GoesOnWith self.sweeping.word (added next self.sweeping.sweep) result }
     {
-        let AtPlayer { sweeping, turn } = self;
         let mut list = list.lock(rt);
+        self.leave(&mut list, next, quiet)
+    }
+
+    /// Does the same with the list that was locked.
+    fn leave<S, P: Share<S> + Wakeups + Drop>(
+        self,
+        list: &mut PlayerList<P>,
+        next: Next,
+        quiet: Option<Quiet>,
+    ) -> Found<S>
+        ensures goes_on { GoesOnWith self.sweeping.word (added next self.sweeping.sweep) result }
+        ensures left { IsLeft next self.sweeping.place self.turn quiet list.old list.new }
+        ensures next { self.sweeping.place + 1 < 2 ^ 64 → IsNextOf P.were_woken P.was_refused list.new (place_after next self.sweeping.place) result }
+    {
+        let AtPlayer { sweeping, turn } = self;
         if next == Next::Over {
             list.remove(turn);
         } else {
             list.note(sweeping.place, turn, quiet);
         }
-        sweeping.behind(next).next(&list)
+        sweeping.behind(next).next(list)
     }
 }
 

@@ -12,6 +12,7 @@ use crate::sending::ring_look::{LineHeld, Looked};
 use crate::sending::send_side::{SeatTap, SendSide};
 use crate::sending::tap_place::TapPlace;
 use crate::sending::waits::Waits;
+use crate::sending::writer_buffers::WriterBuffers;
 use crate::sending::writer_player::WriterPlayer;
 use crate::sending::writing_side::WritingSide;
 use cursor::Tap;
@@ -19,7 +20,7 @@ use interleaved::{Failed, TrySink};
 use player::OutStop;
 use relay_accounts::HandedOver;
 use std::sync::Wait;
-use waking::{Answer, Course, Failure, Flushed, Next, Quiet};
+use waking::{After, Answer, Course, Failure, Flushed, Next, Quiet};
 
 impl<T: Tap + Leave + Drop, W: TrySink + Drop, H: HangUp + Drop> SendSide<T, W, H> {
     /// Makes a writer's look at the player of this number, and does nothing if a later player is in its place. While the thread that reads
@@ -28,7 +29,7 @@ impl<T: Tap + Leave + Drop, W: TrySink + Drop, H: HangUp + Drop> SendSide<T, W, 
         &self,
         rt: &impl Wait,
         number: u64,
-        buf: &mut Vec<u8>,
+        buffers: &mut WriterBuffers,
         now: Reading,
         waits: Waits,
     ) -> (Next, Option<Quiet>) {
@@ -39,7 +40,15 @@ impl<T: Tap + Leave + Drop, W: TrySink + Drop, H: HangUp + Drop> SendSide<T, W, 
         match player {
             Some(player) => {
                 if player.number() == number {
-                    let next = player.look(rt, tap, &self.writing, &self.shutdown, buf, now, waits);
+                    let next = player.look(
+                        rt,
+                        tap,
+                        &self.writing,
+                        &self.shutdown,
+                        buffers,
+                        now,
+                        waits,
+                    );
                     (next, player.state.quiet())
                 } else {
                     (Next::Sleep, None)
@@ -59,7 +68,7 @@ impl WriterPlayer {
         tap: &mut TapPlace<T>,
         writing: &WritingSide<W>,
         shutdown: &H,
-        buf: &mut Vec<u8>,
+        buffers: &mut WriterBuffers,
         now: Reading,
         waits: Waits,
     ) -> Next {
@@ -75,20 +84,18 @@ impl WriterPlayer {
         let moment = now.milliseconds();
         let has_ended = self.signal.has_ended();
         let looked = match self.state.flushed(flushed, has_ended, moment, waits.end) {
-            Course::Take => self.take(rt, tap, &mut sink, buf, held),
+            Course::Take => self.take(rt, tap, &mut sink, buffers, held),
             Course::ComeBack => {
                 self.come_back(rt);
-                self.take(rt, tap, &mut sink, buf, held)
+                self.take(rt, tap, &mut sink, buffers, held)
             }
             Course::Pass(answer) => held.answered(answer),
         };
         let found = looked.found(sink.len() > 0, moved, self.known.was_level());
         let after = self.state.looked(found, moment, now.is_read, waits.stall);
-        if after.closes_writes {
-            shutdown.close_writes();
-        }
+        end_streams(shutdown, after);
         drop(sink);
-        self.carry_out(rt, tap, shutdown, after);
+        self.carry_out(rt, tap, after);
         after.next
     }
 
@@ -99,25 +106,29 @@ impl WriterPlayer {
         rt: &impl Wait,
         tap: &mut TapPlace<T>,
         sink: &mut Line<W>,
-        buf: &mut Vec<u8>,
+        buffers: &mut WriterBuffers,
         held: LineHeld,
     ) -> Looked {
         let TapPlace::Attached(tap) = tap else {
             return held.answered(Answer::Failed(Failure::NoTap));
         };
-        if buf.len() < tap.packet_bytes() && buf.resize(tap.packet_bytes(), 0).is_err() {
+        if buffers.fit(tap.packet_bytes()).is_err() {
             return held.answered(Answer::Failed(Failure::OutOfMemory));
         }
-        let stop = gather(
-            tap,
-            sink,
-            &self.channels,
-            buf.as_mut_slice(),
-            &mut self.handover,
-        );
+        let lent = buffers.lend(sink);
+        let packet = buffers.packet.as_mut_slice();
+        let stop = gather(tap, sink, &self.channels, packet, &mut self.handover);
         let (cursor, lost) = (tap.cursor(), tap.account().lost);
-        if sink.try_flush().is_err() {
+        let flushed = sink.try_flush();
+        if flushed.is_err() {
+            sink.clear();
+        }
+        let taken_back = buffers.take_back(lent, sink);
+        if flushed.is_err() {
             return held.answered(Answer::Failed(Failure::WriteFailed));
+        }
+        if taken_back.is_err() {
+            return held.answered(Answer::Failed(Failure::OutOfMemory));
         }
         let HandedOver {
             sent,
@@ -143,6 +154,20 @@ impl WriterPlayer {
             }
             OutStop::WriteFailed => held.answered(Answer::Failed(Failure::WriteFailed)),
         }
+    }
+}
+
+/// Ends what a connection runs over, if that was decided after a look. No reply is written after a frame that wasn't written whole, since the
+/// writer has the line.
+fn end_streams(shutdown: &impl HangUp, after: After) {
+    if after.closes_writes {
+        shutdown.close_writes();
+    }
+    if after.notes_stall {
+        shutdown.note_stall();
+    }
+    if after.hangs_up {
+        shutdown.hang_up();
     }
 }
 

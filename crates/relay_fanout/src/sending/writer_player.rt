@@ -6,7 +6,6 @@ use crate::flow::pace::KnownLevel;
 use crate::flow::round_change::LeftPace;
 use crate::mount::leave::Leave;
 use crate::mount::mount_signal::MountSignal;
-use crate::net::hang_up::HangUp;
 use crate::sending::sent_frames::SentFrames;
 use crate::sending::tap_place::TapPlace;
 use relay_accounts::Handover;
@@ -85,12 +84,11 @@ impl WriterPlayer {
         self.left = None;
     }
 
-    /// Carries out what was decided after a look, but for what needs the line.
+    /// Carries out what was decided after a look, but for what needs the line (`end_streams`).
     pub(super) fn carry_out<T: Leave + Drop>(
         &mut self,
         rt: &impl Wait,
         tap: &mut TapPlace<T>,
-        shutdown: &impl HangUp,
         after: After,
     )
         ensures leaves { after.leaves_pace ≡ true → IsSome self.new.left }
@@ -101,12 +99,6 @@ impl WriterPlayer {
         }
         if after.leaves_tap {
             tap.leave();
-        }
-        if after.notes_stall {
-            shutdown.note_stall();
-        }
-        if after.hangs_up {
-            shutdown.hang_up();
         }
     }
 }

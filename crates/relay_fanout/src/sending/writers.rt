@@ -11,6 +11,7 @@ use crate::sending::player_list::{PlayerList, Wakeups};
 use crate::sending::send_side::SendSide;
 use crate::sending::sweeping::{Found, Share, Sweeping, Swept};
 use crate::sending::waits::Waits;
+use crate::sending::writer_buffers::WriterBuffers;
 use crate::steady_clock::SteadyClock;
 use crate::wake::end_flag::EndFlag;
 use crate::wake::wake_signal::WakeSignal;
@@ -91,8 +92,12 @@ impl<T: Drop, W: Sink + Drop, H: Drop> Drop for Member<T, W, H> {
 }
 
 impl<T, W: Sink, H> Share<Player<T, W, H>> for Member<T, W, H> {
+    ghost use Rattle.std.specs.Prelude.{⊤};
+
+    ghost was_refused = { λ member. ⊤ };
+
     fn share(&self) -> Option<Player<T, W, H>>
-        ensures { IfSome result (λ player. player.number ≡ self.now.player.number) }
+        ensures number { IfSome result (λ player. player.number ≡ self.now.player.number) }
     {
         Some(Player {
             shared: Arc::try_clone(&self.player.shared).ok()?,
@@ -208,7 +213,7 @@ impl<T: Tap + Leave + Drop, W: TrySink + Drop, H: HangUp + Drop> Writers<T, W, H
             return;
         };
         let writers = &self.wake_signal.writers;
-        let mut buf = Vec::new(alloc);
+        let mut buffers = WriterBuffers::new(alloc);
         let mut clock = SteadyClock::new(rt);
         for _ in rt.forever() {
             let word = writers.read(number);
@@ -217,7 +222,7 @@ impl<T: Tap + Leave + Drop, W: TrySink + Drop, H: HangUp + Drop> Writers<T, W, H
                 return;
             }
             let now = clock.read(rt);
-            let swept = self.look_at_all(rt, list, word, &mut buf, now);
+            let swept = self.look_at_all(rt, list, word, &mut buffers, now);
             swept.sleep(rt, writers);
         }
     }
@@ -228,7 +233,7 @@ impl<T: Tap + Leave + Drop, W: TrySink + Drop, H: HangUp + Drop> Writers<T, W, H
         rt: &impl Wait,
         list: &WriterList<T, W, H>,
         word: WordRead,
-        buf: &mut Vec<u8>,
+        buffers: &mut WriterBuffers,
         now: Reading,
     ) -> Swept {
         let mut found = Sweeping::begin(rt, list, word);
@@ -236,7 +241,9 @@ impl<T: Tap + Leave + Drop, W: TrySink + Drop, H: HangUp + Drop> Writers<T, W, H
             match found {
                 Found::NoMore(swept) => return swept,
                 Found::Player(player, at_player) => {
-                    let (next, quiet) = player.shared.look(rt, player.number, buf, now, self.waits);
+                    let (next, quiet) = player
+                        .shared
+                        .look(rt, player.number, buffers, now, self.waits);
                     found = at_player.looked(rt, list, next, quiet);
                 }
             }

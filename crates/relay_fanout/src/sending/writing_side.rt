@@ -2,7 +2,6 @@
 ghost use Rattle.std.specs.Prelude.{◌≡◌};
 ghost use Rattle.relay_fanout.specs.Ways.{HasRoom};
 
-use crate::limits::GATHERED;
 use crate::net::hang_up::HangUp;
 use crate::sending::batch::Line;
 use crate::sending::counted::Counted;
@@ -10,7 +9,7 @@ use crate::sending::gather::{gather, gather_held};
 use crate::sending::marked_line::{LineSkipped, MarkedLine};
 use crate::sending::way::Way;
 use cursor::Lend;
-use interleaved::{FRAME_HEAD, Failed, Gathering, Sink, write_all};
+use interleaved::{Failed, Gathering, Sink, write_all};
 use player::OutStop;
 use relay_accounts::Handover;
 use std::alloc::Global;
@@ -23,26 +22,25 @@ use transport_header::TrackChannels;
 ///
 /// A writer never waits. If the lock is taken, the writer skips the connection and marks it; the thread that gives the lock
 /// back checks the mark afterwards.
+///
+/// Who sends frames lends it a buffer. Where bytes wait that the socket didn't take, it keeps that one until a look leaves none.
 #[derive(Drop)]
 pub struct WritingSide<W: Sink> {
     line: MarkedLine<W>,
-    /// Whether there is a buffer, without which no writer sends frames.
-    pub gathers: bool,
 }
 
 impl<W: Sink + Drop> WritingSide<W> {
-    /// The writing side for frames of at most `longest` bytes of data. Without memory for a buffer each frame is written by
-    /// itself.
-    pub fn new(alloc: Global, sink: W, longest: usize) -> WritingSide<W> {
-        let room = longest.saturating_add(FRAME_HEAD).saturating_add(GATHERED);
-        let (buffer, gathers) = match Vec::from_elem(alloc, 0, room) {
-            Ok(buffer) => (buffer, true),
-            Err(_) => (Vec::new(alloc), false),
-        };
+    /// The writing side over a sink, without a buffer. Takes no memory.
+    pub fn new(alloc: Global, sink: W) -> WritingSide<W> {
+        let line = Gathering::new(Counted::new(sink), Vec::new(alloc));
         WritingSide {
-            line: MarkedLine::new(Gathering::new(Counted::new(sink), buffer)),
-            gathers,
+            line: MarkedLine::new(line),
         }
+    }
+
+    /// Changes its buffer for this one, if no bytes wait.
+    pub(super) fn swap_buffer(&self, rt: &impl Wait, buffer: &mut Vec<u8>) {
+        let _ = self.line.lock(rt).swap_buffer(buffer);
     }
 
     /// Returns the sink, if no thread has it. Else marks it: the thread that has the sink wakes the writers after it gives it back.

@@ -68,9 +68,6 @@ where
         match read_method(request.method.as_slice()) {
             Some(Method::Announce) => self.ask_to_publish(request, &given),
             Some(Method::Play) => {
-                if self.writers.is_some() && !self.player.writing.gathers {
-                    return Err(NoAnswer);
-                }
                 given.points = self.points()?;
                 self.ask_plainly(request, &given)
             }

@@ -147,9 +147,8 @@ where
                 }
             },
         };
-        let longest = shared.maker.packet_bytes();
         let outgoing = Outgoing {
-            writing: WritingSide::new(alloc, writer, longest),
+            writing: WritingSide::new(alloc, writer),
             shutdown: hang_up,
             writers,
         };

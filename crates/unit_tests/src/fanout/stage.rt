@@ -72,7 +72,7 @@ impl<R: Threads + Wait + Clock + Abort + Copy + Drop + Send + Sync + 'static> Mo
     /// Starts the writer.
     pub(crate) fn start_writer(&self, rt: R, alloc: Global) -> JoinHandle<()> {
         let theirs = Arc::try_clone(&self.writers).expect(&rt, "a count of its users");
-        thread::spawn(&rt, move || theirs.write_all(&rt, alloc, 0)).expect(&rt, "a thread")
+        thread::spawn(&rt, move || theirs.write_all(&rt, alloc, 0)).expect(&rt, "memory")
     }
 }
 
@@ -173,7 +173,7 @@ impl<R: Wait + Clock + Abort + Copy + Drop> Seated<R> {
             writes: Arc::try_clone(&writes).expect(&rt, "a count of its users"),
             wait,
         };
-        let line = WritingSide::new(alloc, Writing::new(socket), LONGEST);
+        let line = WritingSide::new(alloc, Writing::new(socket));
         let player = SendSide::new(line, Open);
         player.put(&rt, signal.attached(seat, tap));
         let signal = Arc::try_clone(signal).expect(&rt, "a count of its users");
@@ -198,7 +198,7 @@ impl<R: Wait + Clock + Abort + Copy + Drop> Seated<R> {
         let given = self
             .frames
             .give(rt, &self.player, writers, one_track(), None);
-        assert!(rt; given.is_ok());
+        given.expect(rt, "memory");
     }
 }
 

@@ -123,6 +123,43 @@ fn a_clock_that_fails_for_good_gives_no_player_up(rt: HostRuntime) {
     goes_on_behind_its_rest(Unreadable { rt }, rt.alloc());
 }
 
+/// A player whose socket takes five bytes is at a writer before another one. If memory for the writer's buffers is refused, at most the player
+/// is given up at whose look that is: the other one is sent all.
+fn costs_no_other<R>(rt: R, alloc: Global)
+where
+    R: Threads + Wait + Clock + Abort + Copy + Drop + Send + Sync + 'static,
+{
+    let packets = small_frames(alloc, BEFORE).expect(&rt, "memory");
+    let mut mount = Mount::new(&rt, alloc, 2, 20_000);
+    let mut cut = mount.seat(rt, alloc, 0);
+    let mut other = mount.seat(rt, alloc, 0);
+    for seated in [&cut, &other] {
+        let reserved = seated.bytes.lock(&rt).reserve(FIRST);
+        reserved.expect(&rt, "memory");
+    }
+    publish(&rt, &mut mount.publisher, &mount.signal, packets.as_slice());
+    cut.let_on(Some(5));
+    other.let_on(None);
+    cut.give_to(&rt, &mount.writers);
+    other.give_to(&rt, &mount.writers);
+    let writer = mount.start_writer(rt, alloc);
+    assert!(rt; has_come(&rt, &other.bytes, FIRST, packets.as_slice()));
+    assert!(rt;
+        packets
+            .as_slice()
+            .starts_with(cut.bytes.lock(&rt).as_slice())
+    );
+    let _ = cut.stop(&rt, &mount.writers);
+    let _ = other.stop(&rt, &mount.writers);
+    mount.writers.stop();
+    writer.join(&rt);
+}
+
+#[test]
+fn a_player_without_a_buffer_costs_no_other(rt: HostRuntime) {
+    costs_no_other(rt, rt.alloc());
+}
+
 /// How many packets are published while the socket takes almost nothing.
 const LATE: u16 = 10;
 
