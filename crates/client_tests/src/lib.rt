@@ -12,6 +12,8 @@ mod draws;
 #[cfg(test)]
 mod outcome;
 #[cfg(test)]
+mod pull_block_tests;
+#[cfg(test)]
 mod pull_ends_tests;
 #[cfg(test)]
 mod pull_tests;

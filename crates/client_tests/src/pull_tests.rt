@@ -107,7 +107,7 @@ fn is_recorded(alloc: Global, it: &mut Pulled) -> bool {
 }
 
 /// Returns a try to which frames go on. `None` if one of its requests is another one.
-fn playing(alloc: Global) -> Option<Pulled> {
+pub(crate) fn playing(alloc: Global) -> Option<Pulled> {
     let mut it = Pulled::new(alloc, "rtsp://10.0.0.9/cam?a=1", None)?;
     let all = is_connected(&mut it) && is_set_up(alloc, &mut it) && is_recorded(alloc, &mut it);
     if all { Some(it) } else { None }

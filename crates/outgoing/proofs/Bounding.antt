@@ -6,7 +6,7 @@ use Rattle.request_text.specs.Texts.{head_text, request_of}
 use Rattle.outgoing.specs.Items.{CanPut, Item, Replies, Sends, item_text}
 use Rattle.outgoing.specs.Queues.{IsWithinFirst, Puts, Queue, Waiting, bytes_waiting, texts, waiting_item}
 use Rattle.outgoing.specs.Rooms.{HasGoneWithin}
-use Rattle.outgoing.specs.Runs.{Event, HasGone, puts, takes}
+use Rattle.outgoing.specs.Runs.{Event, HasGone, puts, swaps, takes}
 use Rattle.outgoing.proofs.Running.{all_can, begun_fits, stands_at}
 use Rattle.outgoing.proofs.Texts.{texts-push}
 
@@ -57,4 +57,8 @@ room_bound (puts item ∷ before) queue gone =
 room_bound (takes bytes frames ∷ before) queue gone =
     let small : gone.0.room ≤ 819_196 = room_bound before gone.0 gone.1 in
     let same : queue.room ≡ gone.0.room = gone.3.1.room in
+    omega (arith, small, same)
+room_bound (swaps room ∷ before) queue gone =
+    let small : room ≤ 819_196 = gone.2 in
+    let same : queue.room ≡ room = gone.3.2 in
     omega (arith, small, same)

@@ -82,11 +82,11 @@ within_first begun bytes (mark ∷ marks) whole within =
     omega arith
 
 -- what becomes of the queue then
-pub taken_is : (bytes : List ℕ) (marks new : List Mark) (begun count frames room : ℕ) (taken : Taken) → IsKept bytes marks begun frames
+pub taken_is : (bytes free left_free : List ℕ) (marks new : List Mark) (begun count frames room : ℕ) (taken : Taken) → IsKept bytes marks begun frames
     → DropsWhole (begun + count) taken marks new
-    → Takes count taken.frames (record { items = items_of bytes marks; begun = begun; room = room })
-    (record { items = items_of (drop taken.len bytes) new; begun = begun + count - taken.len; room = room })
-taken_is bytes marks new begun count frames room taken kept drops =
+    → Takes count taken.frames (record { items = items_of bytes marks; begun = begun; room = room; free = free })
+    (record { items = items_of (drop taken.len bytes) new; begun = begun + count - taken.len; room = room; free = left_free })
+taken_is bytes free left_free marks new begun count frames room taken kept drops =
     let gone : List Mark = drops.drops.gone in
     let len : taken.len ≡ lengths gone = drops.drops.len in
     let lengths_are : lengths marks ≡ lengths gone + lengths new = ap lengths drops.drops.parts ∙ sum_by-append (λ (m : Mark). m.len) gone new in
@@ -103,38 +103,39 @@ taken_is bytes marks new begun count frames room taken kept drops =
     }
 
 -- the bytes that wait are the kept bytes, less what was taken
-pub bytes_waiting-kept : (bytes : List ℕ) (marks : List Mark) (begun frames room : ℕ) → IsKept bytes marks begun frames
-    → bytes_waiting (record { items = items_of bytes marks; begun = begun; room = room }) ≡ drop begun bytes
-bytes_waiting-kept bytes marks begun frames room kept = ap (drop begun) (texts-items_of bytes marks kept.whole)
+pub bytes_waiting-kept : (bytes free : List ℕ) (marks : List Mark) (begun frames room : ℕ) → IsKept bytes marks begun frames
+    → bytes_waiting (record { items = items_of bytes marks; begun = begun; room = room; free = free }) ≡ drop begun bytes
+bytes_waiting-kept bytes free marks begun frames room kept = ap (drop begun) (texts-items_of bytes marks kept.whole)
 
 -- what is taken is kept
-pub taking_fits : (bytes : List ℕ) (marks : List Mark) (begun frames room count : ℕ) (queue : Queue) → IsKept bytes marks begun frames
-    → record { items = items_of bytes marks; begun = begun; room = room } ≡ queue → count ≤ length (bytes_waiting queue)
+pub taking_fits : (bytes free : List ℕ) (marks : List Mark) (begun frames room count : ℕ) (queue : Queue) → IsKept bytes marks begun frames
+    → record { items = items_of bytes marks; begun = begun; room = room; free = free } ≡ queue → count ≤ length (bytes_waiting queue)
     → begun + count ≤ lengths marks
-taking_fits bytes marks begun frames room count queue kept is fits =
-    let waits : bytes_waiting queue ≡ drop begun bytes = sym (ap bytes_waiting is) ∙ bytes_waiting-kept bytes marks begun frames room kept in
+taking_fits bytes free marks begun frames room count queue kept is fits =
+    let waits : bytes_waiting queue ≡ drop begun bytes = sym (ap bytes_waiting is) ∙ bytes_waiting-kept bytes free marks begun frames room kept in
     let size : length (bytes_waiting queue) ≡ length bytes - begun = ap length waits ∙ length-drop begun bytes in
     let within : begun ≤ lengths marks = begun_fits begun marks kept.begun_within in
     let whole : lengths marks ≡ length bytes = kept.whole in
     omega (arith, size, within, whole, fits)
 
 -- the queue after a taking
-pub took_is : (bytes left : List ℕ) (marks new : List Mark) (begun count frames room left_room : ℕ) (taken : Taken) (queue : Queue) → IsKept bytes marks begun frames
-    → DropsWhole (begun + count) taken marks new → record { items = items_of bytes marks; begun = begun; room = room } ≡ queue
-    → left ≡ drop taken.len bytes → left_room ≡ room
-    → Takes count taken.frames queue (record { items = items_of left new; begun = begun + count - taken.len; room = left_room })
-took_is bytes left marks new begun count frames room left_room taken queue kept drops is left_is room_is =
-    subst (λ (old : Queue). Takes count taken.frames old (record { items = items_of left new; begun = begun + count - taken.len; room = left_room })) is
-    (subst (λ (l : List ℕ). Takes count taken.frames (record { items = items_of bytes marks; begun = begun; room = room }) (record { items = items_of l new; begun = begun + count - taken.len; room = left_room })) (sym left_is)
-    (subst (λ (n : ℕ). Takes count taken.frames (record { items = items_of bytes marks; begun = begun; room = room }) (record { items = items_of (drop taken.len bytes) new; begun = begun + count - taken.len; room = n })) (sym room_is)
-    (taken_is bytes marks new begun count frames room taken kept drops)))
+pub took_is : (bytes left free left_free : List ℕ) (marks new : List Mark) (begun count frames room left_room : ℕ) (taken : Taken) (queue : Queue)
+    → IsKept bytes marks begun frames → DropsWhole (begun + count) taken marks new
+    → record { items = items_of bytes marks; begun = begun; room = room; free = free } ≡ queue → left ≡ drop taken.len bytes → left_room ≡ room
+    → Takes count taken.frames queue (record { items = items_of left new; begun = begun + count - taken.len; room = left_room; free = left_free })
+took_is bytes left free left_free marks new begun count frames room left_room taken queue kept drops is left_is room_is =
+    let old : Queue = record { items = items_of bytes marks; begun = begun; room = room; free = free } in
+    subst (λ (queue : Queue). Takes count taken.frames queue (record { items = items_of left new; begun = begun + count - taken.len; room = left_room; free = left_free })) is
+    (subst (λ (l : List ℕ). Takes count taken.frames old (record { items = items_of l new; begun = begun + count - taken.len; room = left_room; free = left_free })) (sym left_is)
+    (subst (λ (n : ℕ). Takes count taken.frames old (record { items = items_of (drop taken.len bytes) new; begun = begun + count - taken.len; room = n; free = left_free })) (sym room_is)
+    (taken_is bytes free left_free marks new begun count frames room taken kept drops)))
 
 -- the queue after a put
-pub put_is : (bytes text after : List ℕ) (marks new : List Mark) (mark : Mark) (begun frames room new_room : ℕ) (queue : Queue) → IsKept bytes marks begun frames
-    → record { items = items_of bytes marks; begun = begun; room = room } ≡ queue → mark.len ≡ length text
+pub put_is : (bytes text after free new_free : List ℕ) (marks new : List Mark) (mark : Mark) (begun frames room new_room : ℕ) (queue : Queue) → IsKept bytes marks begun frames
+    → record { items = items_of bytes marks; begun = begun; room = room; free = free } ≡ queue → mark.len ≡ length text
     → after ≡ bytes ++ text → new ≡ marks ++ mark ∷ [] → new_room ≤ max room (2 * length after)
-    → Puts (item text mark.is_frame) queue (record { items = items_of after new; begun = begun; room = new_room })
-put_is bytes text after marks new mark begun frames room new_room queue kept is len after_is new_is bound =
+    → Puts (item text mark.is_frame) queue (record { items = items_of after new; begun = begun; room = new_room; free = new_free })
+put_is bytes text after free new_free marks new mark begun frames room new_room queue kept is len after_is new_is bound =
     let whole : lengths marks ≡ length bytes = kept.whole in
     let lengths_are : lengths new ≡ lengths marks + mark.len = ap lengths new_is ∙ sum_by_push (λ (m : Mark). m.len) marks mark in
     let long : length after ≡ length bytes + length text = ap length after_is ∙ length-append bytes text in

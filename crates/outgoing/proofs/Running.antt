@@ -9,7 +9,7 @@ use Rattle.request_text.specs.Sending.{CanSend, Sent, sent_text, sent_unit}
 use Rattle.request_text.proofs.Messages.{all_read}
 use Rattle.outgoing.specs.Items.{CanPut, Item, Sends, is_frame, item_text}
 use Rattle.outgoing.specs.Queues.{IsWithinFirst, Puts, Queue, Takes, Waiting, bytes_waiting, frame_count, texts, waiting_item}
-use Rattle.outgoing.specs.Runs.{AreWhole, Event, HasGone, IsCutAt, bytes_taken, frames_taken, items_put, puts, takes, texts_of}
+use Rattle.outgoing.specs.Runs.{AreWhole, Event, Goes, HasGone, IsCutAt, bytes_taken, frames_taken, items_put, puts, swaps, takes, texts_of}
 use Rattle.outgoing.proofs.Texts.{bytes_waiting-put, frame_count-map, some_text, texts-map}
 
 -- where a run stands: of the items that were put, these are gone and the others wait
@@ -91,10 +91,24 @@ after_taking bytes frames before old new stands waits taken =
       begun = taken.begun;
     }
 
+after_swap : (room : ℕ) (before : List Event) (old new : Queue) → Stands before old → Goes (swaps room) old new → Stands (swaps room ∷ before) new
+after_swap room before old new stands swap = record {
+  whole = stands.whole;
+  others = stands.others;
+  parts = stands.parts;
+  items = swap.0 ∙ stands.items;
+  stream = ap (λ (n : ℕ). bytes_taken before ++ drop n (texts new.items)) swap.1 ∙ ap (λ (l : List Waiting). bytes_taken before ++ drop old.begun (texts l)) swap.0
+      ∙ stands.stream;
+  size = stands.size ∙ ap (λ (n : ℕ). length (texts_of stands.whole) + n) (sym swap.1);
+  frames = stands.frames;
+  begun = subst (λ (n : ℕ). IsWithinFirst n new.items) (sym swap.1) (subst (λ (l : List Waiting). IsWithinFirst old.begun l) (sym swap.0) stands.begun);
+}
+
 pub stands_at : (events : List Event) (queue : Queue) → HasGone events queue → Stands events queue
 stands_at [] queue gone = at_start queue gone.items gone.begun
 stands_at (puts item ∷ before) queue gone = after_put item before gone.0 queue (stands_at before gone.0 gone.1) gone.2.1
 stands_at (takes bytes frames ∷ before) queue gone = after_taking bytes frames before gone.0 queue (stands_at before gone.0 gone.1) gone.2.0 gone.2.1
+stands_at (swaps room ∷ before) queue gone = after_swap room before gone.0 queue (stands_at before gone.0 gone.1) gone.2
 
 pub stream_is : (events : List Event) (queue : Queue) → HasGone events queue → bytes_taken events ++ bytes_waiting queue ≡ texts_of (items_put events)
 stream_is events queue gone = (stands_at events queue gone).stream
@@ -129,6 +143,7 @@ pub all_can : (events : List Event) (queue : Queue) → HasGone events queue →
 all_can [] queue gone = tt
 all_can (puts item ∷ before) queue gone = all_push (items_put before) item (all_can before gone.0 gone.1) gone.2.0
 all_can (takes bytes frames ∷ before) queue gone = all_can before gone.0 gone.1
+all_can (swaps room ∷ before) queue gone = all_can before gone.0 gone.1
 
 all_send : (sent : List Sent) → AllByRecursion CanPut (map Sends sent) → AllByRecursion CanSend sent
 all_send [] all = tt

@@ -1,9 +1,10 @@
 -- The texts of items, and the bytes that wait.
-use Rattle.std.proofs.Common.{◌≡◌, ℕ, ◌+◌, ◌<◌, ◌≤◌, cond, List, [], ◌∷◌, ◌++◌, length, drop, map, refl, sym, ap, ◌∙◌, arith, append-nil, length-append}
+use Rattle.std.proofs.Common.{◌≡◌, ℕ, ◌+◌, ◌-◌, ◌<◌, ◌≤◌, cond, List, [], ◌∷◌, ◌++◌, length, drop, map, refl, sym, take, ap, ◌∙◌, arith, append-nil, length-append, length-drop}
 use Rattle.std.specs.List.{count_by, flat_map}
-use Rattle.std.proofs.lemmas.List.{drop-append-le, drop-drop, drop_at}
+use Rattle.std.proofs.lemmas.List.{drop-append-le, drop-drop, drop_at, length-take-le}
 use Rattle.std.proofs.lemmas.List.Concat.{flat_map-append}
 use Rattle.std.proofs.lemmas.List.Sums.{sum_by-cons}
+use Rattle.interleaved.specs.Frame.{FrameBegins, frame_of, head_of}
 use Rattle.rtsp_message.specs.Reply.{cseq_field, status_line}
 use Rattle.rtsp_message.specs.Reply as replies
 use Rattle.request_text.specs.Fields.{field_text, line_end}
@@ -61,3 +62,15 @@ bytes_waiting-taken count frames old new taken =
     ∙ ap (λ (n : ℕ). drop n (gone ++ rest)) (sym places) ∙ sym (drop-drop new.begun (length gone) (gone ++ rest))
     ∙ ap (drop new.begun) (drop_at gone rest (length gone) refl) in
     sym dropped
+
+-- a frame has its four bytes
+pub frame_head_fits : (bytes : List ℕ) (len : ℕ) → FrameBegins bytes len → 4 ≤ len
+frame_head_fits bytes len begins = omega (arith, ap length begins.3.2, length-take-le len bytes begins.0)
+
+-- the text of a frame that is in place, with another head
+pub frame_in_place : (bytes head : List ℕ) (len channel size : ℕ) → FrameBegins bytes len → head ≡ head_of channel size → size ≡ len - 4
+    → head ++ drop (length head) (take len bytes) ≡ frame_of channel (drop 4 (take len bytes))
+frame_in_place bytes head len channel size begins head_is size_is =
+    let payload : List ℕ = drop 4 (take len bytes) in
+    let long : size ≡ length payload = omega (arith, size_is, length-drop 4 (take len bytes), length-take-le len bytes begins.0) in
+    ap (λ (l : List ℕ). l ++ drop (length l) (take len bytes)) head_is ∙ ap (λ (n : ℕ). head_of channel n ++ payload) long

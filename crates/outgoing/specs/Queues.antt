@@ -8,11 +8,13 @@ pub record Waiting : Type 0 where
   pub text : List ℕ
   pub is_frame : Bool
 
--- The items that wait, in order; how many bytes of the first one were taken; and for how many bytes there is memory.
+-- The items that wait, in order; how many bytes of the first one were taken; for how many bytes there is memory; and the room after the
+-- items, whatever is in it.
 pub record Queue : Type 0 where
   pub items : List Waiting
   pub begun : ℕ
   pub room : ℕ
+  pub free : List ℕ
 
 abbrev pub waiting_item : Item → Waiting
 waiting_item item = record { text = item_text item; is_frame = is_frame item }

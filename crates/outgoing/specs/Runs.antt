@@ -9,11 +9,14 @@ pub data Event : Type 0 where
   puts : (item : Item) → Event
   -- the system takes these bytes, and with them the last bytes of this number of frames
   takes : (bytes : List ℕ) (frames : ℕ) → Event
+  -- another block is taken for what waits, with memory for this number of bytes
+  swaps : (room : ℕ) → Event
 
 -- what becomes of the queue
 abbrev pub Goes : Event → (old new : Queue) → Type 0
 Goes (puts item) old new = CanPut item × Puts (waiting_item item) old new
 Goes (takes bytes frames) old new = (bytes_waiting old ≡ bytes ++ bytes_waiting new) × Takes (length bytes) frames old new
+Goes (swaps room) old new = (new.items ≡ old.items) × (new.begun ≡ old.begun) × (new.room ≡ room)
 
 -- A queue is this after these events, of which the last one is the first of the list.
 abbrev pub HasGone : List Event → Queue → Type 0
@@ -25,18 +28,21 @@ abbrev pub items_put : List Event → List Item
 items_put [] = []
 items_put (puts item ∷ before) = items_put before ++ item ∷ []
 items_put (takes bytes frames ∷ before) = items_put before
+items_put (swaps room ∷ before) = items_put before
 
 -- all bytes that were taken, in order
 abbrev pub bytes_taken : List Event → List ℕ
 bytes_taken [] = []
 bytes_taken (puts item ∷ before) = bytes_taken before
 bytes_taken (takes bytes frames ∷ before) = bytes_taken before ++ bytes
+bytes_taken (swaps room ∷ before) = bytes_taken before
 
 -- how many frames were counted as taken
 abbrev pub frames_taken : List Event → ℕ
 frames_taken [] = 0
 frames_taken (puts item ∷ before) = frames_taken before
 frames_taken (takes bytes frames ∷ before) = frames_taken before + frames
+frames_taken (swaps room ∷ before) = frames_taken before
 
 abbrev pub texts_of : List Item → List ℕ
 texts_of items = flat_map item_text items

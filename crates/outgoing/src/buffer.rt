@@ -3,6 +3,7 @@ ghost use Rattle.std.specs.Prelude.{◌≡◌, ◌+◌, ◌*◌, ◌≤◌, ◌+
 
 use std::alloc::{AllocError, Global};
 use std::marker::Model;
+use std::mem;
 
 /// Bytes that are appended at the end and dropped at the front.
 #[derive(Drop)]
@@ -15,12 +16,12 @@ pub(crate) struct Buffer {
 }
 
 impl Model for Buffer {
-    ghost use Rattle.std.specs.Prelude.{◌≡◌, ◌≤◌, ◌-◌, length, vec_capacity};
+    ghost use Rattle.std.specs.Prelude.{◌≡◌, ◌≤◌, drop, length, vec_capacity};
     ghost use Rattle.outgoing.specs.Buffers.{BufferState, stretch};
 
     ghost Value = { BufferState };
 
-    ghost view = { λ b. record { bytes = stretch b.block.items b.first b.end; free = length b.block.items - b.end; room = vec_capacity b.block } };
+    ghost view = { λ b. record { bytes = stretch b.block.items b.first b.end; free = drop b.end b.block.items; room = vec_capacity b.block } };
 
     ghost invariant = { λ b. (b.first ≤ b.end) × (b.end ≤ length b.block.items) };
 }
@@ -28,7 +29,7 @@ impl Model for Buffer {
 impl Buffer {
     /// Returns a buffer without bytes. Takes no memory.
     pub(crate) fn new(alloc: Global) -> Buffer
-        ensures { result ≡ record { bytes = []; free = 0; room = 0 } }
+        ensures { result ≡ record { bytes = []; free = []; room = 0 } }
     {
         Buffer {
             block: Vec::new(alloc),
@@ -62,6 +63,8 @@ impl Buffer {
     pub(crate) fn append(&mut self, head: &[u8], tail: &[u8]) -> Result<(), AllocError>
         ensures bytes { OnOk result (self.new.bytes ≡ self.old.bytes ++ (head.now ++ tail.now)) }
         ensures room { OnOk result (self.new.room ≤ max self.old.room (2 * length self.new.bytes)) }
+        ensures free { OnOk result (length head.now + length tail.now ≤ length self.old.free
+            → self.new.free ≡ drop (length head.now + length tail.now) self.old.free) }
         ensures err { OnErr result (self.new ≡ self.old) }
     {
         self.reserve(head.len() + tail.len())?;
@@ -72,7 +75,8 @@ impl Buffer {
     /// Makes room for more bytes. If there is none, it moves to a block of twice the length that its bytes have then.
     fn reserve(&mut self, more: usize) -> Result<(), AllocError>
         ensures bytes { self.new.bytes ≡ self.old.bytes }
-        ensures free { OnOk result (more ≤ self.new.free) }
+        ensures free { OnOk result (more ≤ length self.new.free) }
+        ensures fits { more ≤ length self.old.free → self.new ≡ self.old }
         ensures room { OnOk result (self.new.room ≤ max self.old.room (2 * (length self.old.bytes + more))) }
         ensures err { OnErr result (self.new ≡ self.old) }
     {
@@ -91,11 +95,43 @@ impl Buffer {
 
     /// Appends both into the room that there is.
     fn append_reserved(&mut self, head: &[u8], tail: &[u8])
-        requires { length head.now + length tail.now ≤ self.old.free }
+        requires { length head.now + length tail.now ≤ length self.old.free }
         ensures bytes { self.new.bytes ≡ self.old.bytes ++ (head.now ++ tail.now) }
+        ensures free { self.new.free ≡ drop (length head.now + length tail.now) self.old.free }
         ensures room { self.new.room ≡ self.old.room }
     {
         self.end = put_both(&mut self.block, self.end, head, tail);
+    }
+
+    /// Drops its bytes, and takes another block in place of its own.
+    pub(crate) fn swap(&mut self, block: &mut Vec<u8>)
+        ensures bytes { self.new.bytes ≡ [] }
+        ensures free { self.new.free ≡ block.old.items }
+        ensures room { self.new.room ≡ vec_capacity block.old }
+        ensures block { length self.old.free ≤ length block.new.items }
+    {
+        mem::swap(&mut self.block, block);
+        self.first = 0;
+        self.end = 0;
+    }
+
+    /// Returns the room after its bytes.
+    pub(crate) fn free(&self) -> &[u8]
+        ensures { result.now ≡ self.now.free }
+    {
+        &self.block[self.end..]
+    }
+
+    /// Appends this number of the bytes that are after its own, the first of them overwritten by the head.
+    pub(crate) fn extend(&mut self, head: &[u8], len: usize)
+        requires head { length head.now ≤ len }
+        requires within { len ≤ length self.old.free }
+        ensures bytes { self.new.bytes ≡ self.old.bytes ++ (head.now ++ drop (length head.now) (take len self.old.free)) }
+        ensures free { self.new.free ≡ drop len self.old.free }
+        ensures room { self.new.room ≡ self.old.room }
+    {
+        let _end = put_at(&mut self.block, self.end, head);
+        self.end += len;
     }
 
     /// Drops the first bytes. The others are moved to the block's front once they are at most as many as were dropped there.
@@ -144,6 +180,7 @@ fn put_at(block: &mut [u8], at: usize, bytes: &[u8]) -> usize
     requires { at + length bytes.now ≤ length block.old }
     ensures end { result ≡ at + length bytes.now }
     ensures front { take result block.new ≡ take at block.old ++ bytes.now }
+    ensures back { drop result block.new ≡ drop result block.old }
 {
     let end = at + bytes.len();
     block[at..end].copy_from_slice(bytes);
@@ -155,6 +192,7 @@ fn put_both(block: &mut [u8], at: usize, head: &[u8], tail: &[u8]) -> usize
     requires { at + (length head.now + length tail.now) ≤ length block.old }
     ensures end { result ≡ at + (length head.now + length tail.now) }
     ensures front { take result block.new ≡ take at block.old ++ (head.now ++ tail.now) }
+    ensures back { drop result block.new ≡ drop result block.old }
 {
     let middle = put_at(block, at, head);
     put_at(block, middle, tail)

@@ -24,8 +24,8 @@ pub fn readers()
         → Reads (bytes_taken events ++ bytes_waiting queue) (map sent_unit sent) (Waits []) }
 {}
 
-/// If items are put only while it isn't full, it holds memory for at most 819,196 bytes of texts: twice 262,143 that wait, an
-/// item of 73,728 more, and 73,727 of the first item that were taken.
+/// If items are put only while it isn't full, and no block that it takes has more, it holds memory for at most 819,196 bytes of
+/// texts: twice 262,143 that wait, an item of 73,728 more, and 73,727 of the first item that were taken.
 pub fn rooms()
     ensures { (events : List Event) (queue : Queue) → HasGoneWithin events queue → queue.room ≤ 819_196 }
 {}

@@ -1,5 +1,6 @@
 //! What waits to be written on a client's connection.
-ghost use Rattle.std.specs.Prelude.{◌≡◌, ◌↔◌, ◌+◌, ◌<◌, ◌≤◌, ◌^◌, ◌++◌, [], drop, length, IfErr, IsTrue, OnErr, OnOk};
+ghost use Rattle.std.specs.Prelude.{◌≡◌, ◌↔◌, ◌+◌, ◌<◌, ◌≤◌, ◌^◌, ◌++◌, [], drop, length, take, true, vec_capacity, IfErr, IsTrue, OnErr, OnOk};
+ghost use Rattle.interleaved.specs.Frame.{FrameBegins};
 ghost use Rattle.request_text.specs.Faults.{IsFault};
 ghost use Rattle.request_text.specs.Sending.{Asking, Framed};
 ghost use Rattle.outgoing.specs.Items.{CanPut, Replies, Sends};
@@ -7,7 +8,7 @@ ghost use Rattle.outgoing.specs.Queues.{Puts, Takes, bytes_waiting, frame_count,
 
 use crate::buffer::Buffer;
 use crate::marks::{Mark, drop_whole};
-use interleaved::{PutFault, frame_head};
+use interleaved::{FRAME_HEAD, PutFault, frame_head};
 use request_text::{RequestFault, RequestText, put_request};
 use rtsp_message::{Status, put_plain};
 use std::alloc::{AllocError, Global};
@@ -37,7 +38,7 @@ impl Model for Outgoing {
 
     ghost Value = { Queue };
 
-    ghost view = { λ o. record { items = items_of o.buffer.bytes o.marks.items; begun = o.begun; room = o.buffer.room } };
+    ghost view = { λ o. record { items = items_of o.buffer.bytes o.marks.items; begun = o.begun; room = o.buffer.room; free = o.buffer.free } };
 
     ghost invariant = { λ o. IsKept o.buffer.bytes o.marks.items o.begun o.frames };
 }
@@ -45,7 +46,7 @@ impl Model for Outgoing {
 impl Outgoing {
     /// Returns a queue in which nothing waits. Takes no memory.
     pub fn new(alloc: Global) -> Outgoing
-        ensures { result ≡ record { items = []; begun = 0; room = 0 } }
+        ensures { result ≡ record { items = []; begun = 0; room = 0; free = [] } }
     {
         Outgoing {
             buffer: Buffer::new(alloc),
@@ -98,6 +99,8 @@ impl Outgoing {
     fn put(&mut self, head: &[u8], tail: &[u8], is_frame: bool) -> Result<(), AllocError>
         requires { 0 < length head.now + length tail.now }
         ensures ok { OnOk result (Puts (record { text = head.now ++ tail.now; is_frame = is_frame }) self.old self.new) }
+        ensures free { OnOk result (length head.now + length tail.now ≤ length self.old.free
+            → self.new.free ≡ drop (length head.now + length tail.now) self.old.free) }
         ensures err { OnErr result (self.new ≡ self.old) }
     {
         let mark = Mark {
@@ -109,6 +112,62 @@ impl Outgoing {
         self.marks.push_back_reserved(mark);
         self.frames += mark.frames();
         Ok(())
+    }
+
+    /// Appends a frame that is in the room after what waits, `at` bytes after it, but on this channel. Its bytes are copied only if `at`
+    /// isn't 0. After an error nothing changed.
+    pub fn put_in_place(&mut self, at: usize, len: usize, channel: u8) -> Result<(), PutFault>
+        requires { FrameBegins (drop at self.old.free) len }
+        ensures ok { OnOk result (Puts (waiting_item (Sends (Framed (record { channel = channel; payload = drop 4 (take len (drop at self.old.free)) })))) self.old self.new) }
+        ensures sendable { OnOk result (CanPut (Sends (Framed (record { channel = channel; payload = drop 4 (take len (drop at self.old.free)) })))) }
+        ensures free { OnOk result (drop at self.new.free ≡ drop (at + len) self.old.free) }
+        ensures err { OnErr result (self.new ≡ self.old) }
+    {
+        let Ok(size) = u16::try_from(len - FRAME_HEAD) else {
+            return Err(PutFault::TooLong);
+        };
+        let head = frame_head(channel, size);
+        if at == 0 {
+            self.adopt(&head, len)?;
+        } else {
+            self.put_from(at, &head, len)?;
+        }
+        Ok(())
+    }
+
+    /// Appends the first bytes of the room after what waits as a frame with this head.
+    fn adopt(&mut self, head: &[u8], len: usize) -> Result<(), AllocError>
+        requires head { 0 < length head.now }
+        requires len { length head.now ≤ len }
+        requires within { len ≤ length self.old.free }
+        ensures ok { OnOk result (Puts (record { text = head.now ++ drop (length head.now) (take len self.old.free); is_frame = true }) self.old self.new) }
+        ensures free { OnOk result (self.new.free ≡ drop len self.old.free) }
+        ensures err { OnErr result (self.new ≡ self.old) }
+    {
+        let frame = Mark {
+            len,
+            is_frame: true,
+        };
+        self.marks.reserve(1)?;
+        self.buffer.extend(head, len);
+        self.marks.push_back_reserved(frame);
+        self.frames += 1;
+        Ok(())
+    }
+
+    /// Appends bytes of the room after what waits, `at` bytes after it, as a frame with this head.
+    fn put_from(&mut self, at: usize, head: &[u8], len: usize) -> Result<(), AllocError>
+        requires head { 0 < length head.now }
+        requires len { length head.now ≤ len }
+        requires within { at + len ≤ length self.old.free }
+        ensures ok { OnOk result (Puts (record { text = head.now ++ drop (length head.now) (take len (drop at self.old.free)); is_frame = true }) self.old self.new) }
+        ensures free { OnOk result (drop at self.new.free ≡ drop (at + len) self.old.free) }
+        ensures err { OnErr result (self.new ≡ self.old) }
+    {
+        let alloc = *self.marks.allocator();
+        let tail = &self.buffer.free()[at + head.len()..at + len];
+        let tail = Vec::from_slice(alloc, tail)?;
+        self.put(head, tail.as_slice(), true)
     }
 
     /// Returns the bytes that wait.
@@ -148,6 +207,29 @@ impl Outgoing {
         self.waiting().len() >= MOST_WAITING_BYTES
     }
 
+    /// Returns whether nothing waits.
+    pub fn is_empty(&self) -> bool
+        ensures { IsTrue result ↔ (self.now.items ≡ []) }
+    {
+        self.marks.is_empty()
+    }
+
+    /// Returns the room after what waits. What is in it isn't sent.
+    pub fn free(&self) -> &[u8]
+        ensures { result.now ≡ self.now.free }
+    {
+        self.buffer.free()
+    }
+
+    /// Takes another block in place of its own, if nothing waits. All of it is free then.
+    pub fn swap(&mut self, block: &mut Vec<u8>)
+        requires { self.old.items ≡ [] }
+        ensures same { self.new ≡ record self.old { room = vec_capacity block.old; free = block.old.items } }
+        ensures block { length self.old.free ≤ length block.new.items }
+    {
+        self.buffer.swap(block);
+    }
+
     /// Returns for how many bytes it holds memory. A put makes that at most twice the bytes of the items that wait then, if it
     /// wasn't more before.
     pub fn room(&self) -> usize
@@ -158,7 +240,7 @@ impl Outgoing {
 
     /// Drops everything that waits, and keeps the memory.
     pub fn clear(&mut self)
-        ensures { self.new ≡ record { items = []; begun = 0; room = self.old.room } }
+        ensures { self.new ≡ record { items = []; begun = 0; room = self.old.room; free = self.new.free } }
     {
         self.buffer.clear();
         self.marks.clear();

@@ -1,5 +1,5 @@
 -- What becomes of what a source sends, unit by unit.
-use Rattle.std.proofs.Common.{◌≡◌, List, [], ◌∷◌, ◌++◌, refl, subst, sym}
+use Rattle.std.proofs.Common.{List, [], ◌∷◌, ◌++◌, refl, subst}
 use Rattle.rtsp_message.specs.declared.unit.Unit.{Unit as StreamUnit}
 use Rattle.rtsp_client.specs.Clients.{State}
 use Rattle.outgoing.specs.Queues.{Queue}

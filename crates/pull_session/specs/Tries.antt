@@ -25,6 +25,6 @@ line_of Target session = session.target
 abbrev pub new_line : Line
 new_line = record {
   reader = record { peer = Server; state = nothing_fed };
-  waiting = record { items = []; begun = 0; room = 0 };
+  waiting = record { items = []; begun = 0; room = 0; free = [] };
   is_closed = false;
 }

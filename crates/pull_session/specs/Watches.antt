@@ -1,6 +1,5 @@
 -- The times of a try, in milliseconds of one clock.
-use Rattle.std.specs.Prelude.{◌≡◌, ◌+◌, ◌-◌, ◌≤◌, ◌<◌, ℕ, Bool, true, false, Option, Some, None, if◌then◌else◌, nat_le, nat_lt}
-use Rattle.pull_session.specs.declared.watch.Watch.{Watch}
+use Rattle.std.specs.Prelude.{◌+◌, ◌-◌, ℕ, Bool, true, false, Option, Some, None, if◌then◌else◌, nat_le}
 
 -- Something that happened at a moment is at least this long ago. Nothing happened: it isn't.
 abbrev pub is_ago : Option ℕ → (least now : ℕ) → Bool

@@ -11,6 +11,7 @@ mod login;
 mod note;
 mod offer;
 mod options;
+mod passing;
 mod reading;
 mod reason;
 mod replies;
@@ -19,6 +20,7 @@ mod tracks;
 mod unsent;
 mod watch;
 
+pub use limits::BLOCK_BYTES;
 pub use note::{Note, Notes};
 pub use options::PullOptions;
 pub use reason::{DescriptionFault, LoginFault, Reason};

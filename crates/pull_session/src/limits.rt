@@ -14,3 +14,6 @@ pub(crate) const MOST_ASKS: usize = 4;
 
 /// How many notes are kept for the program. Further ones are dropped.
 pub(crate) const MOST_NOTES: usize = 64;
+
+/// Blocks of this length or longer are exchanged, in bytes, and this number of bytes is read of the source at a time.
+pub const BLOCK_BYTES: usize = 65_536;

@@ -1,6 +1,7 @@
 //! What servers send.
 
 ghost use Rattle.std.specs.Prelude.{◌≡◌, ◌⊎◌, Some, None, IsSome};
+ghost use Rattle.rtsp_client.specs.Clients.{State};
 ghost use Rattle.rtsp_client.specs.declared.asked.Side.TheVariants.{Source};
 ghost use Rattle.pull_session.specs.Passing.{Passes, StaysUnread, TakesUnit, TakesUnits};
 
@@ -25,17 +26,24 @@ impl PullSession {
     }
 
     /// These bytes of the source came.
-    fn read_source(&mut self, bytes: &[u8], now: u64)
+    pub(crate) fn read_source(&mut self, bytes: &[u8], now: u64)
         ensures { Passes bytes.now self.old self.new ⊎ StaysUnread self.old self.new }
     {
         match self.source_line.reader.feed(bytes) {
-            Ok(Fed { units, fault }) => {
-                self.take_source_units(units, now);
-                if let Some(fault) = fault {
-                    self.fault_source(fault);
-                }
-            }
+            Ok(fed) => self.take_fed(fed, now),
             Err(_) => self.fail(Reason::OutOfMemory, Side::Source),
+        }
+    }
+
+    /// Takes what was read of the source.
+    pub(crate) fn take_fed(&mut self, fed: Fed, now: u64)
+        ensures takes { (client : State) × TakesUnits fed.units.items self.old.client client self.old.target.waiting self.new.target.waiting }
+        ensures source { self.new.source.reader ≡ self.old.source.reader }
+    {
+        let Fed { units, fault } = fed;
+        self.take_source_units(units, now);
+        if let Some(fault) = fault {
+            self.fault_source(fault);
         }
     }
 

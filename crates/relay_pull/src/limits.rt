@@ -3,9 +3,6 @@
 /// How long a connection to one address may take to be made, in milliseconds.
 pub(crate) const CONNECT_WAIT: u64 = 5_000;
 
-/// How many bytes are read at a time.
-pub(crate) const READ_BYTES: usize = 65_536;
-
 /// How many times each side is read and written before the clock, the stop and the system's events are looked at again.
 pub(crate) const MOST_ROUNDS: usize = 16;
 

@@ -1,5 +1,5 @@
 //! One try.
-use crate::limits::{LOOK_WAIT, READ_BYTES};
+use crate::limits::LOOK_WAIT;
 use crate::line::{Line, Track};
 use crate::plan::Plan;
 use crate::station::Station;
@@ -8,7 +8,7 @@ use crate::turn::turn;
 use crate::wires::Wires;
 use base_syntax::Bytes;
 use pull_plan::{Away, Figures, FrameTimes, ReportTimes};
-use pull_session::{Note, PullSession, Reason};
+use pull_session::{BLOCK_BYTES, Note, PullSession, Reason};
 use rtsp_auth::Credentials;
 use rtsp_client::End;
 use source_urls::{Source, Target, read_source, read_target};
@@ -54,13 +54,17 @@ pub(crate) fn run_try<S: Station>(
     password: &Option<Bytes>,
     away_since: Option<u64>,
 ) -> Tried {
-    let (mut wires, session) = match begin(station, alloc, plan, password) {
+    let (mut wires, mut session) = match begin(station, alloc, plan, password) {
         Ok(begun) => begun,
         Err(end) => return Tried::nothing(end),
     };
-    let Ok(buf) = vec![in alloc; 0u8; READ_BYTES] else {
+    let Ok(buf) = vec![in alloc; 0u8; BLOCK_BYTES] else {
         return Tried::nothing(TryEnd::OutOfMemory);
     };
+    let Ok(block) = vec![in alloc; 0u8; BLOCK_BYTES] else {
+        return Tried::nothing(TryEnd::OutOfMemory);
+    };
+    session.give_block(block);
     let reports = ReportTimes::new(plan.report, station.now());
     let mut trying = Trying {
         session,

@@ -8,4 +8,4 @@ pub returns : goal.returns
 returns c =
     let inside = c.self.inside in
     take_rest c.as_slice.result.now inside.begun ∙ ap (drop inside.begun) c.as_slice.ensures
-    ∙ sym (bytes_waiting-kept inside.buffer.bytes inside.marks.items inside.begun inside.frames inside.buffer.room c.self.invariant) ∙ ap bytes_waiting c.self.view_is
+    ∙ sym (bytes_waiting-kept inside.buffer.bytes inside.buffer.free inside.marks.items inside.begun inside.frames inside.buffer.room c.self.invariant) ∙ ap bytes_waiting c.self.view_is

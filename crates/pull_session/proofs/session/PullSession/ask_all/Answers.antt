@@ -1,4 +1,4 @@
-use Rattle.std.proofs.Common.{◌≡◌, ℕ, List, subst, ◌∙◌}
+use Rattle.std.proofs.Common.{ℕ, List, subst, ◌∙◌}
 use Rattle.pull_session.specs.Asks.{PutsRequests}
 use Rattle.pull_session.proofs.Putting.{puts_more}
 use Rattle.pull_session.proofs.session.PullSession.ask_all.Goals as goal

@@ -1,4 +1,4 @@
-use Rattle.std.proofs.Common.{rules, ◌≡◌, subst, ap}
+use Rattle.std.proofs.Common.{rules, subst, ap}
 use Rattle.std.specs.Result.{OnOk}
 use Rattle.outgoing.specs.Queues.{Queue}
 use Rattle.pull_session.specs.Asks.{PutsRequests}

@@ -1,0 +1,22 @@
+use Rattle.std.proofs.Common.{◌≡◌, ◌-◌, ◌≤◌, ◌++◌, List, drop, map, take}
+use Rattle.interleaved.specs.declared.frame.Frame.{Frame as Block}
+use Rattle.rtsp_message.specs.declared.unit.Unit.TheVariants.{Frame}
+use Rattle.pull_session.specs.Blocks.{AreFrames}
+use Rattle.pull_session.specs.Passing.{TakesUnits}
+use Rattle.pull_session.proofs.session.PullSession.pass_frames.Given as goal
+
+-- the frames up to a place were taken, and the others are as they were
+abbrev pub invariant-loop-from : goal.invariant-loop-from
+invariant-loop-from l = record {
+  within : l.from ≤ l.fn.len;
+  rest : drop l.at l.self.target.waiting.free ≡ drop l.from l.fn.self.target.waiting.free;
+  done : List Block;
+  left : List Block;
+  all : AreFrames (take l.fn.len l.fn.self.target.waiting.free) (done ++ left);
+  ahead : AreFrames (drop l.from (take l.fn.len l.fn.self.target.waiting.free)) left;
+  takes : TakesUnits (map Frame done) l.fn.self.client l.self.client l.fn.self.target.waiting l.self.target.waiting;
+  source : l.self.source ≡ l.fn.self.source;
+}
+
+abbrev pub decreases-loop-from : goal.decreases-loop-from
+decreases-loop-from l = l.fn.len - l.from
