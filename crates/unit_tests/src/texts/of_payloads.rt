@@ -162,8 +162,9 @@ fn long_frames(alloc: Global) -> Result<Vec<u8>, AllocError> {
     Ok(stream)
 }
 
-/// A read of 50,000 bytes ends within a frame. What is fed next is that frame's end alone, and then whole frames again, 13 of
-/// them in 16,384 bytes: an intake that lost its step would feed 2,048 bytes each time, one or two frames.
+/// Reads of 4,096 bytes, twice as many each time, and then of 50,000, each but the last end within a frame. What is fed next is that
+/// frame's end alone, and then whole frames again, 13 of them in 16,384 bytes: an intake that lost its step would feed 2,048 bytes each
+/// time, one or two frames.
 #[test]
 fn parts_are_whole_frames_again_after_a_frame_in_two_reads(rt: HostRuntime) -> Result<(), Fail> {
     let source = ListSource::new(long_frames(rt.alloc())?, 50_000, None);
@@ -177,9 +178,10 @@ fn parts_are_whole_frames_again_after_a_frame_in_two_reads(rt: HostRuntime) -> R
         }
     }
     assert!(rt; matches!(intake.next(), Next::End));
-    // Parts of frames in each of five reads: the end of the last read's frame, 13 frames as often as more than 16,384 bytes are
-    // at hand, and the frames of the rest. 13, 13, 13, 2; 1, 13, 13, 13, 2; 1, 13, 13, 13, 1; 1, 13, 13, 13, 2; 1, 13, 13, 7.
-    assert_eq!(rt; parts, 4 + 5 + 5 + 5 + 4);
+    // Parts of frames in each of eight reads, of 4,096, 8,192, 16,384, 32,768, three times 50,000 and 29,360 bytes: the end of the last
+    // read's frame, 13 frames as often as more than 16,384 bytes are at hand, and the frames of the rest. 3; 1, 6; 1, 12; 1, 13, 13, 1;
+    // 1, 13, 13, 13, 1; 1, 13, 13, 13, 2; 1, 13, 13, 13, 1; 1, 13, 11.
+    assert_eq!(rt; parts, 1 + 2 + 2 + 4 + 5 + 5 + 5 + 3);
     Ok(())
 }
 
