@@ -1,11 +1,13 @@
 """Whoever reads gets every packet: bursts, slow and stalled neighbours, and players that begin some packets back."""
 import concurrent.futures
 import contextlib
+import pathlib
 import subprocess
 import sys
 import time
 
-from peers import GATHER, MODES, OPTIONS, OUT, Camera, Frame, Peer, Player, Reply, counts, ending, frame, packet, until, wanted
+from leaving import has_descriptors
+from peers import GATHER, MODES, OPTIONS, OUT, Camera, Frame, Peer, Player, Reply, counts, ending, frame, packet, serving, until, wanted
 
 # A ring keeps so many packets, and a burst has so many more that its publisher has to wait some twenty times. Were it not woken in
 # each, the time that it may wait would be used up after four.
@@ -457,6 +459,43 @@ def stays(camera, player, back, during):
         yield from replied(player, method)
 
 
+# How many players have no packets beside one that reads those of another mount, one after the other, how many it reads, and how many times
+# the processors' time of that one alone they may cost. A sweep that passes over them costs up to 1.3 times as much; compiled with a
+# sanitizer it was 2.7 times, and 16 by a sweep that looks at each of them.
+QUIET, SINGLE, COST = 600, 250, 2
+
+
+def processor(server):
+    """The seconds of processors that its threads have taken."""
+    tasks = pathlib.Path(f"/proc/{server.pid}/task").iterdir()
+    return sum(int((task / "schedstat").read_text().split()[0]) for task in tasks) / 1e9
+
+
+def cost_of_singles(server, camera, player, first):
+    """The seconds of processors for packets that are read one after the other, the first of this number."""
+    begun = processor(server)
+    for number in range(first, first + SINGLE):
+        camera.publish([number])
+        if player.numbers(1) != [number]:
+            raise AssertionError(f"{number} isn't read")
+    return processor(server) - begun
+
+
+def quiet_players_cost_little(program):
+    """Players of mounts without packets cost the writers of another mount little: a sweep passes over them."""
+    if not has_descriptors(quiet_players_cost_little):
+        return
+    with serving(program, "--seats", str(QUIET)) as server, contextlib.ExitStack() as peers:
+        camera, player = peers.enter_context(Camera(server)), peers.enter_context(Player(server))
+        alone = min(cost_of_singles(server, camera, player, first) for first in (0, SINGLE))
+        peers.enter_context(Camera(server, "quiet"))
+        for _ in range(QUIET):
+            peers.enter_context(Player(server, "quiet"))
+        beside = min(cost_of_singles(server, camera, player, first) for first in (2 * SINGLE, 3 * SINGLE))
+        if beside > COST * alone:
+            yield f"{1000 * beside:.0f} ms of processors, and {1000 * alone:.0f} without them"
+
+
 LONG = []
 
 PARTS = [
@@ -468,3 +507,4 @@ PARTS = [
 ]
 
 ALONE = [(part, mode) for part in (slow_players_cost_no_other, full_batches_gather_no_longer, single_packets_come_at_once, batches_after_one_gather_no_longer) for mode in MODES]
+ALONE += [(quiet_players_cost_little, ())]

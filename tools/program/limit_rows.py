@@ -21,7 +21,7 @@ INSIDE = {
     "proxy_header": "LOCAL PROXY BLOCK_HEAD",
     "process_figures": "TICK PAGE_BYTES",
     "pull_plan": "SCHEME_BYTES",
-    "pull_session": "MOST_ASKS BLOCK_BYTES",
+    "pull_session": "MOST_ASKS",
     "publisher": "FIXED_HEADER SOURCE VERSION",
     "relay_fanout": "YIELDS QUIET NOTIFIED URGENT",
     "relay_log": "OTHERS",

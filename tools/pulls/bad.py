@@ -29,7 +29,8 @@ def described(length, body):
 class Bad:
     """A source that sends `once`, and then `ever` again and again with a pause of `pause` seconds, in place of the reply to the request `at`;
     to PLAY it replies first, unless `is_mute`. `reason` is what a try of it ends for, or None if the try goes on; with `may_go_on` it ends so or goes on.
-    It reads nothing meanwhile, unless `reads`. `challenge` is what it asks for with each 401, where `NONCE` is a new one."""
+    It reads nothing meanwhile, unless `reads`. `challenge` is what it asks for with each 401, where `NONCE` is a new one. The target reads
+    nothing after it has replied if it `is_stalled`, and each second for a moment if it `pauses`."""
 
     name: str
     at: str
@@ -43,6 +44,7 @@ class Bad:
     challenge: str = ""
     is_redirect: bool = False
     is_stalled: bool = False
+    pauses: bool = False
 
 
 SILENT, NO_REPLY, LONG, REFUSED = "no frame for 10 s", "no reply to DESCRIBE", "stream fault", "password refused"
@@ -86,6 +88,8 @@ SOURCES = (
     Bad("empty frames on a track's channel", "PLAY", None, ever=EMPTY, pause=PAUSE),
     Bad("frames without a pause while the target reads nothing", "PLAY", STALLED, ever=USUAL * 500, is_stalled=True),
     Bad("empty frames while the target reads nothing", "PLAY", STALLED, ever=EMPTY, pause=PAUSE, is_stalled=True),
+    Bad("frames without a pause, and the target reads for a moment each second", "PLAY", None, ever=USUAL * 500, pauses=True),
+    Bad("frames of 65,535 bytes, and the target reads so too", "PLAY", None, ever=frame(rtp(1, 65_535)) * 10, pauses=True),
     Bad("a redirect to itself", "", "more than 3 redirects", is_redirect=True),
     Bad("401 for ever, each with a new nonce", "", REFUSED, challenge='Digest realm="cam", nonce="NONCE"'),
     Bad("401 for ever, each nonce stale", "", REFUSED, challenge='Digest realm="cam", nonce="NONCE", stale=true'),
