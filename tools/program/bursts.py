@@ -459,39 +459,50 @@ def stays(camera, player, back, during):
         yield from replied(player, method)
 
 
-# How many players have no packets beside one that reads those of another mount, one after the other, how many it reads, and how many times
-# the processors' time of that one alone they may cost. A sweep that passes over them costs up to 1.3 times as much; compiled with a
-# sanitizer it was 2.7 times, and 16 by a sweep that looks at each of them.
-QUIET, SINGLE, COST = 600, 250, 2
+# How many players of a mount get no packets.
+QUIET = 600
+
+# How many packets a player of another mount reads, one after the other.
+SINGLE = 250
+
+# How many times the writers' processor time of that player alone it may be beside the others. A sweep that passes over them takes up to 1.3
+# times. A build with a sanitizer, which isn't tried here, took 2.7 times, and 16 times with a sweep that looks at each of them.
+COST = 2
 
 
-def processor(server):
-    """The seconds of processors that its threads have taken."""
-    tasks = pathlib.Path(f"/proc/{server.pid}/task").iterdir()
-    return sum(int((task / "schedstat").read_text().split()[0]) for task in tasks) / 1e9
+def threads_of(server):
+    """The threads that a server has now."""
+    return list(pathlib.Path(f"/proc/{server.pid}/task").iterdir())
 
 
-def cost_of_singles(server, camera, player, first):
+def processor(threads):
+    """The seconds of processors that these threads have taken."""
+    return sum(int((it / "schedstat").read_text().split()[0]) for it in threads) / 1e9
+
+
+def cost_of_singles(threads, camera, player, first):
     """The seconds of processors for packets that are read one after the other, the first of this number."""
-    begun = processor(server)
+    begun = processor(threads)
     for number in range(first, first + SINGLE):
         camera.publish([number])
         if player.numbers(1) != [number]:
             raise AssertionError(f"{number} isn't read")
-    return processor(server) - begun
+    return processor(threads) - begun
 
 
 def quiet_players_cost_little(program):
-    """Players of mounts without packets cost the writers of another mount little: a sweep passes over them."""
+    """Players of a mount without packets cost the writers of another mount little: a sweep passes over them."""
     if not has_descriptors(quiet_players_cost_little):
         return
     with serving(program, "--seats", str(QUIET)) as server, contextlib.ExitStack() as peers:
         camera, player = peers.enter_context(Camera(server)), peers.enter_context(Player(server))
-        alone = min(cost_of_singles(server, camera, player, first) for first in (0, SINGLE))
+        # The threads that read the quiet players' connections come later.
+        threads = threads_of(server)
+        alone = min(cost_of_singles(threads, camera, player, first) for first in (0, SINGLE))
         peers.enter_context(Camera(server, "quiet"))
         for _ in range(QUIET):
             peers.enter_context(Player(server, "quiet"))
-        beside = min(cost_of_singles(server, camera, player, first) for first in (2 * SINGLE, 3 * SINGLE))
+        beside = min(cost_of_singles(threads, camera, player, first) for first in (2 * SINGLE, 3 * SINGLE))
         if beside > COST * alone:
             yield f"{1000 * beside:.0f} ms of processors, and {1000 * alone:.0f} without them"
 

@@ -30,7 +30,7 @@ class Bad:
     """A source that sends `once`, and then `ever` again and again with a pause of `pause` seconds, in place of the reply to the request `at`;
     to PLAY it replies first, unless `is_mute`. `reason` is what a try of it ends for, or None if the try goes on; with `may_go_on` it ends so or goes on.
     It reads nothing meanwhile, unless `reads`. `challenge` is what it asks for with each 401, where `NONCE` is a new one. The target reads
-    nothing after it has replied if it `is_stalled`, and each second for a moment if it `pauses`."""
+    nothing after it has replied if it `is_stalled`, and for 0.1 seconds of each second if it `pauses`."""
 
     name: str
     at: str
@@ -88,8 +88,8 @@ SOURCES = (
     Bad("empty frames on a track's channel", "PLAY", None, ever=EMPTY, pause=PAUSE),
     Bad("frames without a pause while the target reads nothing", "PLAY", STALLED, ever=USUAL * 500, is_stalled=True),
     Bad("empty frames while the target reads nothing", "PLAY", STALLED, ever=EMPTY, pause=PAUSE, is_stalled=True),
-    Bad("frames without a pause, and the target reads for a moment each second", "PLAY", None, ever=USUAL * 500, pauses=True),
-    Bad("frames of 65,535 bytes, and the target reads so too", "PLAY", None, ever=frame(rtp(1, 65_535)) * 10, pauses=True),
+    Bad("frames without a pause, the target reads for 0.1 s of each second", "PLAY", None, ever=USUAL * 500, pauses=True),
+    Bad("frames of 65,535 bytes, the target reads for 0.1 s of each second", "PLAY", None, ever=frame(rtp(1, 65_535)) * 10, pauses=True),
     Bad("a redirect to itself", "", "more than 3 redirects", is_redirect=True),
     Bad("401 for ever, each with a new nonce", "", REFUSED, challenge='Digest realm="cam", nonce="NONCE"'),
     Bad("401 for ever, each nonce stale", "", REFUSED, challenge='Digest realm="cam", nonce="NONCE", stale=true'),

@@ -35,6 +35,20 @@ impl HangUp for Open {
     fn limit_waits(&self, _wait: u64) {}
 }
 
+/// A connection that counts how often it is hung up.
+#[derive(Drop)]
+pub struct HangUps(pub Count);
+
+impl HangUp for HangUps {
+    fn hang_up(&self) {
+        self.0.fetch_add(1, Ordering::SeqCst);
+    }
+
+    fn close_writes(&self) {}
+
+    fn limit_waits(&self, _wait: u64) {}
+}
+
 /// Waits until at least `least` bytes were written and `end` is the end of them, for at most 10,000 turns of a
 /// millisecond.
 pub fn has_come<R: Wait + Clock>(rt: &R, bytes: &Bytes, least: usize, end: &[u8]) -> bool {

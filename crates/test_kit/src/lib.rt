@@ -4,5 +4,5 @@
 mod devices;
 mod kept;
 
-pub use devices::{Bytes, Count, FRAME, Open, PACKET, count, has_come, wait_for};
+pub use devices::{Bytes, Count, FRAME, HangUps, Open, PACKET, count, has_come, wait_for};
 pub use kept::Kept;

@@ -2,6 +2,7 @@
 use cursor::Left;
 use interleaved::{TryWrite, Writing};
 use packet_ring::{Pass, Publisher, Subscriber};
+use relay_accounts::FrameEnd;
 use relay_fanout::{
     Maker, MountSignal, RingMaker, SeatHold, SendSide, TapPlace, Waits, WakeSignal, Writers,
     WritingSide,
@@ -14,7 +15,7 @@ use std::sync::{Arc, Mutex, Wait};
 use std::thread::{JoinHandle, Threads};
 use std::time::{Clock, Duration};
 use std::{io, thread};
-use test_kit::{Bytes, Count, Open, count};
+use test_kit::{Bytes, Count, HangUps, count};
 use transport_header::{ChannelPair, TrackChannels};
 
 /// The most bytes of a packet's frame.
@@ -117,9 +118,9 @@ impl<R: Wait + Clock> Write for Valve<R> {
 
 impl<R: Wait + Clock> TryWrite for Valve<R> {}
 
-pub(crate) type Player<R> = SendSide<Subscriber, Writing<Valve<R>>, Open>;
+pub(crate) type Player<R> = SendSide<Subscriber, Writing<Valve<R>>, HangUps>;
 
-pub(crate) type Writer<R> = Writers<Subscriber, Writing<Valve<R>>, Open>;
+pub(crate) type Writer<R> = Writers<Subscriber, Writing<Valve<R>>, HangUps>;
 
 /// A player in its seat, and what is shared with its socket.
 #[derive(Drop)]
@@ -133,6 +134,8 @@ pub(crate) struct Seated<R: Wait + Clock + Drop> {
     /// How many of them may go on: all, unless it is set.
     pub(crate) may_go_on: Count,
     pub(crate) writes: Count,
+    /// How often its connection was hung up.
+    pub(crate) hang_ups: Count,
 }
 
 /// Track 0 on channels 0 and 1.
@@ -174,7 +177,9 @@ impl<R: Wait + Clock + Abort + Copy + Drop> Seated<R> {
             wait,
         };
         let line = WritingSide::new(alloc, Writing::new(socket));
-        let player = SendSide::new(line, Open);
+        let hang_ups = count(alloc).expect(&rt, "memory");
+        let theirs = Arc::try_clone(&hang_ups).expect(&rt, "a count of its users");
+        let player = SendSide::new(line, HangUps(theirs));
         player.put(&rt, signal.attached(seat, tap));
         let signal = Arc::try_clone(signal).expect(&rt, "a count of its users");
         Seated {
@@ -185,6 +190,7 @@ impl<R: Wait + Clock + Abort + Copy + Drop> Seated<R> {
             came,
             may_go_on,
             writes,
+            hang_ups,
         }
     }
 
@@ -213,8 +219,13 @@ impl<R: Threads + Wait + Clock + Abort + Copy + Drop + Send + Sync + 'static> Se
 
     /// Takes it from the writer or thread that sends its frames. Returns where its tap is then.
     pub(crate) fn stop(mut self, rt: &R, writers: &Writer<R>) -> TapPlace<Subscriber> {
-        let _ = self.frames.join(rt, &*self.player, Some(writers));
+        let _ = self.end(rt, writers);
         self.player.take(rt)
+    }
+
+    /// Takes it from the writer or thread that sends its frames. Returns how these ended.
+    pub(crate) fn end(&mut self, rt: &R, writers: &Writer<R>) -> FrameEnd {
+        self.frames.join(rt, &*self.player, Some(writers)).end
     }
 
     /// Returns the account of a player whose mount has ended, after its frames have ended.

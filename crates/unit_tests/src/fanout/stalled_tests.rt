@@ -3,6 +3,7 @@ use crate::fanout::packets::{number_in, small_frames};
 use crate::fanout::stage::{KEEP, LONGEST, Mount, Seated};
 use crate::fanout::unreadable::Unreadable;
 use cursor::{Feed, Left};
+use relay_accounts::FrameEnd;
 use relay_fanout::{Maker, MountFeed, MountSignal, TapPlace};
 use std::alloc::Global;
 use std::process::Abort;
@@ -124,7 +125,7 @@ fn a_clock_that_fails_for_good_gives_no_player_up(rt: HostRuntime) {
 }
 
 /// A player whose socket takes five bytes is at a writer before another one. If memory for the writer's buffers is refused, at most the player
-/// is given up at whose look that is: the other one is sent all.
+/// is given up at whose look that is, and its connection is hung up once: the other one is sent all, and so is the first if it wasn't given up.
 fn costs_no_other<R>(rt: R, alloc: Global)
 where
     R: Threads + Wait + Clock + Abort + Copy + Drop + Send + Sync + 'static,
@@ -149,6 +150,12 @@ where
             .as_slice()
             .starts_with(cut.bytes.lock(&rt).as_slice())
     );
+    let hang_ups = cut.hang_ups.load(Ordering::SeqCst);
+    cut.let_on(None);
+    assert!(rt; hang_ups > 0 || has_come(&rt, &cut.bytes, FIRST, packets.as_slice()));
+    let is_given_up = cut.end(&rt, &mount.writers) == FrameEnd::OutOfMemory;
+    assert!(rt; hang_ups == u64::from(is_given_up));
+    assert!(rt; other.hang_ups.load(Ordering::SeqCst) == 0);
     let _ = cut.stop(&rt, &mount.writers);
     let _ = other.stop(&rt, &mount.writers);
     mount.writers.stop();
