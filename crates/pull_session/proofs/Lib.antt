@@ -1,3 +1,4 @@
 pub mod Blocks
 pub mod Putting
 pub mod Units
+pub mod Losing

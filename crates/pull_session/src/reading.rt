@@ -1,9 +1,8 @@
 //! What servers send.
 
 ghost use Rattle.std.specs.Prelude.{◌≡◌, ◌⊎◌, Some, None, IsSome};
-ghost use Rattle.rtsp_client.specs.Clients.{State};
 ghost use Rattle.rtsp_client.specs.declared.asked.Side.TheVariants.{Source};
-ghost use Rattle.pull_session.specs.Passing.{Passes, StaysUnread, TakesUnit, TakesUnits};
+ghost use Rattle.pull_session.specs.Passing.{EndsByFault, PassState, Passes, StaysUnread, TakesUnit, TakesUnits, pass_state};
 
 use crate::reason::Reason;
 use crate::session::PullSession;
@@ -13,7 +12,7 @@ use rtsp_message::{Fault, Fed, Received, Request, Status, Unit};
 impl PullSession {
     /// These bytes of a side came at this moment. After the client's end they are dropped.
     pub fn read(&mut self, side: Side, bytes: &[u8], now: u64)
-        ensures frames { side ≡ Source → self.old.client.end ≡ None → Passes bytes.now self.old self.new ⊎ StaysUnread self.old self.new }
+        ensures frames { side ≡ Source → self.old.client.end ≡ None → Passes bytes.now now self.old self.new ⊎ StaysUnread self.old self.new }
         ensures ended { IsSome self.old.client.end → self.new ≡ self.old }
     {
         if self.client.end().is_some() {
@@ -27,7 +26,7 @@ impl PullSession {
 
     /// These bytes of the source came.
     pub(crate) fn read_source(&mut self, bytes: &[u8], now: u64)
-        ensures { Passes bytes.now self.old self.new ⊎ StaysUnread self.old self.new }
+        ensures { Passes bytes.now now self.old self.new ⊎ StaysUnread self.old self.new }
     {
         match self.source_line.reader.feed(bytes) {
             Ok(fed) => self.take_fed(fed, now),
@@ -37,7 +36,7 @@ impl PullSession {
 
     /// Takes what was read of the source.
     pub(crate) fn take_fed(&mut self, fed: Fed, now: u64)
-        ensures takes { (client : State) × TakesUnits fed.units.items self.old.client client self.old.target.waiting self.new.target.waiting }
+        ensures takes { (after : PassState) × TakesUnits fed.units.items now (pass_state self.old) after × EndsByFault fed.fault after (pass_state self.new) }
         ensures source { self.new.source.reader ≡ self.old.source.reader }
     {
         let Fed { units, fault } = fed;
@@ -49,6 +48,7 @@ impl PullSession {
 
     /// The source's stream can't be read on. After a redirect that of the old connection doesn't matter any more.
     fn fault_source(&mut self, fault: Fault)
+        ensures ends { EndsByFault (Some fault) (pass_state self.old) (pass_state self.new) }
         ensures source { self.new.source ≡ self.old.source }
         ensures target { self.new.target ≡ self.old.target }
     {
@@ -74,7 +74,7 @@ impl PullSession {
 
     /// Takes what the source sent.
     fn take_source_units(&mut self, units: Vec<Unit>, now: u64)
-        ensures takes { TakesUnits units.items self.old.client self.new.client self.old.target.waiting self.new.target.waiting }
+        ensures takes { TakesUnits units.items now (pass_state self.old) (pass_state self.new) }
         ensures source { self.new.source.reader ≡ self.old.source.reader }
         ensures reader { self.new.target.reader ≡ self.old.target.reader }
     {
@@ -85,7 +85,7 @@ impl PullSession {
 
     /// Takes a frame or a message of the source.
     fn take_source_unit(&mut self, unit: Unit, now: u64)
-        ensures takes { TakesUnit unit self.old.client self.new.client self.old.target.waiting self.new.target.waiting }
+        ensures takes { TakesUnit unit now (pass_state self.old) (pass_state self.new) }
         ensures source { self.new.source.reader ≡ self.old.source.reader }
         ensures reader { self.new.target.reader ≡ self.old.target.reader }
     {
@@ -105,6 +105,7 @@ impl PullSession {
     /// Takes a message of a side. After a redirect what the old connection still brings is dropped.
     fn take_message(&mut self, side: Side, unit: Unit, now: u64)
         ensures target { side ≡ Source → self.new.target ≡ self.old.target }
+        ensures watch { self.new.watch ≡ self.old.watch }
         ensures reader { self.new.target.reader ≡ self.old.target.reader }
         ensures source { self.new.source.reader ≡ self.old.source.reader }
     {
@@ -121,6 +122,7 @@ impl PullSession {
     /// Replies to a request of a server. While too much waits for that server, its requests have no reply.
     fn take_request(&mut self, side: Side, request: &Request)
         ensures target { side ≡ Source → self.new.target ≡ self.old.target }
+        ensures watch { self.new.watch ≡ self.old.watch }
         ensures reader { self.new.target.reader ≡ self.old.target.reader }
         ensures source { self.new.source.reader ≡ self.old.source.reader }
     {

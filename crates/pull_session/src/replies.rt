@@ -37,6 +37,7 @@ impl PullSession {
     pub(crate) fn take_reply(&mut self, side: Side, reply: &Response, now: u64)
         ensures target { self.new.target ≡ self.old.target }
         ensures source { self.new.source ≡ self.old.source }
+        ensures watch { self.new.watch ≡ self.old.watch }
     {
         let Ok(facts) = ReplyFacts::of(self.alloc, headers_of(reply)) else {
             self.fail(Reason::OutOfMemory, side);
@@ -61,6 +62,7 @@ impl PullSession {
     fn read_description(&mut self, reply: &Response)
         ensures target { self.new.target ≡ self.old.target }
         ensures source { self.new.source ≡ self.old.source }
+        ensures watch { self.new.watch ≡ self.old.watch }
     {
         match source_sdp::read(self.alloc, reply.body.as_slice()) {
             Ok(description) => self.take_description(reply, description),
@@ -75,6 +77,7 @@ impl PullSession {
     fn take_description(&mut self, reply: &Response, description: SourceDescription)
         ensures target { self.new.target ≡ self.old.target }
         ensures source { self.new.source ≡ self.old.source }
+        ensures watch { self.new.watch ≡ self.old.watch }
     {
         let base = base_of(
             field(reply, b"Content-Base"),
@@ -97,6 +100,7 @@ impl PullSession {
     fn follow(&mut self, reply: &Response)
         ensures target { self.new.target ≡ self.old.target }
         ensures source { self.new.source ≡ self.old.source }
+        ensures watch { self.new.watch ≡ self.old.watch }
     {
         let Some(place) = field(reply, b"Location") else {
             self.fail(Reason::BadRedirect(None), Side::Source);
@@ -113,6 +117,7 @@ impl PullSession {
     fn answer(&mut self, reply: &Response)
         ensures target { self.new.target ≡ self.old.target }
         ensures source { self.new.source ≡ self.old.source }
+        ensures watch { self.new.watch ≡ self.old.watch }
     {
         let host = self.place.host.as_slice();
         match self.login.challenge(self.alloc, reply, host) {
