@@ -1,5 +1,5 @@
 -- A frame for which there is no memory.
-use Rattle.std.proofs.Common.{◌≡◌, ℕ, Some, sym, ap, subst, ◌∙◌}
+use Rattle.std.proofs.Common.{◌≡◌, ℕ, sym, ap, subst, ◌∙◌}
 use Rattle.std.specs.Prelude.{IsSome}
 use Rattle.interleaved.specs.declared.frame.Frame.{Frame as Block}
 use Rattle.rtsp_client.specs.Clients.{State}
