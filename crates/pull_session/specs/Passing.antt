@@ -1,5 +1,5 @@
 -- How the frames of a source go on to the target (RFC 2326, 10.12).
-use Rattle.std.specs.Prelude.{◌≡◌, ◌⊎◌, ℕ, true, false, List, [], ◌∷◌, ◌++◌, Option, Some, None, drop, IsSome}
+use Rattle.std.specs.Prelude.{◌≡◌, ◌⊎◌, ℕ, true, false, List, [], ◌∷◌, ◌++◌, Option, Some, None, drop, length, nat_lt, IsSome}
 use Rattle.interleaved.specs.declared.frame.Frame.{Frame as Block}
 use Rattle.sequence_counts.specs.Header.{HasFixedHeader}
 use Rattle.rtsp_message.specs.declared.fault.Fault.{Fault}
@@ -19,6 +19,7 @@ use Rattle.rtsp_client.specs.declared.passage.Passage.{Passage}
 use Rattle.outgoing.specs.Items.{Sends}
 use Rattle.outgoing.specs.Queues.{Queue, Takes, Waiting, bytes_waiting, waiting_item}
 use Rattle.pull_session.specs.Tries.{Try}
+use Rattle.pull_session.specs.Watches.{waiting_since}
 use Rattle.pull_session.specs.declared.watch.Watch.{Watch}
 
 -- What is put to the target for a frame: a frame of the same bytes on the target's channel of its track if it goes on, and else nothing.
@@ -109,10 +110,12 @@ pub record StaysUnread (old new : Try) : Type 0 where
   pub reader : new.source.reader ≡ old.source.reader
   pub ends : OnlyEnds (pass_state old) (pass_state new)
 
--- The target's system took this number of the bytes that waited: the frames whose last byte it took are counted as sent.
+-- The target's system took this number of the bytes that waited: the frames whose last byte it took are counted as sent. Since when it has
+-- taken none while some wait is as by *waiting_since*.
 pub record TakesBytes (count now : ℕ) (old new : Try) : Type 0 where
   pub frames : ℕ
   pub takes : Takes count frames old.target.waiting new.target.waiting
   pub bytes : bytes_waiting new.target.waiting ≡ drop count (bytes_waiting old.target.waiting)
   pub counted : new.client ≡ after_sent frames now old.client
+  pub watch : new.watch ≡ record old.watch { taken = waiting_since (nat_lt 0 (length (bytes_waiting new.target.waiting))) (nat_lt 0 count) old.watch.taken now }
   pub others : new.source ≡ old.source

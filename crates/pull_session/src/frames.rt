@@ -13,6 +13,7 @@ impl PullSession {
         ensures taken { TakesFrame frame.now now (pass_state self.old) (pass_state self.new) ⊎ LosesFrame frame.now now (pass_state self.old) (pass_state self.new) }
         ensures source { self.new.source ≡ self.old.source }
         ensures reader { self.new.target.reader ≡ self.old.target.reader }
+        ensures mount { self.new.mount ≡ self.old.mount }
     {
         let payload = frame.payload.as_slice();
         match self.count_frame(frame) {
@@ -36,6 +37,7 @@ impl PullSession {
         ensures watch { self.new.watch ≡ self.old.watch }
         ensures source { self.new.source ≡ self.old.source }
         ensures target { self.new.target ≡ self.old.target }
+        ensures mount { self.new.mount ≡ self.old.mount }
     {
         self.client.frame(frame.channel, frame.payload.as_slice())
     }

@@ -44,6 +44,7 @@ impl PullSession {
         ensures ended { IsSome self.old.client.end → self.new ≡ self.old }
         ensures long { min 65_536 (length block.old.items) ≤ length block.new.items }
         ensures room { vec_capacity block.new ≤ max (vec_capacity block.old) self.old.target.waiting.room }
+        ensures mount { self.new.mount ≡ self.old.mount }
     {
         if self.client.end().is_some() {
             return;
@@ -90,6 +91,7 @@ impl PullSession {
         ensures passes { Passes (take count block.old.items) now (with_block (vec_capacity block.old) block.old.items self.old) self.new ⊎ StaysUnread self.old self.new }
         ensures long { min 65_536 (length block.old.items) ≤ length block.new.items }
         ensures block_room { vec_capacity block.new ≤ max (vec_capacity block.old) self.old.target.waiting.room }
+        ensures mount { self.new.mount ≡ self.old.mount }
     {
         match self.source_line.reader.feed(&block[len..count]) {
             Ok(fed) => {
@@ -108,6 +110,7 @@ impl PullSession {
         ensures takes { (frames : List Block) × AreFrames (take len self.old.target.waiting.free) frames
             × TakesUnits (map Frame frames) now (pass_state self.old) (pass_state self.new) }
         ensures source { self.new.source ≡ self.old.source }
+        ensures mount { self.new.mount ≡ self.old.mount }
     {
         let mut from = 0;
         let mut at = 0;
@@ -127,6 +130,7 @@ impl PullSession {
             ⊎ LosesFrame (frame_in (take size (drop at self.old.target.waiting.free))) now (pass_state self.old) (pass_state self.new) }
         ensures next { drop result self.new.target.waiting.free ≡ drop (at + size) self.old.target.waiting.free }
         ensures source { self.new.source ≡ self.old.source }
+        ensures mount { self.new.mount ≡ self.old.mount }
     {
         // Its length bounds the sum.
         let _room = self.target_line.waiting.free().len();
@@ -156,6 +160,7 @@ impl PullSession {
         ensures watch { self.new.watch ≡ self.old.watch }
         ensures source { self.new.source ≡ self.old.source }
         ensures target { self.new.target ≡ self.old.target }
+        ensures mount { self.new.mount ≡ self.old.mount }
     {
         let frame = &self.target_line.waiting.free()[at..at + size];
         self.client.frame(frame[1], &frame[FRAME_HEAD..])

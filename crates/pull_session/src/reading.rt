@@ -14,6 +14,7 @@ impl PullSession {
     pub fn read(&mut self, side: Side, bytes: &[u8], now: u64)
         ensures frames { side ≡ Source → self.old.client.end ≡ None → Passes bytes.now now self.old self.new ⊎ StaysUnread self.old self.new }
         ensures ended { IsSome self.old.client.end → self.new ≡ self.old }
+        ensures mount { self.new.mount ≡ self.old.mount }
     {
         if self.client.end().is_some() {
             return;
@@ -26,7 +27,8 @@ impl PullSession {
 
     /// These bytes of the source came.
     pub(crate) fn read_source(&mut self, bytes: &[u8], now: u64)
-        ensures { Passes bytes.now now self.old self.new ⊎ StaysUnread self.old self.new }
+        ensures frames { Passes bytes.now now self.old self.new ⊎ StaysUnread self.old self.new }
+        ensures mount { self.new.mount ≡ self.old.mount }
     {
         match self.source_line.reader.feed(bytes) {
             Ok(fed) => self.take_fed(fed, now),
@@ -38,6 +40,7 @@ impl PullSession {
     pub(crate) fn take_fed(&mut self, fed: Fed, now: u64)
         ensures takes { (after : PassState) × TakesUnits fed.units.items now (pass_state self.old) after × EndsByFault fed.fault after (pass_state self.new) }
         ensures source { self.new.source.reader ≡ self.old.source.reader }
+        ensures mount { self.new.mount ≡ self.old.mount }
     {
         let Fed { units, fault } = fed;
         self.take_source_units(units, now);
@@ -51,6 +54,7 @@ impl PullSession {
         ensures ends { EndsByFault (Some fault) (pass_state self.old) (pass_state self.new) }
         ensures source { self.new.source ≡ self.old.source }
         ensures target { self.new.target ≡ self.old.target }
+        ensures mount { self.new.mount ≡ self.old.mount }
     {
         if self.next_place.is_none() {
             let side = Side::Source;
@@ -59,7 +63,9 @@ impl PullSession {
     }
 
     /// These bytes of the target came.
-    fn read_target(&mut self, bytes: &[u8], now: u64) {
+    fn read_target(&mut self, bytes: &[u8], now: u64)
+        ensures mount { self.new.mount ≡ self.old.mount }
+    {
         match self.target_line.reader.feed(bytes) {
             Ok(Fed { units, fault }) => {
                 self.take_target_units(units, now);
@@ -77,6 +83,7 @@ impl PullSession {
         ensures takes { TakesUnits units.items now (pass_state self.old) (pass_state self.new) }
         ensures source { self.new.source.reader ≡ self.old.source.reader }
         ensures reader { self.new.target.reader ≡ self.old.target.reader }
+        ensures mount { self.new.mount ≡ self.old.mount }
     {
         for unit in units {
             self.take_source_unit(unit, now);
@@ -88,6 +95,7 @@ impl PullSession {
         ensures takes { TakesUnit unit now (pass_state self.old) (pass_state self.new) }
         ensures source { self.new.source.reader ≡ self.old.source.reader }
         ensures reader { self.new.target.reader ≡ self.old.target.reader }
+        ensures mount { self.new.mount ≡ self.old.mount }
     {
         match unit {
             Unit::Frame(frame) => self.take_frame(&frame, now),
@@ -96,7 +104,9 @@ impl PullSession {
     }
 
     /// Takes what the target sent. Frames of it are dropped.
-    fn take_target_units(&mut self, units: Vec<Unit>, now: u64) {
+    fn take_target_units(&mut self, units: Vec<Unit>, now: u64)
+        ensures mount { self.new.mount ≡ self.old.mount }
+    {
         for unit in units {
             self.take_message(Side::Target, unit, now);
         }
@@ -108,6 +118,7 @@ impl PullSession {
         ensures watch { self.new.watch ≡ self.old.watch }
         ensures reader { self.new.target.reader ≡ self.old.target.reader }
         ensures source { self.new.source.reader ≡ self.old.source.reader }
+        ensures mount { self.new.mount ≡ self.old.mount }
     {
         if side == Side::Source && self.next_place.is_some() {
             return;
@@ -125,6 +136,7 @@ impl PullSession {
         ensures watch { self.new.watch ≡ self.old.watch }
         ensures reader { self.new.target.reader ≡ self.old.target.reader }
         ensures source { self.new.source.reader ≡ self.old.source.reader }
+        ensures mount { self.new.mount ≡ self.old.mount }
     {
         if self.line(side).waiting.is_full() {
             return;

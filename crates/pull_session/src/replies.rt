@@ -38,6 +38,7 @@ impl PullSession {
         ensures target { self.new.target ≡ self.old.target }
         ensures source { self.new.source ≡ self.old.source }
         ensures watch { self.new.watch ≡ self.old.watch }
+        ensures mount { self.new.mount ≡ self.old.mount }
     {
         let Ok(facts) = ReplyFacts::of(self.alloc, headers_of(reply)) else {
             self.fail(Reason::OutOfMemory, side);
@@ -63,6 +64,7 @@ impl PullSession {
         ensures target { self.new.target ≡ self.old.target }
         ensures source { self.new.source ≡ self.old.source }
         ensures watch { self.new.watch ≡ self.old.watch }
+        ensures mount { self.new.mount ≡ self.old.mount }
     {
         match source_sdp::read(self.alloc, reply.body.as_slice()) {
             Ok(description) => self.take_description(reply, description),
@@ -78,6 +80,7 @@ impl PullSession {
         ensures target { self.new.target ≡ self.old.target }
         ensures source { self.new.source ≡ self.old.source }
         ensures watch { self.new.watch ≡ self.old.watch }
+        ensures mount { self.new.mount ≡ self.old.mount }
     {
         let base = base_of(
             field(reply, b"Content-Base"),
@@ -101,6 +104,7 @@ impl PullSession {
         ensures target { self.new.target ≡ self.old.target }
         ensures source { self.new.source ≡ self.old.source }
         ensures watch { self.new.watch ≡ self.old.watch }
+        ensures mount { self.new.mount ≡ self.old.mount }
     {
         let Some(place) = field(reply, b"Location") else {
             self.fail(Reason::BadRedirect(None), Side::Source);
@@ -118,6 +122,7 @@ impl PullSession {
         ensures target { self.new.target ≡ self.old.target }
         ensures source { self.new.source ≡ self.old.source }
         ensures watch { self.new.watch ≡ self.old.watch }
+        ensures mount { self.new.mount ≡ self.old.mount }
     {
         let host = self.place.host.as_slice();
         match self.login.challenge(self.alloc, reply, host) {

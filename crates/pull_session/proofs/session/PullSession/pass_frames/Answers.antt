@@ -18,6 +18,7 @@ loop-from-init c = record {
   ahead = c.requires.frames.1;
   takes = refl;
   source = refl;
+  mount = refl;
 }
 
 pub slice_bounds-frame_at-count : goal.slice_bounds-frame_at-count
@@ -78,6 +79,7 @@ loop-from-preserved c =
       ahead = subst (λ (n : ℕ). AreFrames (drop (from + n) (take c.args.len bytes)) a.others) (sym same) a.next;
       takes = takes_next before.done a.frame (take size (drop at free)) c.args.now (pass_state c.args.self.now) (pass_state c.loop-from.self) (pass_state c.pass_frame-at.new.self) (ap frame_in bytes_are ∙ is) before.takes c.pass_frame-at.ensures.taken;
       source = c.pass_frame-at.ensures.source ∙ before.source;
+      mount = c.pass_frame-at.ensures.mount ∙ before.mount;
     }
 
 pub returns-after-loop-from-clause-takes : goal.returns-after-loop-from-clause-takes

@@ -6,8 +6,8 @@ use Rattle.pull_session.specs.Passing.{EndsByFault, Passes, pass_state}
 use Rattle.pull_session.specs.Tries.{Try}
 use Rattle.pull_session.proofs.session.PullSession.read_source.Goals as goal
 
-pub returns-in-Ok : goal.returns-in-Ok
-returns-in-Ok c = inl (subst (λ (session : Try). Passes c.args.bytes.now c.args.now session c.take_fed.new.self) c.self.view_is (record {
+pub returns-in-Ok-clause-frames : goal.returns-in-Ok-clause-frames
+returns-in-Ok-clause-frames c = inl (subst (λ (session : Try). Passes c.args.bytes.now c.args.now session c.take_fed.new.self) c.self.view_is (record {
   units = c.in-Ok.fed.units.items;
   reads = subst
       (λ (reader : PeerReaderState). ReadsOnFrom c.self.inside.source_line.reader.peer c.self.inside.source_line.reader.state.reading c.args.bytes.now c.in-Ok.fed.units.items reader.state.reading)

@@ -13,4 +13,5 @@ loop-unit-preserved c = record {
       c.loop-unit.invariant.takes c.take_source_unit.ensures.takes;
   source = c.take_source_unit.ensures.source ∙ c.loop-unit.invariant.source;
   reader = c.take_source_unit.ensures.reader ∙ c.loop-unit.invariant.reader;
+  mount = c.take_source_unit.ensures.mount ∙ c.loop-unit.invariant.mount;
 }

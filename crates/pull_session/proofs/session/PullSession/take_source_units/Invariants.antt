@@ -10,4 +10,5 @@ invariant-loop-unit l = record {
   takes : TakesUnits l.yielded l.fn.now (pass_state l.fn.self) (pass_state l.self);
   source : l.self.source.reader ≡ l.fn.self.source.reader;
   reader : l.self.target.reader ≡ l.fn.self.target.reader;
+  mount : l.self.mount ≡ l.fn.self.mount;
 }
