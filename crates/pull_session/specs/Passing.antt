@@ -1,5 +1,5 @@
 -- How the frames of a source go on to the target (RFC 2326, 10.12).
-use Rattle.std.specs.Prelude.{◌≡◌, ◌⊎◌, ℕ, true, false, List, [], ◌∷◌, ◌++◌, Option, Some, None, drop, length, nat_lt, IsSome}
+use Rattle.std.specs.Prelude.{◌≡◌, ◌⊎◌, ◌≤◌, ◌*◌, ℕ, true, false, List, [], ◌∷◌, ◌++◌, Option, Some, None, drop, length, max, nat_lt, IsSome}
 use Rattle.interleaved.specs.declared.frame.Frame.{Frame as Block}
 use Rattle.sequence_counts.specs.Header.{HasFixedHeader}
 use Rattle.rtsp_message.specs.declared.fault.Fault.{Fault}
@@ -17,7 +17,7 @@ use Rattle.rtsp_client.specs.declared.frame_account.FrameFate.{FrameFate}
 use Rattle.rtsp_client.specs.declared.frame_account.FrameFate.TheVariants.{Waits, UnknownChannel, BeforeRecording, Unsent}
 use Rattle.rtsp_client.specs.declared.passage.Passage.{Passage}
 use Rattle.outgoing.specs.Items.{Sends}
-use Rattle.outgoing.specs.Queues.{Queue, Takes, Waiting, bytes_waiting, waiting_item}
+use Rattle.outgoing.specs.Queues.{Queue, Takes, Waiting, bytes_waiting, texts, waiting_item}
 use Rattle.pull_session.specs.Tries.{Try}
 use Rattle.pull_session.specs.Watches.{waiting_since}
 use Rattle.pull_session.specs.declared.watch.Watch.{Watch}
@@ -58,12 +58,14 @@ pub record CountsFrame (frame : Block) (fate : FrameFate) (old : State) (new : P
   pub tracks : new.tracks ≡ old.passage.tracks
 
 -- A frame of the source comes at this moment: it is counted, put and heard as what becomes of it, and nothing else of the client changes.
+-- There is memory for at most twice the bytes that wait then, if there wasn't more.
 pub record TakesFrame (frame : Block) (now : ℕ) (old new : PassState) : Type 0 where
   pub fate : FrameFate
   pub counts : CountsFrame frame fate old.client new.client.passage
   pub others : new.client ≡ record old.client { passage = new.client.passage }
   pub put : new.waiting.items ≡ old.waiting.items ++ put_for fate frame.payload
   pub begun : new.waiting.begun ≡ old.waiting.begun
+  pub room : new.waiting.room ≤ max old.waiting.room (2 * length (texts new.waiting.items))
   pub heard : new.watch ≡ heard_by fate now old.watch
 
 -- A frame comes that goes on, and there is no memory for it: it is counted and heard and not put, and the client ends.
@@ -97,17 +99,21 @@ abbrev pub EndsByFault : Option Fault → (old new : PassState) → Type 0
 EndsByFault None old new = new ≡ old
 EndsByFault (Some fault) old new = (new ≡ old) ⊎ OnlyEnds old new
 
--- These bytes of the source came at this moment: what becomes of its units is as above, and then of a fault of their stream.
+-- These bytes of the source came at this moment: what becomes of its units is as above, and then of a fault of their stream. Of the line to
+-- the target only what waits changes, and neither line closes.
 pub record Passes (bytes : List ℕ) (now : ℕ) (old new : Try) : Type 0 where
   pub units : List StreamUnit
   pub reads : ReadsOnFrom old.source.reader.peer old.source.reader.state.reading bytes units new.source.reader.state.reading
   pub after : PassState
   pub takes : TakesUnits units now (pass_state old) after
+  pub target : new.target ≡ record old.target { waiting = new.target.waiting }
+  pub closed : new.source.is_closed ≡ old.source.is_closed
   pub fault : EndsByFault (fault_of new.source.reader.state.reading) after (pass_state new)
 
 -- There is no memory for what came: nothing of it is taken, and the client ends.
 pub record StaysUnread (old new : Try) : Type 0 where
-  pub reader : new.source.reader ≡ old.source.reader
+  pub source : new.source ≡ old.source
+  pub target : new.target ≡ old.target
   pub ends : OnlyEnds (pass_state old) (pass_state new)
 
 -- The target's system took this number of the bytes that waited: the frames whose last byte it took are counted as sent. Since when it has
@@ -119,3 +125,8 @@ pub record TakesBytes (count now : ℕ) (old new : Try) : Type 0 where
   pub counted : new.client ≡ after_sent frames now old.client
   pub watch : new.watch ≡ record old.watch { taken = waiting_since (nat_lt 0 (length (bytes_waiting new.target.waiting))) (nat_lt 0 count) old.watch.taken now }
   pub others : new.source ≡ old.source
+
+-- Bytes of the target came: the line to the source, the times and what became of the source's frames stay.
+pub record ReadsTarget (old new : Try) : Type 0 where
+  pub source : new.source ≡ old.source
+  pub watch : new.watch ≡ old.watch

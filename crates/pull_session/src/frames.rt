@@ -12,7 +12,7 @@ impl PullSession {
     pub(crate) fn take_frame(&mut self, frame: &Frame, now: u64)
         ensures taken { TakesFrame frame.now now (pass_state self.old) (pass_state self.new) ⊎ LosesFrame frame.now now (pass_state self.old) (pass_state self.new) }
         ensures source { self.new.source ≡ self.old.source }
-        ensures reader { self.new.target.reader ≡ self.old.target.reader }
+        ensures target { self.new.target ≡ record self.old.target { waiting = self.new.target.waiting } }
         ensures mount { self.new.mount ≡ self.old.mount }
     {
         let payload = frame.payload.as_slice();

@@ -110,6 +110,7 @@ impl PullSession {
         ensures takes { (frames : List Block) × AreFrames (take len self.old.target.waiting.free) frames
             × TakesUnits (map Frame frames) now (pass_state self.old) (pass_state self.new) }
         ensures source { self.new.source ≡ self.old.source }
+        ensures target { self.new.target ≡ record self.old.target { waiting = self.new.target.waiting } }
         ensures mount { self.new.mount ≡ self.old.mount }
     {
         let mut from = 0;
@@ -130,6 +131,7 @@ impl PullSession {
             ⊎ LosesFrame (frame_in (take size (drop at self.old.target.waiting.free))) now (pass_state self.old) (pass_state self.new) }
         ensures next { drop result self.new.target.waiting.free ≡ drop (at + size) self.old.target.waiting.free }
         ensures source { self.new.source ≡ self.old.source }
+        ensures target { self.new.target ≡ record self.old.target { waiting = self.new.target.waiting } }
         ensures mount { self.new.mount ≡ self.old.mount }
     {
         // Its length bounds the sum.

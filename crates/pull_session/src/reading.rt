@@ -1,8 +1,8 @@
 //! What servers send.
 
 ghost use Rattle.std.specs.Prelude.{◌≡◌, ◌⊎◌, Some, None, IsSome};
-ghost use Rattle.rtsp_client.specs.declared.asked.Side.TheVariants.{Source};
-ghost use Rattle.pull_session.specs.Passing.{EndsByFault, PassState, Passes, StaysUnread, TakesUnit, TakesUnits, pass_state};
+ghost use Rattle.rtsp_client.specs.declared.asked.Side.TheVariants.{Source, Target};
+ghost use Rattle.pull_session.specs.Passing.{EndsByFault, PassState, Passes, ReadsTarget, StaysUnread, TakesUnit, TakesUnits, pass_state};
 
 use crate::reason::Reason;
 use crate::session::PullSession;
@@ -14,6 +14,7 @@ impl PullSession {
     pub fn read(&mut self, side: Side, bytes: &[u8], now: u64)
         ensures frames { side ≡ Source → self.old.client.end ≡ None → Passes bytes.now now self.old self.new ⊎ StaysUnread self.old self.new }
         ensures ended { IsSome self.old.client.end → self.new ≡ self.old }
+        ensures target { side ≡ Target → ReadsTarget self.old self.new }
         ensures mount { self.new.mount ≡ self.old.mount }
     {
         if self.client.end().is_some() {
@@ -39,7 +40,8 @@ impl PullSession {
     /// Takes what was read of the source.
     pub(crate) fn take_fed(&mut self, fed: Fed, now: u64)
         ensures takes { (after : PassState) × TakesUnits fed.units.items now (pass_state self.old) after × EndsByFault fed.fault after (pass_state self.new) }
-        ensures source { self.new.source.reader ≡ self.old.source.reader }
+        ensures source { self.new.source ≡ record self.old.source { waiting = self.new.source.waiting } }
+        ensures target { self.new.target ≡ record self.old.target { waiting = self.new.target.waiting } }
         ensures mount { self.new.mount ≡ self.old.mount }
     {
         let Fed { units, fault } = fed;
@@ -64,6 +66,7 @@ impl PullSession {
 
     /// These bytes of the target came.
     fn read_target(&mut self, bytes: &[u8], now: u64)
+        ensures target { ReadsTarget self.old self.new }
         ensures mount { self.new.mount ≡ self.old.mount }
     {
         match self.target_line.reader.feed(bytes) {
@@ -81,8 +84,8 @@ impl PullSession {
     /// Takes what the source sent.
     fn take_source_units(&mut self, units: Vec<Unit>, now: u64)
         ensures takes { TakesUnits units.items now (pass_state self.old) (pass_state self.new) }
-        ensures source { self.new.source.reader ≡ self.old.source.reader }
-        ensures reader { self.new.target.reader ≡ self.old.target.reader }
+        ensures source { self.new.source ≡ record self.old.source { waiting = self.new.source.waiting } }
+        ensures target { self.new.target ≡ record self.old.target { waiting = self.new.target.waiting } }
         ensures mount { self.new.mount ≡ self.old.mount }
     {
         for unit in units {
@@ -93,8 +96,8 @@ impl PullSession {
     /// Takes a frame or a message of the source.
     fn take_source_unit(&mut self, unit: Unit, now: u64)
         ensures takes { TakesUnit unit now (pass_state self.old) (pass_state self.new) }
-        ensures source { self.new.source.reader ≡ self.old.source.reader }
-        ensures reader { self.new.target.reader ≡ self.old.target.reader }
+        ensures source { self.new.source ≡ record self.old.source { waiting = self.new.source.waiting } }
+        ensures target { self.new.target ≡ record self.old.target { waiting = self.new.target.waiting } }
         ensures mount { self.new.mount ≡ self.old.mount }
     {
         match unit {
@@ -105,6 +108,7 @@ impl PullSession {
 
     /// Takes what the target sent. Frames of it are dropped.
     fn take_target_units(&mut self, units: Vec<Unit>, now: u64)
+        ensures target { ReadsTarget self.old self.new }
         ensures mount { self.new.mount ≡ self.old.mount }
     {
         for unit in units {
@@ -116,8 +120,8 @@ impl PullSession {
     fn take_message(&mut self, side: Side, unit: Unit, now: u64)
         ensures target { side ≡ Source → self.new.target ≡ self.old.target }
         ensures watch { self.new.watch ≡ self.old.watch }
-        ensures reader { self.new.target.reader ≡ self.old.target.reader }
-        ensures source { self.new.source.reader ≡ self.old.source.reader }
+        ensures source { self.new.source ≡ record self.old.source { waiting = self.new.source.waiting } }
+        ensures other { side ≡ Target → self.new.source ≡ self.old.source }
         ensures mount { self.new.mount ≡ self.old.mount }
     {
         if side == Side::Source && self.next_place.is_some() {
@@ -134,8 +138,8 @@ impl PullSession {
     fn take_request(&mut self, side: Side, request: &Request)
         ensures target { side ≡ Source → self.new.target ≡ self.old.target }
         ensures watch { self.new.watch ≡ self.old.watch }
-        ensures reader { self.new.target.reader ≡ self.old.target.reader }
-        ensures source { self.new.source.reader ≡ self.old.source.reader }
+        ensures source { self.new.source ≡ record self.old.source { waiting = self.new.source.waiting } }
+        ensures other { side ≡ Target → self.new.source ≡ self.old.source }
         ensures mount { self.new.mount ≡ self.old.mount }
     {
         if self.line(side).waiting.is_full() {

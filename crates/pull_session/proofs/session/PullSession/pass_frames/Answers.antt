@@ -5,6 +5,7 @@ use Rattle.interleaved.specs.Frame.{FrameBegins}
 use Rattle.pull_session.specs.Blocks.{AreFrames, frame_in}
 use Rattle.pull_session.specs.Passing.{pass_state}
 use Rattle.pull_session.specs.Tries.{Try}
+use Rattle.pull_session.specs.declared.line.Line.{Line}
 use Rattle.pull_session.proofs.Blocks.{ahead, at_end, frame_begins, frame_first, frame_is, one_size, place_within, takes_next}
 use Rattle.pull_session.proofs.session.PullSession.pass_frames.Goals as goal
 
@@ -18,6 +19,7 @@ loop-from-init c = record {
   ahead = c.requires.frames.1;
   takes = refl;
   source = refl;
+  target = refl;
   mount = refl;
 }
 
@@ -79,6 +81,8 @@ loop-from-preserved c =
       ahead = subst (λ (n : ℕ). AreFrames (drop (from + n) (take c.args.len bytes)) a.others) (sym same) a.next;
       takes = takes_next before.done a.frame (take size (drop at free)) c.args.now (pass_state c.args.self.now) (pass_state c.loop-from.self) (pass_state c.pass_frame-at.new.self) (ap frame_in bytes_are ∙ is) before.takes c.pass_frame-at.ensures.taken;
       source = c.pass_frame-at.ensures.source ∙ before.source;
+      target = c.pass_frame-at.ensures.target
+          ∙ ap (λ (l : Line). record l { waiting = c.pass_frame-at.new.self.target.waiting }) before.target;
       mount = c.pass_frame-at.ensures.mount ∙ before.mount;
     }
 

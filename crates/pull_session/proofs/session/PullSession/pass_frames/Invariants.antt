@@ -16,6 +16,7 @@ invariant-loop-from l = record {
   ahead : AreFrames (drop l.from (take l.fn.len l.fn.self.target.waiting.free)) left;
   takes : TakesUnits (map Frame done) l.fn.now (pass_state l.fn.self) (pass_state l.self);
   source : l.self.source ≡ l.fn.self.source;
+  target : l.self.target ≡ record l.fn.self.target { waiting = l.self.target.waiting };
   mount : l.self.mount ≡ l.fn.self.mount;
 }
 

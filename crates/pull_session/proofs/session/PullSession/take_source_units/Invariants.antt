@@ -8,7 +8,7 @@ abbrev pub invariant-loop-unit : goal.invariant-loop-unit
 invariant-loop-unit l = record {
   parts : l.fn.units.items ≡ l.yielded ++ into_iter_items l.unit-iterator;
   takes : TakesUnits l.yielded l.fn.now (pass_state l.fn.self) (pass_state l.self);
-  source : l.self.source.reader ≡ l.fn.self.source.reader;
-  reader : l.self.target.reader ≡ l.fn.self.target.reader;
+  source : l.self.source ≡ record l.fn.self.source { waiting = l.self.source.waiting };
+  target : l.self.target ≡ record l.fn.self.target { waiting = l.self.target.waiting };
   mount : l.self.mount ≡ l.fn.self.mount;
 }
