@@ -126,7 +126,12 @@ pub record TakesBytes (count now : ℕ) (old new : Try) : Type 0 where
   pub watch : new.watch ≡ record old.watch { taken = waiting_since (nat_lt 0 (length (bytes_waiting new.target.waiting))) (nat_lt 0 count) old.watch.taken now }
   pub others : new.source ≡ old.source
 
--- Bytes of the target came: the line to the source, the times and what became of the source's frames stay.
+-- only the channels that tracks have at the target change
+abbrev pub KeepsPassage : (old new : Passage) → Type 0
+KeepsPassage old new = new ≡ record old { map = record old.map { target = new.map.target } }
+
+-- Bytes of the target came: the line to the source and the times stay, and so do the tracks, their channels at the source, and all counts.
 pub record ReadsTarget (old new : Try) : Type 0 where
   pub source : new.source ≡ old.source
   pub watch : new.watch ≡ old.watch
+  pub passage : KeepsPassage old.client.passage new.client.passage

@@ -30,7 +30,7 @@ impl PullSession {
         }
     }
 
-    /// Returns what becomes of a frame of the source. It is counted.
+    /// Counts the frame and returns what becomes of it.
     fn count_frame(&mut self, frame: &Frame) -> FrameFate
         ensures counts { CountsFrame frame.now result self.old.client self.new.client.passage }
         ensures others { self.new.client ≡ record self.old.client { passage = self.new.client.passage } }

@@ -154,7 +154,7 @@ impl PullSession {
         }
     }
 
-    /// Returns what becomes of that frame. It is counted.
+    /// Counts the frame and returns what becomes of it.
     fn frame_fate(&mut self, at: usize, size: usize) -> FrameFate
         requires { FrameBegins (drop at self.old.target.waiting.free) size }
         ensures counts { CountsFrame (frame_in (take size (drop at self.old.target.waiting.free))) result self.old.client self.new.client.passage }

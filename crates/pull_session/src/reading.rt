@@ -2,7 +2,7 @@
 
 ghost use Rattle.std.specs.Prelude.{◌≡◌, ◌⊎◌, Some, None, IsSome};
 ghost use Rattle.rtsp_client.specs.declared.asked.Side.TheVariants.{Source, Target};
-ghost use Rattle.pull_session.specs.Passing.{EndsByFault, PassState, Passes, ReadsTarget, StaysUnread, TakesUnit, TakesUnits, pass_state};
+ghost use Rattle.pull_session.specs.Passing.{EndsByFault, KeepsPassage, PassState, Passes, ReadsTarget, StaysUnread, TakesUnit, TakesUnits, pass_state};
 
 use crate::reason::Reason;
 use crate::session::PullSession;
@@ -11,6 +11,7 @@ use rtsp_message::{Fault, Fed, Received, Request, Status, Unit};
 
 impl PullSession {
     /// These bytes of a side came at this moment. After the client's end they are dropped.
+    #[tactic(auto, using(crate::proofs::TargetReplies::keeps_none))]
     pub fn read(&mut self, side: Side, bytes: &[u8], now: u64)
         ensures frames { side ≡ Source → self.old.client.end ≡ None → Passes bytes.now now self.old self.new ⊎ StaysUnread self.old self.new }
         ensures ended { IsSome self.old.client.end → self.new ≡ self.old }
@@ -65,6 +66,7 @@ impl PullSession {
     }
 
     /// These bytes of the target came.
+    #[tactic(auto, using(crate::proofs::TargetReplies::keeps_none, crate::proofs::TargetReplies::keeps_same))]
     fn read_target(&mut self, bytes: &[u8], now: u64)
         ensures target { ReadsTarget self.old self.new }
         ensures mount { self.new.mount ≡ self.old.mount }
@@ -107,6 +109,7 @@ impl PullSession {
     }
 
     /// Takes what the target sent. Frames of it are dropped.
+    #[tactic(auto, using(crate::proofs::TargetReplies::keeps_none, crate::proofs::TargetReplies::keeps_more))]
     fn take_target_units(&mut self, units: Vec<Unit>, now: u64)
         ensures target { ReadsTarget self.old self.new }
         ensures mount { self.new.mount ≡ self.old.mount }
@@ -117,11 +120,13 @@ impl PullSession {
     }
 
     /// Takes a message of a side. After a redirect what the old connection still brings is dropped.
+    #[tactic(auto, using(crate::proofs::TargetReplies::keeps_same, crate::proofs::TargetReplies::keeps_none))]
     fn take_message(&mut self, side: Side, unit: Unit, now: u64)
         ensures target { side ≡ Source → self.new.target ≡ self.old.target }
         ensures watch { self.new.watch ≡ self.old.watch }
         ensures source { self.new.source ≡ record self.old.source { waiting = self.new.source.waiting } }
         ensures other { side ≡ Target → self.new.source ≡ self.old.source }
+        ensures passage { side ≡ Target → KeepsPassage self.old.client.passage self.new.client.passage }
         ensures mount { self.new.mount ≡ self.old.mount }
     {
         if side == Side::Source && self.next_place.is_some() {
@@ -140,6 +145,7 @@ impl PullSession {
         ensures watch { self.new.watch ≡ self.old.watch }
         ensures source { self.new.source ≡ record self.old.source { waiting = self.new.source.waiting } }
         ensures other { side ≡ Target → self.new.source ≡ self.old.source }
+        ensures passage { self.new.client.passage ≡ self.old.client.passage }
         ensures mount { self.new.mount ≡ self.old.mount }
     {
         if self.line(side).waiting.is_full() {

@@ -1,6 +1,8 @@
 //! What replies mean for a try.
 
 ghost use Rattle.std.specs.Prelude.{◌≡◌, ◌⊎◌};
+ghost use Rattle.rtsp_client.specs.declared.asked.Side.TheVariants.{Target};
+ghost use Rattle.pull_session.specs.Passing.{KeepsPassage};
 ghost use Rattle.pull_session.specs.Tries.{new_line};
 
 use crate::note::Note;
@@ -34,10 +36,12 @@ fn headers_of(reply: &Response) -> ReplyHeaders<'_> {
 
 impl PullSession {
     /// A reply of a side comes at this moment.
+    #[tactic(auto, using(crate::proofs::TargetReplies::keeps_same, crate::proofs::TargetReplies::keeps_none))]
     pub(crate) fn take_reply(&mut self, side: Side, reply: &Response, now: u64)
         ensures target { self.new.target ≡ self.old.target }
         ensures source { self.new.source ≡ self.old.source }
         ensures watch { self.new.watch ≡ self.old.watch }
+        ensures passage { side ≡ Target → KeepsPassage self.old.client.passage self.new.client.passage }
         ensures mount { self.new.mount ≡ self.old.mount }
     {
         let Ok(facts) = ReplyFacts::of(self.alloc, headers_of(reply)) else {
@@ -64,6 +68,7 @@ impl PullSession {
         ensures target { self.new.target ≡ self.old.target }
         ensures source { self.new.source ≡ self.old.source }
         ensures watch { self.new.watch ≡ self.old.watch }
+        ensures passage { self.new.client.passage ≡ self.old.client.passage }
         ensures mount { self.new.mount ≡ self.old.mount }
     {
         match source_sdp::read(self.alloc, reply.body.as_slice()) {
@@ -76,10 +81,12 @@ impl PullSession {
     }
 
     /// Takes what the description of the source offers.
+    #[tactic(auto, using(crate::proofs::TargetReplies::described_same))]
     fn take_description(&mut self, reply: &Response, description: SourceDescription)
         ensures target { self.new.target ≡ self.old.target }
         ensures source { self.new.source ≡ self.old.source }
         ensures watch { self.new.watch ≡ self.old.watch }
+        ensures passage { self.new.client.passage ≡ self.old.client.passage }
         ensures mount { self.new.mount ≡ self.old.mount }
     {
         let base = base_of(
@@ -104,6 +111,7 @@ impl PullSession {
         ensures target { self.new.target ≡ self.old.target }
         ensures source { self.new.source ≡ self.old.source }
         ensures watch { self.new.watch ≡ self.old.watch }
+        ensures passage { self.new.client.passage ≡ self.old.client.passage }
         ensures mount { self.new.mount ≡ self.old.mount }
     {
         let Some(place) = field(reply, b"Location") else {
@@ -118,10 +126,12 @@ impl PullSession {
     }
 
     /// Answers the challenge of the source, if there is a password for it.
+    #[tactic(auto, using(crate::proofs::TargetReplies::answered_same))]
     fn answer(&mut self, reply: &Response)
         ensures target { self.new.target ≡ self.old.target }
         ensures source { self.new.source ≡ self.old.source }
         ensures watch { self.new.watch ≡ self.old.watch }
+        ensures passage { self.new.client.passage ≡ self.old.client.passage }
         ensures mount { self.new.mount ≡ self.old.mount }
     {
         let host = self.place.host.as_slice();
