@@ -465,8 +465,8 @@ QUIET = 600
 # How many packets a player of another mount reads, one after the other.
 SINGLE = 250
 
-# How many times the writers' processor time of that player alone it may be beside the others. A sweep that passes over them takes up to 1.3
-# times. A build with a sanitizer, which isn't tried here, took 2.7 times, and 16 times with a sweep that looks at each of them.
+# How many times the writers' processor time of that player alone it may be beside the others. In four runs a sweep that passes over them took 1.0 to 1.3
+# times, all threads counted. A build with a sanitizer, which isn't tried here, took 2.7 times, and 16 times with a sweep that looks at each of them.
 COST = 2
 
 
