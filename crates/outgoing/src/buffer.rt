@@ -109,6 +109,7 @@ impl Buffer {
         ensures free { self.new.free ≡ block.old.items }
         ensures room { self.new.room ≡ vec_capacity block.old }
         ensures block { length self.old.free ≤ length block.new.items }
+        ensures block_room { vec_capacity block.new ≡ self.old.room }
     {
         mem::swap(&mut self.block, block);
         self.first = 0;

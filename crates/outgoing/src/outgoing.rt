@@ -226,6 +226,7 @@ impl Outgoing {
         requires { self.old.items ≡ [] }
         ensures same { self.new ≡ record self.old { room = vec_capacity block.old; free = block.old.items } }
         ensures block { length self.old.free ≤ length block.new.items }
+        ensures block_room { vec_capacity block.new ≡ self.old.room }
     {
         self.buffer.swap(block);
     }

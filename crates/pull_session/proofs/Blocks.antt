@@ -9,10 +9,8 @@ use Rattle.rtsp_message.specs.declared.unit.Unit.{Unit as StreamUnit}
 use Rattle.rtsp_message.specs.declared.unit.Unit.TheVariants.{Frame}
 use Rattle.rtsp_message.specs.Stream.{ReadsFrom, Waits, Whole, bytes_of}
 use Rattle.rtsp_message.proofs.Compose.{nothing_reads}
-use Rattle.rtsp_client.specs.Clients.{State}
-use Rattle.outgoing.specs.Queues.{Queue}
 use Rattle.pull_session.specs.Blocks.{AreFrames, frame_in}
-use Rattle.pull_session.specs.Passing.{TakesUnit, TakesUnits}
+use Rattle.pull_session.specs.Passing.{PassState, TakesUnit, TakesUnits}
 use Rattle.pull_session.proofs.Units.{takes_more}
 
 -- one more frame
@@ -46,11 +44,9 @@ frames_read peer bytes (frame ∷ frames) (size, fits, is, others) =
     }
 
 -- units come, and then others
-pub takes_both : (us vs : List StreamUnit) (a b c : State) (p q r : Queue) → TakesUnits us a b p q → TakesUnits vs b c q r → TakesUnits (us ++ vs) a c p r
-takes_both [] vs a b c p q r same next =
-    subst (λ (state : State). TakesUnits vs state c p r) same.0 (subst (λ (queue : Queue). TakesUnits vs b c queue r) same.1 next)
-takes_both (unit ∷ us) vs a b c p q r takes next =
-    (takes.0, takes.1, takes.2, takes_both us vs takes.0 b c takes.1 q r takes.3 next)
+pub takes_both : (us vs : List StreamUnit) (now : ℕ) (a b c : PassState) → TakesUnits us now a b → TakesUnits vs now b c → TakesUnits (us ++ vs) now a c
+takes_both [] vs now a b c same next = subst (λ (state : PassState). TakesUnits vs now state c) same next
+takes_both (unit ∷ us) vs now a b c takes next = (takes.0, takes.1, takes_both us vs now takes.0 b c takes.2 next)
 
 -- a frame at a place before the end, and those after it
 pub record Ahead (bytes : List ℕ) (from len : ℕ) (left : List Block) : Type 0 where
@@ -114,11 +110,11 @@ pub frame_is : (bytes : List ℕ) (frame : Block) → IsFrame bytes frame.channe
 frame_is bytes frame is = ap frame_in is.2
 
 -- the frame at a place is taken
-pub takes_next : (done : List Block) (frame : Block) (bytes : List ℕ) (a b c : State) (p q r : Queue) → frame_in bytes ≡ frame → TakesUnits (map Frame done) a b p q
-    → TakesUnit (Frame (frame_in bytes)) b c q r → TakesUnits (map Frame (done ++ frame ∷ [])) a c p r
-takes_next done frame bytes a b c p q r is before taken =
-    subst (λ (us : List StreamUnit). TakesUnits us a c p r) (sym (map_push Frame done frame))
-    (takes_more (map Frame done) (Frame frame) a b c p q r before (subst (λ (f : Block). TakesUnit (Frame f) b c q r) is taken))
+pub takes_next : (done : List Block) (frame : Block) (bytes : List ℕ) (now : ℕ) (a b c : PassState) → frame_in bytes ≡ frame → TakesUnits (map Frame done) now a b
+    → TakesUnit (Frame (frame_in bytes)) now b c → TakesUnits (map Frame (done ++ frame ∷ [])) now a c
+takes_next done frame bytes now a b c is before taken =
+    subst (λ (us : List StreamUnit). TakesUnits us now a c) (sym (map_push Frame done frame))
+    (takes_more (map Frame done) (Frame frame) now a b c before (subst (λ (f : Block). TakesUnit (Frame f) now b c) is taken))
 
 -- a place is within what is left
 pub place_within : (bytes free : List ℕ) (at from len : ℕ) → drop at free ≡ drop from bytes → from < len → len ≤ length bytes → at ≤ length free

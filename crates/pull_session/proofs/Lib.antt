@@ -1,3 +1,5 @@
 pub mod Blocks
 pub mod Putting
 pub mod Units
+pub mod Losing
+pub mod TargetReplies

@@ -67,7 +67,9 @@ impl PullSession {
     pub fn took(&mut self, side: Side, count: usize, now: u64)
         ensures source { side ≡ Source → bytes_waiting self.new.source.waiting ≡ drop (min count (length (bytes_waiting self.old.source.waiting))) (bytes_waiting self.old.source.waiting) }
         ensures others { side ≡ Source → (self.new.target ≡ self.old.target) × (self.new.client ≡ self.old.client) }
+        ensures watch { side ≡ Source → self.new.watch ≡ self.old.watch }
         ensures target { side ≡ Target → TakesBytes (min count (length (bytes_waiting self.old.target.waiting))) now self.old self.new }
+        ensures mount { self.new.mount ≡ self.old.mount }
     {
         match side {
             Side::Source => {

@@ -11,6 +11,7 @@ impl PullSession {
     pub fn stop(&mut self, now: u64)
         ensures source { self.new.source ≡ self.old.source }
         ensures target { self.new.target ≡ self.old.target }
+        ensures mount { self.new.mount ≡ self.old.mount }
     {
         self.leave(Reason::Client(End::Stopped), now);
     }
@@ -19,6 +20,7 @@ impl PullSession {
     pub fn lose(&mut self, side: Side, end: End, now: u64)
         ensures source { self.new.source.waiting ≡ self.old.source.waiting }
         ensures target { self.new.target.waiting ≡ self.old.target.waiting }
+        ensures mount { self.new.mount ≡ self.old.mount }
     {
         match side {
             Side::Source => self.lose_source(end, now),

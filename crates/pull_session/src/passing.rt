@@ -1,15 +1,11 @@
 //! Frames of the source that go on in the block that they were read into.
-ghost use Rattle.std.specs.Prelude.{◌≡◌, ◌+◌, ◌≤◌, ◌⊎◌, [], List, None, IsSome, IsTrue, drop, length, map, min, take, vec_capacity};
+ghost use Rattle.std.specs.Prelude.{◌≡◌, ◌+◌, ◌≤◌, ◌⊎◌, ℕ, [], List, None, IsSome, IsTrue, drop, length, map, max, min, take, vec_capacity};
 ghost use Rattle.interleaved.specs.declared.frame.Frame.{Frame as Block};
 ghost use Rattle.interleaved.specs.Frame.{FrameBegins};
 ghost use Rattle.rtsp_message.specs.Stream.{Waits};
 ghost use Rattle.rtsp_message.specs.declared.unit.Unit.TheVariants.{Frame};
-ghost use Rattle.rtsp_client.specs.Accounts.{with_frame};
-ghost use Rattle.rtsp_client.specs.FrameMaps.{IsFateOf};
-ghost use Rattle.rtsp_client.specs.Sending.{is_over};
-ghost use Rattle.rtsp_client.specs.Steps.{is_recording};
 ghost use Rattle.pull_session.specs.Blocks.{AreFrames, frame_in, with_block};
-ghost use Rattle.pull_session.specs.Passing.{LosesFrame, Passes, StaysUnread, TakesFrame, TakesUnits};
+ghost use Rattle.pull_session.specs.Passing.{CountsFrame, LosesFrame, Passes, StaysUnread, TakesFrame, TakesUnits, pass_state};
 
 use crate::limits::BLOCK_BYTES;
 use crate::reason::Reason;
@@ -32,6 +28,7 @@ impl PullSession {
     pub fn swap_block(&mut self, block: &mut Vec<u8>)
         ensures same { self.new ≡ self.old ⊎ self.new ≡ with_block (vec_capacity block.old) block.old.items self.old }
         ensures long { min 65_536 (length block.old.items) ≤ length block.new.items }
+        ensures room { vec_capacity block.new ≤ max (vec_capacity block.old) self.old.target.waiting.room }
     {
         if self.may_take() {
             self.target_line.waiting.swap(block);
@@ -42,10 +39,12 @@ impl PullSession {
     /// copied if nothing waits for the target: the block is exchanged for that of what waits, of 65,536 bytes or more.
     pub fn read_block(&mut self, block: &mut Vec<u8>, count: usize, now: u64)
         requires { count ≤ length block.old.items }
-        ensures frames { self.old.client.end ≡ None → Passes (take count block.old.items) self.old self.new
-            ⊎ (Passes (take count block.old.items) (with_block (vec_capacity block.old) block.old.items self.old) self.new ⊎ StaysUnread self.old self.new) }
+        ensures frames { self.old.client.end ≡ None → Passes (take count block.old.items) now self.old self.new
+            ⊎ (Passes (take count block.old.items) now (with_block (vec_capacity block.old) block.old.items self.old) self.new ⊎ StaysUnread self.old self.new) }
         ensures ended { IsSome self.old.client.end → self.new ≡ self.old }
         ensures long { min 65_536 (length block.old.items) ≤ length block.new.items }
+        ensures room { vec_capacity block.new ≤ max (vec_capacity block.old) self.old.target.waiting.room }
+        ensures mount { self.new.mount ≡ self.old.mount }
     {
         if self.client.end().is_some() {
             return;
@@ -89,8 +88,10 @@ impl PullSession {
         requires room { 65_536 ≤ length self.old.target.waiting.free }
         requires idle { self.old.source.reader.state.reading ≡ Waits [] }
         requires frames { (frames : List Block) × AreFrames (take len block.old.items) frames }
-        ensures passes { Passes (take count block.old.items) (with_block (vec_capacity block.old) block.old.items self.old) self.new ⊎ StaysUnread self.old self.new }
+        ensures passes { Passes (take count block.old.items) now (with_block (vec_capacity block.old) block.old.items self.old) self.new ⊎ StaysUnread self.old self.new }
         ensures long { min 65_536 (length block.old.items) ≤ length block.new.items }
+        ensures block_room { vec_capacity block.new ≤ max (vec_capacity block.old) self.old.target.waiting.room }
+        ensures mount { self.new.mount ≡ self.old.mount }
     {
         match self.source_line.reader.feed(&block[len..count]) {
             Ok(fed) => {
@@ -107,8 +108,10 @@ impl PullSession {
         requires within { len ≤ length self.old.target.waiting.free }
         requires frames { (frames : List Block) × AreFrames (take len self.old.target.waiting.free) frames }
         ensures takes { (frames : List Block) × AreFrames (take len self.old.target.waiting.free) frames
-            × TakesUnits (map Frame frames) self.old.client self.new.client self.old.target.waiting self.new.target.waiting }
+            × TakesUnits (map Frame frames) now (pass_state self.old) (pass_state self.new) }
         ensures source { self.new.source ≡ self.old.source }
+        ensures target { self.new.target ≡ record self.old.target { waiting = self.new.target.waiting } }
+        ensures mount { self.new.mount ≡ self.old.mount }
     {
         let mut from = 0;
         let mut at = 0;
@@ -124,47 +127,53 @@ impl PullSession {
     /// Takes the frame that is in the room after what waits for the target, `at` bytes after it. Returns where the next one is then.
     fn pass_frame(&mut self, at: usize, size: usize, now: u64) -> usize
         requires { FrameBegins (drop at self.old.target.waiting.free) size }
-        ensures taken { TakesFrame (frame_in (take size (drop at self.old.target.waiting.free))) self.old.client self.new.client self.old.target.waiting self.new.target.waiting
-            ⊎ LosesFrame (frame_in (take size (drop at self.old.target.waiting.free))) self.old.client self.new.client self.old.target.waiting self.new.target.waiting }
+        ensures taken { TakesFrame (frame_in (take size (drop at self.old.target.waiting.free))) now (pass_state self.old) (pass_state self.new)
+            ⊎ LosesFrame (frame_in (take size (drop at self.old.target.waiting.free))) now (pass_state self.old) (pass_state self.new) }
         ensures next { drop result self.new.target.waiting.free ≡ drop (at + size) self.old.target.waiting.free }
         ensures source { self.new.source ≡ self.old.source }
+        ensures target { self.new.target ≡ record self.old.target { waiting = self.new.target.waiting } }
+        ensures mount { self.new.mount ≡ self.old.mount }
     {
         // Its length bounds the sum.
         let _room = self.target_line.waiting.free().len();
+        let next = at + size;
         match self.frame_fate(at, size) {
             FrameFate::Waits { channel } => {
                 self.watch.hears(now);
                 let put = self.target_line.waiting.put_in_place(at, size, channel);
                 if put.is_ok() {
-                    return at;
+                    at
+                } else {
+                    self.fail(Reason::OutOfMemory, Side::Target);
+                    next
                 }
-                self.fail(Reason::OutOfMemory, Side::Target);
             }
-            FrameFate::UnknownChannel => {}
-            FrameFate::BeforeRecording => {}
-            FrameFate::Unsent => {}
+            FrameFate::UnknownChannel => next,
+            FrameFate::BeforeRecording => next,
+            FrameFate::Unsent => next,
         }
-        at + size
     }
 
-    /// Returns what becomes of that frame. It is counted.
+    /// Counts the frame and returns what becomes of it.
     fn frame_fate(&mut self, at: usize, size: usize) -> FrameFate
         requires { FrameBegins (drop at self.old.target.waiting.free) size }
-        ensures fate { IsFateOf self.old.client.passage.map.source self.old.client.passage.map.target (frame_in (take size (drop at self.old.target.waiting.free))).channel
-            (is_recording self.old.client.place.step) (is_over self.old.client) result }
-        ensures account { self.new.client.passage.account ≡ with_frame self.old.client.passage.account result }
+        ensures counts { CountsFrame (frame_in (take size (drop at self.old.target.waiting.free))) result self.old.client self.new.client.passage }
+        ensures others { self.new.client ≡ record self.old.client { passage = self.new.client.passage } }
+        ensures watch { self.new.watch ≡ self.old.watch }
         ensures source { self.new.source ≡ self.old.source }
         ensures target { self.new.target ≡ self.old.target }
+        ensures mount { self.new.mount ≡ self.old.mount }
     {
         let frame = &self.target_line.waiting.free()[at..at + size];
         self.client.frame(frame[1], &frame[FRAME_HEAD..])
     }
 }
 
-/// Returns how many bytes the whole frames at the front of some bytes have.
+/// Returns how many bytes the whole frames at the front of some bytes have, all of them.
 fn whole_frames(bytes: &[u8]) -> usize
     ensures within { result ≤ length bytes.now }
     ensures frames { (frames : List Block) × AreFrames (take result bytes.now) frames }
+    ensures all { (size : ℕ) → ¬ FrameBegins (drop result bytes.now) size }
 {
     let mut len = 0;
     while len < bytes.len() {

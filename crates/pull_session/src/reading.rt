@@ -1,9 +1,8 @@
 //! What servers send.
 
 ghost use Rattle.std.specs.Prelude.{◌≡◌, ◌⊎◌, Some, None, IsSome};
-ghost use Rattle.rtsp_client.specs.Clients.{State};
-ghost use Rattle.rtsp_client.specs.declared.asked.Side.TheVariants.{Source};
-ghost use Rattle.pull_session.specs.Passing.{Passes, StaysUnread, TakesUnit, TakesUnits};
+ghost use Rattle.rtsp_client.specs.declared.asked.Side.TheVariants.{Source, Target};
+ghost use Rattle.pull_session.specs.Passing.{EndsByFault, KeepsPassage, PassState, Passes, ReadsTarget, StaysUnread, TakesUnit, TakesUnits, pass_state};
 
 use crate::reason::Reason;
 use crate::session::PullSession;
@@ -12,9 +11,12 @@ use rtsp_message::{Fault, Fed, Received, Request, Status, Unit};
 
 impl PullSession {
     /// These bytes of a side came at this moment. After the client's end they are dropped.
+    #[tactic(auto, using(crate::proofs::TargetReplies::keeps_none))]
     pub fn read(&mut self, side: Side, bytes: &[u8], now: u64)
-        ensures frames { side ≡ Source → self.old.client.end ≡ None → Passes bytes.now self.old self.new ⊎ StaysUnread self.old self.new }
+        ensures frames { side ≡ Source → self.old.client.end ≡ None → Passes bytes.now now self.old self.new ⊎ StaysUnread self.old self.new }
         ensures ended { IsSome self.old.client.end → self.new ≡ self.old }
+        ensures target { side ≡ Target → ReadsTarget self.old self.new }
+        ensures mount { self.new.mount ≡ self.old.mount }
     {
         if self.client.end().is_some() {
             return;
@@ -27,7 +29,8 @@ impl PullSession {
 
     /// These bytes of the source came.
     pub(crate) fn read_source(&mut self, bytes: &[u8], now: u64)
-        ensures { Passes bytes.now self.old self.new ⊎ StaysUnread self.old self.new }
+        ensures frames { Passes bytes.now now self.old self.new ⊎ StaysUnread self.old self.new }
+        ensures mount { self.new.mount ≡ self.old.mount }
     {
         match self.source_line.reader.feed(bytes) {
             Ok(fed) => self.take_fed(fed, now),
@@ -37,8 +40,10 @@ impl PullSession {
 
     /// Takes what was read of the source.
     pub(crate) fn take_fed(&mut self, fed: Fed, now: u64)
-        ensures takes { (client : State) × TakesUnits fed.units.items self.old.client client self.old.target.waiting self.new.target.waiting }
-        ensures source { self.new.source.reader ≡ self.old.source.reader }
+        ensures takes { (after : PassState) × TakesUnits fed.units.items now (pass_state self.old) after × EndsByFault fed.fault after (pass_state self.new) }
+        ensures source { self.new.source ≡ record self.old.source { waiting = self.new.source.waiting } }
+        ensures target { self.new.target ≡ record self.old.target { waiting = self.new.target.waiting } }
+        ensures mount { self.new.mount ≡ self.old.mount }
     {
         let Fed { units, fault } = fed;
         self.take_source_units(units, now);
@@ -49,8 +54,10 @@ impl PullSession {
 
     /// The source's stream can't be read on. After a redirect that of the old connection doesn't matter any more.
     fn fault_source(&mut self, fault: Fault)
+        ensures ends { EndsByFault (Some fault) (pass_state self.old) (pass_state self.new) }
         ensures source { self.new.source ≡ self.old.source }
         ensures target { self.new.target ≡ self.old.target }
+        ensures mount { self.new.mount ≡ self.old.mount }
     {
         if self.next_place.is_none() {
             let side = Side::Source;
@@ -59,7 +66,11 @@ impl PullSession {
     }
 
     /// These bytes of the target came.
-    fn read_target(&mut self, bytes: &[u8], now: u64) {
+    #[tactic(auto, using(crate::proofs::TargetReplies::keeps_none, crate::proofs::TargetReplies::keeps_same))]
+    fn read_target(&mut self, bytes: &[u8], now: u64)
+        ensures target { ReadsTarget self.old self.new }
+        ensures mount { self.new.mount ≡ self.old.mount }
+    {
         match self.target_line.reader.feed(bytes) {
             Ok(Fed { units, fault }) => {
                 self.take_target_units(units, now);
@@ -74,9 +85,10 @@ impl PullSession {
 
     /// Takes what the source sent.
     fn take_source_units(&mut self, units: Vec<Unit>, now: u64)
-        ensures takes { TakesUnits units.items self.old.client self.new.client self.old.target.waiting self.new.target.waiting }
-        ensures source { self.new.source.reader ≡ self.old.source.reader }
-        ensures reader { self.new.target.reader ≡ self.old.target.reader }
+        ensures takes { TakesUnits units.items now (pass_state self.old) (pass_state self.new) }
+        ensures source { self.new.source ≡ record self.old.source { waiting = self.new.source.waiting } }
+        ensures target { self.new.target ≡ record self.old.target { waiting = self.new.target.waiting } }
+        ensures mount { self.new.mount ≡ self.old.mount }
     {
         for unit in units {
             self.take_source_unit(unit, now);
@@ -85,9 +97,10 @@ impl PullSession {
 
     /// Takes a frame or a message of the source.
     fn take_source_unit(&mut self, unit: Unit, now: u64)
-        ensures takes { TakesUnit unit self.old.client self.new.client self.old.target.waiting self.new.target.waiting }
-        ensures source { self.new.source.reader ≡ self.old.source.reader }
-        ensures reader { self.new.target.reader ≡ self.old.target.reader }
+        ensures takes { TakesUnit unit now (pass_state self.old) (pass_state self.new) }
+        ensures source { self.new.source ≡ record self.old.source { waiting = self.new.source.waiting } }
+        ensures target { self.new.target ≡ record self.old.target { waiting = self.new.target.waiting } }
+        ensures mount { self.new.mount ≡ self.old.mount }
     {
         match unit {
             Unit::Frame(frame) => self.take_frame(&frame, now),
@@ -96,17 +109,25 @@ impl PullSession {
     }
 
     /// Takes what the target sent. Frames of it are dropped.
-    fn take_target_units(&mut self, units: Vec<Unit>, now: u64) {
+    #[tactic(auto, using(crate::proofs::TargetReplies::keeps_none, crate::proofs::TargetReplies::keeps_more))]
+    fn take_target_units(&mut self, units: Vec<Unit>, now: u64)
+        ensures target { ReadsTarget self.old self.new }
+        ensures mount { self.new.mount ≡ self.old.mount }
+    {
         for unit in units {
             self.take_message(Side::Target, unit, now);
         }
     }
 
     /// Takes a message of a side. After a redirect what the old connection still brings is dropped.
+    #[tactic(auto, using(crate::proofs::TargetReplies::keeps_same, crate::proofs::TargetReplies::keeps_none))]
     fn take_message(&mut self, side: Side, unit: Unit, now: u64)
         ensures target { side ≡ Source → self.new.target ≡ self.old.target }
-        ensures reader { self.new.target.reader ≡ self.old.target.reader }
-        ensures source { self.new.source.reader ≡ self.old.source.reader }
+        ensures watch { self.new.watch ≡ self.old.watch }
+        ensures source { self.new.source ≡ record self.old.source { waiting = self.new.source.waiting } }
+        ensures other { side ≡ Target → self.new.source ≡ self.old.source }
+        ensures passage { side ≡ Target → KeepsPassage self.old.client.passage self.new.client.passage }
+        ensures mount { self.new.mount ≡ self.old.mount }
     {
         if side == Side::Source && self.next_place.is_some() {
             return;
@@ -121,8 +142,11 @@ impl PullSession {
     /// Replies to a request of a server. While too much waits for that server, its requests have no reply.
     fn take_request(&mut self, side: Side, request: &Request)
         ensures target { side ≡ Source → self.new.target ≡ self.old.target }
-        ensures reader { self.new.target.reader ≡ self.old.target.reader }
-        ensures source { self.new.source.reader ≡ self.old.source.reader }
+        ensures watch { self.new.watch ≡ self.old.watch }
+        ensures source { self.new.source ≡ record self.old.source { waiting = self.new.source.waiting } }
+        ensures other { side ≡ Target → self.new.source ≡ self.old.source }
+        ensures passage { self.new.client.passage ≡ self.old.client.passage }
+        ensures mount { self.new.mount ≡ self.old.mount }
     {
         if self.line(side).waiting.is_full() {
             return;

@@ -42,7 +42,7 @@ pub enum Reason {
     Client(End),
     /// What a server sends is no RTSP.
     Faulty { side: Side, fault: Fault },
-    /// No frame came on a track's channel for this number of milliseconds.
+    /// No frame came that goes on to the target for this number of milliseconds.
     Silent { milliseconds: u64 },
     /// The target took no byte for 20 seconds.
     TargetStalled,

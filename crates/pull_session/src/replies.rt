@@ -1,6 +1,8 @@
 //! What replies mean for a try.
 
 ghost use Rattle.std.specs.Prelude.{◌≡◌, ◌⊎◌};
+ghost use Rattle.rtsp_client.specs.declared.asked.Side.TheVariants.{Target};
+ghost use Rattle.pull_session.specs.Passing.{KeepsPassage};
 ghost use Rattle.pull_session.specs.Tries.{new_line};
 
 use crate::note::Note;
@@ -34,9 +36,13 @@ fn headers_of(reply: &Response) -> ReplyHeaders<'_> {
 
 impl PullSession {
     /// A reply of a side comes at this moment.
+    #[tactic(auto, using(crate::proofs::TargetReplies::keeps_same, crate::proofs::TargetReplies::keeps_none))]
     pub(crate) fn take_reply(&mut self, side: Side, reply: &Response, now: u64)
         ensures target { self.new.target ≡ self.old.target }
         ensures source { self.new.source ≡ self.old.source }
+        ensures watch { self.new.watch ≡ self.old.watch }
+        ensures passage { side ≡ Target → KeepsPassage self.old.client.passage self.new.client.passage }
+        ensures mount { self.new.mount ≡ self.old.mount }
     {
         let Ok(facts) = ReplyFacts::of(self.alloc, headers_of(reply)) else {
             self.fail(Reason::OutOfMemory, side);
@@ -61,6 +67,9 @@ impl PullSession {
     fn read_description(&mut self, reply: &Response)
         ensures target { self.new.target ≡ self.old.target }
         ensures source { self.new.source ≡ self.old.source }
+        ensures watch { self.new.watch ≡ self.old.watch }
+        ensures passage { self.new.client.passage ≡ self.old.client.passage }
+        ensures mount { self.new.mount ≡ self.old.mount }
     {
         match source_sdp::read(self.alloc, reply.body.as_slice()) {
             Ok(description) => self.take_description(reply, description),
@@ -72,9 +81,13 @@ impl PullSession {
     }
 
     /// Takes what the description of the source offers.
+    #[tactic(auto, using(crate::proofs::TargetReplies::described_same))]
     fn take_description(&mut self, reply: &Response, description: SourceDescription)
         ensures target { self.new.target ≡ self.old.target }
         ensures source { self.new.source ≡ self.old.source }
+        ensures watch { self.new.watch ≡ self.old.watch }
+        ensures passage { self.new.client.passage ≡ self.old.client.passage }
+        ensures mount { self.new.mount ≡ self.old.mount }
     {
         let base = base_of(
             field(reply, b"Content-Base"),
@@ -97,6 +110,9 @@ impl PullSession {
     fn follow(&mut self, reply: &Response)
         ensures target { self.new.target ≡ self.old.target }
         ensures source { self.new.source ≡ self.old.source }
+        ensures watch { self.new.watch ≡ self.old.watch }
+        ensures passage { self.new.client.passage ≡ self.old.client.passage }
+        ensures mount { self.new.mount ≡ self.old.mount }
     {
         let Some(place) = field(reply, b"Location") else {
             self.fail(Reason::BadRedirect(None), Side::Source);
@@ -110,9 +126,13 @@ impl PullSession {
     }
 
     /// Answers the challenge of the source, if there is a password for it.
+    #[tactic(auto, using(crate::proofs::TargetReplies::answered_same))]
     fn answer(&mut self, reply: &Response)
         ensures target { self.new.target ≡ self.old.target }
         ensures source { self.new.source ≡ self.old.source }
+        ensures watch { self.new.watch ≡ self.old.watch }
+        ensures passage { self.new.client.passage ≡ self.old.client.passage }
+        ensures mount { self.new.mount ≡ self.old.mount }
     {
         let host = self.place.host.as_slice();
         match self.login.challenge(self.alloc, reply, host) {

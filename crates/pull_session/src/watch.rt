@@ -7,7 +7,7 @@ use crate::limits::{CLOSING_WAIT, READING_WAIT, TARGET_WAIT};
 /// The times of a try, in milliseconds of one clock.
 #[derive(Clone, Copy, Debug, PartialEq, Eq, Drop)]
 pub struct Watch {
-    /// When the last frame came on a track's channel, or PLAY was sent. `None` before. The time in which the source isn't read doesn't
+    /// When the last frame came that goes on to the target, or PLAY was sent. `None` before. The time in which the source isn't read doesn't
     /// count.
     pub(crate) heard: Option<u64>,
     /// When the source was last not read. `None` if it was always.
@@ -31,7 +31,7 @@ impl Watch {
         }
     }
 
-    /// A frame comes on a track's channel, or PLAY is sent.
+    /// A frame comes that goes on to the target, or PLAY is sent.
     pub(crate) fn hears(&mut self, now: u64)
         ensures { self.new ≡ record self.old { heard = Some now } }
     {

@@ -9,3 +9,4 @@ pub mod SeatHolds
 pub mod Stretches
 pub mod Sweepings
 pub mod Ways
+pub mod WriterBuffers

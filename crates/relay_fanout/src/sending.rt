@@ -11,6 +11,7 @@ pub(crate) mod fewest;
 pub(crate) mod frame_thread;
 pub(crate) mod gather;
 pub(crate) mod given_back;
+pub(crate) mod line_done;
 pub(crate) mod marked_line;
 pub(crate) mod phase;
 pub(crate) mod player_list;

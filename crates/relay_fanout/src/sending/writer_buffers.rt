@@ -1,5 +1,6 @@
 //! What a writer has of its own for its looks.
 ghost use Rattle.std.specs.Prelude.{◌≡◌, ◌≢◌, ◌≤◌, ◌<◌, ◌+◌, [], length, max, IfOk, IfSome, OnOk, OnErr};
+ghost use Rattle.relay_fanout.specs.WriterBuffers.{longest_with};
 
 use crate::limits::GATHERED;
 use crate::sending::batch::Line;
@@ -31,10 +32,13 @@ impl WriterBuffers {
         }
     }
 
-    /// Makes them large enough for packets of so many bytes. The only error is out of memory.
+    /// Makes them large enough for packets of this number of bytes. The only error is out of memory.
     pub(super) fn fit(&mut self, packet_bytes: usize) -> Result<(), AllocError>
         ensures packet { OnOk result (packet_bytes ≤ length self.new.packet.items) }
         ensures frames { OnOk result (packet_bytes + 32_772 ≤ length self.new.frames.items) }
+        ensures packet_most { OnOk result (length self.new.packet.items ≤ max packet_bytes (length self.old.packet.items)) }
+        ensures most { length self.new.frames.items ≤ longest_with (packet_bytes + 32_772) self.old }
+        ensures spare { length self.new.spare.items ≤ longest_with 0 self.old }
     {
         if self.packet.len() < packet_bytes {
             self.packet.resize(packet_bytes, 0)?;
@@ -48,7 +52,8 @@ impl WriterBuffers {
         ensures line { (line.new.inner ≡ line.old.inner) × (line.new.kept ≡ line.old.kept) }
         ensures lent { line.old.kept ≡ [] → line.new.size ≡ length self.old.frames.items }
         ensures had { line.old.kept ≡ [] → length self.new.frames.items ≡ line.old.size }
-        ensures packet { self.new.packet ≡ self.old.packet }
+        ensures keeps { line.old.kept ≢ [] → (self.new ≡ self.old) × (line.new ≡ line.old) }
+        ensures packet { (self.new.packet ≡ self.old.packet) × (self.new.spare ≡ self.old.spare) }
     {
         let _ = line.swap_buffer(&mut self.frames);
         Lent(())
@@ -65,6 +70,10 @@ impl WriterBuffers {
         ensures kept { OnOk result (line.new.kept ≡ line.old.kept) }
         ensures gives { OnOk result (line.old.kept ≡ [] → line.new.size ≡ 0) }
         ensures again { line.old.size ≤ length self.new.frames.items }
+        ensures most { length self.new.frames.items ≤ longest_with line.old.size self.old }
+        ensures spare { length self.new.spare.items ≤ longest_with 0 self.old }
+        ensures longer { OnOk result (line.old.kept ≡ [] → length self.new.spare.items ≡ longest_with 0 self.old) }
+        ensures packet { self.new.packet ≡ self.old.packet }
         ensures refused { OnErr result ((line.old.kept ≢ []) × (line.new.kept ≡ []) × (line.new.size ≡ 0)) }
     {
         let Lent(()) = lent;
@@ -87,7 +96,8 @@ impl WriterBuffers {
     fn make_frames(&mut self, size: usize) -> Result<(), AllocError>
         ensures frames { OnOk result (size ≤ length self.new.frames.items) }
         ensures same { size ≤ length self.old.frames.items → self.new ≡ self.old }
-        ensures most { length self.new.frames.items ≤ max size (max (length self.old.frames.items) (length self.old.spare.items)) }
+        ensures most { length self.new.frames.items ≤ longest_with size self.old }
+        ensures spare { length self.new.spare.items ≤ longest_with 0 self.old }
         ensures packet { self.new.packet ≡ self.old.packet }
     {
         if self.frames.len() < size {
@@ -101,7 +111,7 @@ impl WriterBuffers {
 
     /// What a line had before this look is the spare buffer, unless there is a longer one.
     fn keep_spare(&mut self)
-        ensures longer { length self.new.spare.items ≡ max (length self.old.frames.items) (length self.old.spare.items) }
+        ensures longer { length self.new.spare.items ≡ longest_with 0 self.old }
         ensures packet { self.new.packet ≡ self.old.packet }
     {
         if self.spare.len() < self.frames.len() {
@@ -110,7 +120,7 @@ impl WriterBuffers {
     }
 }
 
-/// Returns a buffer for what is gathered of the frames of packets of so many bytes. The only error is out of memory.
+/// Returns a buffer for what is gathered of the frames of packets of this number of bytes. The only error is out of memory.
 pub(super) fn frames_buffer(alloc: Global, packet_bytes: usize) -> Result<Vec<u8>, AllocError>
     ensures { IfOk result (λ buffer. length buffer.items ≡ packet_bytes + 32_772) }
 {
@@ -118,7 +128,7 @@ pub(super) fn frames_buffer(alloc: Global, packet_bytes: usize) -> Result<Vec<u8
     Vec::from_elem(alloc, 0, size)
 }
 
-/// Returns how long a buffer is in which a frame has room behind what is gathered for one write (`GATHERED`).
+/// Returns the length of a buffer in which a frame has room after what is gathered for one write (`GATHERED`), in bytes.
 fn frames_size(packet_bytes: usize) -> Option<usize>
     ensures { IfSome result (λ size. size ≡ packet_bytes + 32_772) }
 {

@@ -8,6 +8,7 @@ use crate::net::hang_up::HangUp;
 use crate::reading::Reading;
 use crate::sending::batch::Line;
 use crate::sending::gather::gather;
+use crate::sending::line_done::LineDone;
 use crate::sending::ring_look::{LineHeld, Looked};
 use crate::sending::send_side::{SeatTap, SendSide};
 use crate::sending::tap_place::TapPlace;
@@ -20,7 +21,7 @@ use interleaved::{Failed, TrySink};
 use player::OutStop;
 use relay_accounts::HandedOver;
 use std::sync::Wait;
-use waking::{After, Answer, Course, Failure, Flushed, Next, Quiet};
+use waking::{Answer, Course, Failure, Flushed, Next, Quiet};
 
 impl<T: Tap + Leave + Drop, W: TrySink + Drop, H: HangUp + Drop> SendSide<T, W, H> {
     /// Makes a writer's look at the player of this number, and does nothing if a later player is in its place. While the thread that reads
@@ -93,10 +94,8 @@ impl WriterPlayer {
         };
         let found = looked.found(sink.len() > 0, moved, self.known.was_level());
         let after = self.state.looked(found, moment, now.is_read, waits.stall);
-        end_streams(shutdown, after);
-        drop(sink);
-        self.carry_out(rt, tap, after);
-        after.next
+        let done = LineDone::after_look(sink, shutdown, after);
+        self.carry_out(rt, tap, done)
     }
 
     /// Gathers the frames of up to sixteen takes, as many as leave in one write, and writes what the socket takes at once. Returns
@@ -157,27 +156,13 @@ impl WriterPlayer {
     }
 }
 
-/// Ends what a connection runs over, if that was decided after a look. No reply is written after a frame that wasn't written whole, since the
-/// writer has the line.
-fn end_streams(shutdown: &impl HangUp, after: After) {
-    if after.closes_writes {
-        shutdown.close_writes();
-    }
-    if after.notes_stall {
-        shutdown.note_stall();
-    }
-    if after.hangs_up {
-        shutdown.hang_up();
-    }
-}
-
 /// Writes what the socket takes at once of the bytes that wait. Returns what became of them, and whether some moved.
 fn try_rest<W: TrySink + Drop>(sink: &mut Line<W>) -> (Flushed, bool) {
     let tried = sink.try_flush();
     (flushed_of(tried, sink.len()), tried.unwrap_or(0) > 0)
 }
 
-/// What became of the bytes that waited, of which so many are left after this try.
+/// Returns what became of the bytes that waited, of which this number is left after this try.
 fn flushed_of(tried: Result<usize, Failed>, left: usize) -> Flushed
     ensures failed { OnErr tried (result ≡ flushed.Failed) }
     ensures all { OnOk tried (left ≡ 0 → result ≡ flushed.All) }

@@ -1,18 +1,16 @@
 //! A player whose frames a writer sends.
-ghost use Rattle.std.specs.Prelude.{◌≡◌, IsNone, IsSome, None, true, false};
+ghost use Rattle.std.specs.Prelude.{◌≡◌, IsNone, None};
 ghost use Rattle.waking.specs.PlayerStates.{comer};
 
 use crate::flow::pace::KnownLevel;
 use crate::flow::round_change::LeftPace;
-use crate::mount::leave::Leave;
 use crate::mount::mount_signal::MountSignal;
 use crate::sending::sent_frames::SentFrames;
-use crate::sending::tap_place::TapPlace;
 use relay_accounts::Handover;
 use std::alloc::Global;
 use std::sync::{Arc, Wait};
 use transport_header::TrackChannels;
-use waking::{After, PlayerState};
+use waking::PlayerState;
 
 /// A player that takes from a seat: its writer looks at it, and the thread that reads its connection takes it out again.
 #[derive(Drop)]
@@ -25,7 +23,7 @@ pub(crate) struct WriterPlayer {
     pub(super) channels: TrackChannels,
     pub(super) known: KnownLevel,
     /// That it has left its mount's pace, if it has.
-    left: Option<LeftPace>,
+    pub(super) left: Option<LeftPace>,
     /// What its writer decides of it.
     pub(super) state: PlayerState,
 }
@@ -82,23 +80,5 @@ impl WriterPlayer {
     {
         self.known = self.signal.pace.join(rt, self.seat);
         self.left = None;
-    }
-
-    /// Carries out what was decided after a look, but for what needs the line (`end_streams`).
-    pub(super) fn carry_out<T: Leave + Drop>(
-        &mut self,
-        rt: &impl Wait,
-        tap: &mut TapPlace<T>,
-        after: After,
-    )
-        ensures leaves { after.leaves_pace ≡ true → IsSome self.new.left }
-        ensures stays { after.leaves_pace ≡ false → self.new.left ≡ self.old.left }
-    {
-        if after.leaves_pace {
-            self.left = Some(self.signal.pace.leave(rt, self.seat));
-        }
-        if after.leaves_tap {
-            tap.leave();
-        }
     }
 }

@@ -21,3 +21,7 @@ loop-len-preserved c =
       are = subst (λ (l : List ℕ). AreFrames l (before.frames ++ frame ∷ [])) (sym (take-add len size bytes))
           (frames_push (take len bytes) (take size (drop len bytes)) before.frames frame before.are begins.3);
     }
+
+pub returns-in_default-clause-all : goal.returns-in_default-clause-all
+returns-in_default-clause-all c = λ size begins.
+    c.in_default.ensures.stands size (subst (λ (l : List ℕ). FrameBegins l size) (sym (take_rest c.args.bytes.now c.loop-len.len)) begins)

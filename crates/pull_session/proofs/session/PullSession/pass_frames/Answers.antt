@@ -3,7 +3,9 @@ use Rattle.std.proofs.lemmas.List.{drop-drop, take_rest}
 use Rattle.interleaved.specs.declared.frame.Frame.{Frame as Block}
 use Rattle.interleaved.specs.Frame.{FrameBegins}
 use Rattle.pull_session.specs.Blocks.{AreFrames, frame_in}
+use Rattle.pull_session.specs.Passing.{pass_state}
 use Rattle.pull_session.specs.Tries.{Try}
+use Rattle.pull_session.specs.declared.line.Line.{Line}
 use Rattle.pull_session.proofs.Blocks.{ahead, at_end, frame_begins, frame_first, frame_is, one_size, place_within, takes_next}
 use Rattle.pull_session.proofs.session.PullSession.pass_frames.Goals as goal
 
@@ -15,8 +17,10 @@ loop-from-init c = record {
   left = c.requires.frames.0;
   all = c.requires.frames.1;
   ahead = c.requires.frames.1;
-  takes = (refl, refl);
+  takes = refl;
   source = refl;
+  target = refl;
+  mount = refl;
 }
 
 pub slice_bounds-frame_at-count : goal.slice_bounds-frame_at-count
@@ -75,8 +79,11 @@ loop-from-preserved c =
       left = a.others;
       all = subst (λ (l : List Block). AreFrames (take c.args.len bytes) l) (ap (λ (l : List Block). before.done ++ l) a.parts ∙ sym (append_assoc before.done (a.frame ∷ []) a.others)) before.all;
       ahead = subst (λ (n : ℕ). AreFrames (drop (from + n) (take c.args.len bytes)) a.others) (sym same) a.next;
-      takes = takes_next before.done a.frame (take size (drop at free)) _ _ _ _ _ _ (ap frame_in bytes_are ∙ is) before.takes c.pass_frame-at.ensures.taken;
+      takes = takes_next before.done a.frame (take size (drop at free)) c.args.now (pass_state c.args.self.now) (pass_state c.loop-from.self) (pass_state c.pass_frame-at.new.self) (ap frame_in bytes_are ∙ is) before.takes c.pass_frame-at.ensures.taken;
       source = c.pass_frame-at.ensures.source ∙ before.source;
+      target = c.pass_frame-at.ensures.target
+          ∙ ap (λ (l : Line). record l { waiting = c.pass_frame-at.new.self.target.waiting }) before.target;
+      mount = c.pass_frame-at.ensures.mount ∙ before.mount;
     }
 
 pub returns-after-loop-from-clause-takes : goal.returns-after-loop-from-clause-takes
