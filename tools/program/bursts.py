@@ -467,7 +467,8 @@ SINGLE = 250
 
 # How many times the writers' processor time of that player alone it may be beside the others. In four runs a sweep that passes over them took 1.0 to 1.3
 # times, all threads counted. A build with a sanitizer, which isn't tried here, took 2.7 times, and 16 times with a sweep that looks at each of them.
-COST = 2
+# On a machine that does other work for a while it may be twice in one try of them, so each is tried again.
+COST, TRIES = 2, 5
 
 
 def threads_of(server):
@@ -498,11 +499,11 @@ def quiet_players_cost_little(program):
         camera, player = peers.enter_context(Camera(server)), peers.enter_context(Player(server))
         # The threads that read the quiet players' connections come later.
         threads = threads_of(server)
-        alone = min(cost_of_singles(threads, camera, player, first) for first in (0, SINGLE))
+        alone = min(cost_of_singles(threads, camera, player, first) for first in range(0, TRIES * SINGLE, SINGLE))
         peers.enter_context(Camera(server, "quiet"))
         for _ in range(QUIET):
             peers.enter_context(Player(server, "quiet"))
-        beside = min(cost_of_singles(threads, camera, player, first) for first in (2 * SINGLE, 3 * SINGLE))
+        beside = min(cost_of_singles(threads, camera, player, first) for first in range(TRIES * SINGLE, 2 * TRIES * SINGLE, SINGLE))
         if beside > COST * alone:
             yield f"{1000 * beside:.0f} ms of processors, and {1000 * alone:.0f} without them"
 
