@@ -1,16 +1,17 @@
 //! The mounts and players of a server while they go on: for reports, and for whoever asks for a snapshot.
 mod figures;
+mod marked_threads;
 mod report_list;
 mod reported_mount;
 mod reported_player;
 mod shown;
 mod shown_tracks;
 mod told;
-mod watched;
 
 ghost use Rattle.std.specs.Prelude.{◌≡◌};
 
 use crate::lines::Lines;
+use marked_threads::{MarkedThreads, marks_of};
 use mount_series::MountSeries;
 use relay_accounts::SeatAccount;
 use relay_fanout::WakeSignal;
@@ -25,7 +26,6 @@ use status::Snapshot;
 use std::alloc::{AllocError, Global};
 use std::sync::{Arc, Condvar, CondvarTimeouts, Mutex, Wait};
 use std::time::{Clock, Duration};
-use watched::{Watched, marks_of};
 
 /// The mounts that are recorded and the players that have a seat, what was reported of them, and the sums of those that have ended.
 /// One thread reports each mount, and each player that lost packets, at regular times.
@@ -43,7 +43,7 @@ pub struct Reports {
     closed: Condvar,
     counts: Arc<ServerCounts, Global>,
     /// The threads of the server that leave marks elsewhere, once it has started.
-    watched: Mutex<Option<Watched>>,
+    marked_threads: Mutex<Option<MarkedThreads>>,
 }
 
 impl Drop for Reports {
@@ -54,7 +54,7 @@ impl Drop for Reports {
             list: _,
             closed: _,
             counts: _,
-            watched: _,
+            marked_threads: _,
         } = self;
     }
 }
@@ -76,7 +76,7 @@ impl Reports {
             list: Mutex::new(list),
             closed: Condvar::new(),
             counts: Arc::new(alloc, ServerCounts::new())?,
-            watched: Mutex::new(None),
+            marked_threads: Mutex::new(None),
         })
     }
 
@@ -89,7 +89,7 @@ impl Reports {
 
     /// The server has started: its waking thread and this many writers leave their marks here.
     pub fn watch(&self, rt: &impl Wait, wake_signal: Arc<WakeSignal, Global>, writers: usize) {
-        *self.watched.lock(rt) = Some(Watched {
+        *self.marked_threads.lock(rt) = Some(MarkedThreads {
             wake_signal,
             writers,
         });
@@ -97,7 +97,7 @@ impl Reports {
 
     /// Reads the marks of the threads that serve many. The only error is out of memory.
     pub fn marks(&self, rt: &impl Wait) -> Result<Vec<ThreadLook>, AllocError> {
-        marks_of(self.alloc, &self.counts, &self.watched.lock(rt))
+        marks_of(self.alloc, &self.counts, &self.marked_threads.lock(rt))
     }
 
     /// A connection's mount is recorded.

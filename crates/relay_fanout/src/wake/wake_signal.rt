@@ -128,8 +128,8 @@ impl WakeSignal {
     }
 
     /// Returns whether the waking thread is to end. A stop before the signal was cleared is seen here, and one after it notifies.
-    pub(super) fn is_stopped(&self, raised: Raised) -> bool {
-        let Raised(()) = raised;
+    pub(super) fn is_stopped(&self, after: Raised) -> bool {
+        let Raised(()) = after;
         self.stopped.is_set()
     }
 }

@@ -9,7 +9,7 @@ use waking::next_word;
 /// A word that threads sleep on, and how often it was raised.
 #[derive(Drop)]
 pub(crate) struct WakeWord {
-    raised: AtomicU64,
+    wakeups: AtomicU64,
 }
 
 /// The word was changed, and the threads that sleep on it have yet to be woken: they are `calling` in the machine of `waking`.
@@ -20,7 +20,7 @@ impl WakeWord {
     /// It wasn't raised.
     pub(crate) fn new() -> WakeWord {
         WakeWord {
-            raised: AtomicU64::new(0),
+            wakeups: AtomicU64::new(0),
         }
     }
 
@@ -33,16 +33,16 @@ impl WakeWord {
 
     /// Returns how often it was raised. If it is read before a look, no wake-up is missed.
     pub(crate) fn load(&self) -> u64 {
-        self.raised.load(Ordering::SeqCst)
+        self.wakeups.load(Ordering::SeqCst)
     }
 
-    /// Sleeps until it is raised once more than `raised` times, or for `most` milliseconds. It may also return for no reason.
-    pub(crate) fn sleep(&self, rt: &impl Wait, raised: u64, most: Option<u64>) {
+    /// Sleeps until it is raised once more than `wakeups` times, or for `most` milliseconds. It may also return for no reason.
+    pub(crate) fn sleep(&self, rt: &impl Wait, wakeups: u64, most: Option<u64>) {
         match most {
-            None => self.raised.park(rt, low_half(raised)),
+            None => self.wakeups.park(rt, low_half(wakeups)),
             Some(most) => {
                 let most = Duration::from_millis(most);
-                self.raised.park_timeout(rt, low_half(raised), most);
+                self.wakeups.park_timeout(rt, low_half(wakeups), most);
             }
         }
     }
@@ -50,7 +50,7 @@ impl WakeWord {
     /// Changes the word.
     fn change(&self) -> Changed {
         let _ = self
-            .raised
+            .wakeups
             .fetch_update(Ordering::SeqCst, Ordering::SeqCst, |word| {
                 Some(next_word(word))
             });
@@ -60,7 +60,7 @@ impl WakeWord {
     /// Wakes all threads that sleep on it: the step `calls`.
     fn call(&self, changed: Changed) {
         let Changed(()) = changed;
-        self.raised.wake_all();
+        self.wakeups.wake_all();
     }
 }
 

@@ -20,8 +20,7 @@ pub fn wake_players<R: Wait + Clock>(
         wake_signal.gather(rt, gather);
         let cleared = wake_signal.clear();
         let asked = recording.ask(rt, cleared);
-        let raised = asked.raise(wake_signal);
-        if wake_signal.is_stopped(raised) {
+        if wake_signal.is_stopped(asked.raise(wake_signal)) {
             return;
         }
     }

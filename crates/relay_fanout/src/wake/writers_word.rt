@@ -9,14 +9,14 @@ use std::sync::atomic::{AtomicU64, Ordering};
 /// The word that writers sleep on, and how each of them read it last.
 #[derive(Drop)]
 pub(crate) struct WritersWord {
-    word: WakeWord,
+    writer_wakeups: WakeWord,
     read: [AtomicU64; MOST_WRITERS],
 }
 
 /// The word as a writer read it at the beginning of a sweep: `read` of a writer in the machine of `waking`. It has no `Drop`, so
 /// that it ends in `sleep` or `put_down`, and a sleep is on the word that was read before the players were looked at.
 pub(crate) struct WordRead {
-    raised: u64,
+    writer_wakeups: u64,
 }
 
 /// Why a writer doesn't sleep on the word that it read.
@@ -32,7 +32,7 @@ impl WritersWord {
     /// It wasn't raised.
     pub(crate) fn new() -> WritersWord {
         WritersWord {
-            word: WakeWord::new(),
+            writer_wakeups: WakeWord::new(),
             read: array::from_fn(|_| AtomicU64::new(0)),
         }
     }
@@ -42,16 +42,16 @@ impl WritersWord {
     /// Called after the change that a look is to see: a wake-up was counted, a player came, a marked writing side was given
     /// back, or the writers were stopped.
     pub(crate) fn raise(&self) {
-        self.word.raise();
+        self.writer_wakeups.raise();
     }
 
     /// The writer of this number reads the word, before it looks at its players: the step `begins`.
     pub(crate) fn read(&self, writer: usize) -> WordRead {
-        let raised = self.word.load();
+        let writer_wakeups = self.writer_wakeups.load();
         if let Some(read) = self.read.get(writer) {
-            read.store(raised, Ordering::SeqCst);
+            read.store(writer_wakeups, Ordering::SeqCst);
         }
-        WordRead { raised }
+        WordRead { writer_wakeups }
     }
 
     /// Returns the mark of the writer of this number: raised if the word isn't what the writer read last. `None` if there is no such
@@ -59,7 +59,7 @@ impl WritersWord {
     pub(crate) fn mark(&self, writer: usize) -> Option<Mark> {
         let looks = self.read.get(writer)?.load(Ordering::SeqCst);
         Some(Mark {
-            is_raised: self.word.load() != looks,
+            is_raised: self.writer_wakeups.load() != looks,
             looks,
         })
     }
@@ -67,14 +67,14 @@ impl WritersWord {
     /// Sleeps while the word is the one that was read, for at most `most` milliseconds: the steps `sleeps` and `returns`. It may
     /// also return for no reason.
     pub(crate) fn sleep(&self, rt: &impl Wait, read: WordRead, most: Option<u64>) {
-        let WordRead { raised } = read;
-        self.word.sleep(rt, raised, most);
+        let WordRead { writer_wakeups } = read;
+        self.writer_wakeups.sleep(rt, writer_wakeups, most);
     }
 }
 
 impl WordRead {
     /// The writer doesn't sleep, for this reason, and reads the word anew if it goes on.
     pub(crate) fn put_down(self, _why: Awake) {
-        let WordRead { raised: _ } = self;
+        let WordRead { writer_wakeups: _ } = self;
     }
 }

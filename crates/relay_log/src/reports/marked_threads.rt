@@ -8,7 +8,7 @@ use std::sync::Arc;
 
 /// What the waking thread and the writers leave their marks in, and how many writers there are.
 #[derive(Drop)]
-pub(super) struct Watched {
+pub(super) struct MarkedThreads {
     pub(super) wake_signal: Arc<WakeSignal, Global>,
     pub(super) writers: usize,
 }
@@ -17,18 +17,18 @@ pub(super) struct Watched {
 pub(super) fn marks_of(
     alloc: Global,
     counts: &ServerCounts,
-    watched: &Option<Watched>,
+    marked_threads: &Option<MarkedThreads>,
 ) -> Result<Vec<ThreadLook>, AllocError> {
     let mut looks = Vec::new(alloc);
     looks.push(look_at(ServerThread::Accepting, counts.accepting.read()))?;
     looks.push(look_at(ServerThread::Refusing, counts.refusing.read()))?;
     looks.push(look_at(ServerThread::Reporting, counts.reporting.read()))?;
     let Some(
-        Watched {
+        MarkedThreads {
             wake_signal,
             writers,
         },
-    ) = watched
+    ) = marked_threads
     else {
         return Ok(looks);
     };
