@@ -19,7 +19,7 @@ TOP = pathlib.Path(__file__).resolve().parent.parent.parent
 
 # How the lines of the pages that aren't run begin, and why they aren't.
 NOT_RUN = {
-    ".ci/run": "it is what runs this",
+    "./relay check": "it is what runs this",
     "tools/package": "it needs Debian's tools",
     "./relay pull ": "its camera is another machine: `pulling_ends.py` runs it with a camera of this one",
     "sudo dpkg -i ": "it changes the system",
