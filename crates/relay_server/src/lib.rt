@@ -23,8 +23,6 @@ pub use listen::server::run_server;
 pub use listen::stopping::Stopping;
 pub use proxy_header::HeaderFault;
 pub use relay_accounts::{ConnectionEnd, Counts, HeaderEnd, Outcome, Part};
-pub use relay_fanout::{
-    HangUp, Maker, RingMaker, Seat, Socket, Writers, WritingSide, limit_peers, set_send_buffer,
-    stop_listening,
-};
+pub use relay_fanout::{Maker, RingMaker, Seat, Writers, WritingSide};
 pub use relay_log::{Events, Lines, Refusal, Reports, tell_end, tell_last_account};
+pub use sockets::{HangUp, Socket, limit_peers, set_send_buffer, stop_listening};

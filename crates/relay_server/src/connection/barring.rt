@@ -2,9 +2,10 @@
 use crate::connection::serving::Connection;
 use crate::listen::gate::Gate;
 use interleaved::Sink;
-use relay_fanout::{HangUp, Maker};
+use relay_fanout::Maker;
 use rtsp_message::{Request, Status};
 use session_state::{Moments, Words, sound_method};
+use sockets::HangUp;
 use std::sync::Wait;
 use std::thread::Threads;
 use std::time::Clock;

@@ -1,8 +1,8 @@
 //! The moments of a server's clock.
 ghost use Rattle.std.specs.Prelude.{◌≡◌, ◌≤◌};
 
-use relay_fanout::SteadyClock;
 use session_state::Moments;
+use sockets::SteadyClock;
 use std::time::Clock;
 
 /// Milliseconds since these moments were made. If the clock can't be read, the last moment is returned again.

@@ -2,7 +2,7 @@
 use crate::connection::connection_clock::Watch;
 use crate::limits::{AFTER_TEXT, LAST_READS};
 use interleaved::Source;
-use relay_fanout::{HangUp, close_behind_text};
+use sockets::{HangUp, close_behind_text};
 
 /// A read of a connection that nothing comes to fails. Nothing else makes it, so that no peer that says nothing after its last text
 /// keeps its connection.

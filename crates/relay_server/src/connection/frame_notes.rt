@@ -1,7 +1,7 @@
 //! What is noted of a publisher's frames as they come.
 use crate::connection::connection_clock::Watch;
+use mount_signals::MountSignal;
 use publisher::{Fate, FateObserver};
-use relay_fanout::MountSignal;
 use std::alloc::Global;
 use std::sync::{Arc, Wait};
 

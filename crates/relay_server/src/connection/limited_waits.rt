@@ -1,6 +1,6 @@
 //! The waits of a connection that is about to end.
 use crate::limits::AFTER_TEXT;
-use relay_fanout::HangUp;
+use sockets::HangUp;
 
 /// The reads and writes of a connection wait for no longer than a moment each. Nothing else makes it, so that no last text, which
 /// takes it, waits for a peer that reads nothing.

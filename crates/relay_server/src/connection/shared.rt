@@ -1,7 +1,8 @@
 //! What all threads of a server share.
 use crate::connection::server_book::SharedBook;
+use mount_signals::{RecordingMounts, WakeSignal, wake_players};
 use mounts::MAX_MOUNTS;
-use relay_fanout::{Maker, Offers, RecordingMounts, Seat, WakeSignal, wake_players};
+use relay_fanout::{Maker, Offers, Seat};
 use server_counts::ServerCounts;
 use std::alloc::{AllocError, Global};
 use std::sync::{Arc, Mutex, Wait};

@@ -1,8 +1,8 @@
 //! The sockets that a stop shuts down.
 ghost use Rattle.std.specs.Prelude.{◌≡◌};
 
-use relay_fanout::{HangUp, SharedSocket, Socket};
 use server_counts::ServerCounts;
+use sockets::{HangUp, SharedSocket, Socket};
 use std::alloc::{AllocError, Global};
 use std::sync::{Arc, Mutex, Wait};
 

@@ -5,8 +5,9 @@ mod room;
 
 use crate::listen::live_sockets::Removed;
 use crate::listen::peers::PeerEntry;
-use relay_fanout::{SteadyClock, low_half};
+use mount_signals::low_half;
 pub(crate) use room::Room;
+use sockets::SteadyClock;
 use std::sync::Wait;
 use std::sync::atomic::{AtomicU64, Ordering};
 use std::time::{Clock, Duration};

@@ -8,20 +8,20 @@ use std::sync::atomic::{AtomicU64, Ordering};
 
 /// The word that writers sleep on, and how each of them read it last.
 #[derive(Drop)]
-pub(crate) struct WritersWord {
+pub struct WritersWord {
     writer_wakeups: WakeWord,
     read: [AtomicU64; MOST_WRITERS],
 }
 
 /// The word as a writer read it at the beginning of a sweep: `read` of a writer in the machine of `waking`. It has no `Drop`, so
 /// that it ends in `sleep` or `put_down`, and a sleep is on the word that was read before the players were looked at.
-pub(crate) struct WordRead {
+pub struct WordRead {
     writer_wakeups: u64,
 }
 
 /// Why a writer doesn't sleep on the word that it read.
 #[derive(Clone, Copy, Debug, PartialEq, Eq, Drop)]
-pub(crate) enum Awake {
+pub enum Awake {
     /// The writers were stopped.
     Stopped,
     /// A player is to be looked at again at once, or the list has changed.
@@ -41,12 +41,12 @@ impl WritersWord {
     ///
     /// Called after the change that a look is to see: a wake-up was counted, a player came, a marked writing side was given
     /// back, or the writers were stopped.
-    pub(crate) fn raise(&self) {
+    pub fn raise(&self) {
         self.writer_wakeups.raise();
     }
 
     /// The writer of this number reads the word, before it looks at its players: the step `begins`.
-    pub(crate) fn read(&self, writer: usize) -> WordRead {
+    pub fn read(&self, writer: usize) -> WordRead {
         let writer_wakeups = self.writer_wakeups.load();
         if let Some(read) = self.read.get(writer) {
             read.store(writer_wakeups, Ordering::SeqCst);
@@ -66,7 +66,7 @@ impl WritersWord {
 
     /// Sleeps while the word is the one that was read, for at most `most` milliseconds: the steps `sleeps` and `returns`. It may
     /// also return for no reason.
-    pub(crate) fn sleep(&self, rt: &impl Wait, read: WordRead, most: Option<u64>) {
+    pub fn sleep(&self, rt: &impl Wait, read: WordRead, most: Option<u64>) {
         let WordRead { writer_wakeups } = read;
         self.writer_wakeups.sleep(rt, writer_wakeups, most);
     }
@@ -74,7 +74,7 @@ impl WritersWord {
 
 impl WordRead {
     /// The writer doesn't sleep, for this reason, and reads the word anew if it goes on.
-    pub(crate) fn put_down(self, _why: Awake) {
+    pub fn put_down(self, _why: Awake) {
         let WordRead { writer_wakeups: _ } = self;
     }
 }

@@ -4,6 +4,7 @@ ghost use Rattle.std.specs.Prelude.{◌≡◌, ◌≢◌, ◌↔◌, IsSome, IsT
 use crate::flow::locked_round::LockedRound;
 use crate::flow::round_change::LeftPace;
 use std::alloc::{AllocError, Global};
+use std::marker::Model;
 use std::sync::Wait;
 use std::sync::atomic::{AtomicU64, Ordering};
 use std::time::{Clock, Duration};
@@ -15,7 +16,7 @@ use std::time::{Clock, Duration};
 /// the last that it waits for has taken as many as the round asks for, or left.
 ///
 /// The round's lock may be taken under the lock of a seat, with or without that of its writing side.
-pub(crate) struct Pace {
+pub struct Pace {
     round: LockedRound,
     /// How many packets each seat's player has taken.
     cursors: Vec<AtomicU64>,
@@ -32,36 +33,48 @@ impl Drop for Pace {
 
 /// What a player's thread knows of its own standing: the number of changes at which it was level, if it was. A player that joins
 /// its mount's pace gets it.
+///
+/// Its model is that number.
 #[derive(Clone, Copy, Drop)]
-pub(crate) struct KnownLevel {
+pub struct KnownLevel {
     at: Option<u64>,
+}
+
+impl Model for KnownLevel {
+    ghost use Rattle.std.specs.Prelude.{ℕ, Option};
+
+    ghost Value = { Option ℕ };
+
+    ghost view = { λ known. known.at };
+
+    ghost inverse = { λ known. record { at = known } };
 }
 
 impl KnownLevel {
     /// The state of a new player, which isn't known to keep up.
     fn new() -> KnownLevel
-        ensures { result ≡ record { at = None } }
+        ensures { result ≡ None }
     {
         KnownLevel { at: None }
     }
 
     /// Returns whether it was level since it came, or came back: a publisher may wait for it.
-    pub(crate) fn was_level(self) -> bool
-        ensures { IsTrue result ↔ IsSome self.at }
+    pub fn was_level(self) -> bool
+        ensures { IsTrue result ↔ IsSome self }
     {
         self.at.is_some()
     }
 
     /// Returns whether it is level, and no round was opened and no player given up since.
     fn is_level(self, changes: u64) -> bool
-        ensures { IsTrue result ↔ (self.at ≡ Some changes) }
+        ensures { IsTrue result ↔ (self ≡ Some changes) }
     {
         self.at == Some(changes)
     }
 
     /// Returns whether it was level, and a round was opened or players were given up since: a publisher may wait for it.
     fn may_be_awaited(self, changes: u64) -> bool
-        ensures { IsTrue result ↔ (IsSome self.at × (self.at ≢ Some changes)) }
+        ensures { IsTrue result ↔ (IsSome self × (self ≢ Some changes)) }
     {
         self.at.is_some() && self.at != Some(changes)
     }
@@ -96,8 +109,8 @@ impl Pace {
     }
 
     /// A player begins to take from its seat. The player before it has left.
-    pub(crate) fn join(&self, rt: &impl Wait, seat: usize) -> KnownLevel
-        ensures { result ≡ record { at = None } }
+    pub fn join(&self, rt: &impl Wait, seat: usize) -> KnownLevel
+        ensures { result ≡ None }
     {
         let changed = self.round.join(rt, seat);
         self.round.tell(changed);
@@ -105,7 +118,7 @@ impl Pace {
     }
 
     /// A player takes no more.
-    pub(crate) fn leave(&self, rt: &impl Wait, seat: usize) -> LeftPace {
+    pub fn leave(&self, rt: &impl Wait, seat: usize) -> LeftPace {
         let (changed, left) = self.round.leave(rt, seat);
         self.round.tell(changed);
         left
@@ -143,22 +156,22 @@ impl Pace {
     }
 
     /// Returns how many packets the slowest of the players that keep up has taken, or `published`.
-    pub(crate) fn slowest(&self, rt: &impl Wait, published: u64) -> u64 {
+    pub fn slowest(&self, rt: &impl Wait, published: u64) -> u64 {
         self.round.slowest(rt, self.cursors.as_slice(), published)
     }
 
     /// Opens a round in which `target` packets are to be taken. Returns how many players are awaited.
-    pub(super) fn open(&self, rt: &impl Wait, target: u64) -> usize {
+    pub fn open(&self, rt: &impl Wait, target: u64) -> usize {
         self.round.open(rt, self.cursors.as_slice(), target)
     }
 
     /// Sleeps until no player is awaited, for at most `most`. Returns how many players are still awaited.
-    pub(super) fn wait<R: Wait + Clock>(&self, rt: &R, most: Duration) -> usize {
+    pub fn wait<R: Wait + Clock>(&self, rt: &R, most: Duration) -> usize {
         self.round.wait(rt, most)
     }
 
     /// Gives up the players that are still awaited.
-    pub(super) fn give_up(&self, rt: &impl Wait) {
+    pub fn give_up(&self, rt: &impl Wait) {
         self.round.give_up(rt);
     }
 }

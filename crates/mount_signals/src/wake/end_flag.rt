@@ -5,36 +5,36 @@ use std::sync::atomic::{AtomicBool, Ordering};
 
 /// Whether threads are to end. One that is woken after it was set sees it.
 #[derive(Drop)]
-pub(crate) struct EndFlag {
+pub struct EndFlag {
     is_set: AtomicBool,
 }
 
 /// The flag was set, and the threads that look at it weren't woken since. It has no `Drop`, so that it ends in `raise` or `notify`.
-pub(crate) struct EndSet(());
+pub struct EndSet(());
 
 impl EndFlag {
     /// It isn't set.
-    pub(crate) fn new() -> EndFlag {
+    pub fn new() -> EndFlag {
         EndFlag {
             is_set: AtomicBool::new(false),
         }
     }
 
     /// Sets it, before the threads that look at it are woken.
-    pub(crate) fn set(&self) -> EndSet {
+    pub fn set(&self) -> EndSet {
         self.is_set.store(true, Ordering::SeqCst);
         EndSet(())
     }
 
     /// Returns whether it was set.
-    pub(crate) fn is_set(&self) -> bool {
+    pub fn is_set(&self) -> bool {
         self.is_set.load(Ordering::SeqCst)
     }
 }
 
 impl EndSet {
     /// Raises the writers' word, for writers that are to end.
-    pub(crate) fn raise(self, writers: &WritersWord) {
+    pub fn raise(self, writers: &WritersWord) {
         let EndSet(()) = self;
         writers.raise();
     }

@@ -14,7 +14,7 @@ pub(super) struct RoundChanged {
 
 /// A player has left its mount's round: no publisher waits for it. How a player's frames ended is told with it.
 #[derive(Clone, Copy, Drop)]
-pub(crate) struct LeftPace(());
+pub struct LeftPace(());
 
 impl RoundChanged {
     /// A player takes a seat. It isn't waited for until it has taken all.

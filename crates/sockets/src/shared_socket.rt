@@ -30,13 +30,13 @@ impl SharedSocket {
     }
 
     /// Notes how the system has ended the connection, if a read or a write failed by that.
-    pub(super) fn note<T>(&self, moved: &io::Result<T>) {
+    pub(crate) fn note<T>(&self, moved: &io::Result<T>) {
         if let Err(error) = moved {
             self.note_error(error);
         }
     }
 
-    pub(super) fn note_error(&self, error: &io::Error) {
+    pub(crate) fn note_error(&self, error: &io::Error) {
         if is_reset(error.kind()) {
             self.was_reset.store(true, Ordering::SeqCst);
         }
@@ -46,18 +46,18 @@ impl SharedSocket {
     }
 
     /// Notes a write that failed, which one does that took no byte for as long as the socket says, too.
-    pub(super) fn note_write(&self, written: &io::Result<usize>) {
+    pub(crate) fn note_write(&self, written: &io::Result<usize>) {
         match written {
             Err(error) if error.kind() == ErrorKind::WouldBlock => self.note_stall(),
             _ => self.note(written),
         }
     }
 
-    pub(super) fn note_stall(&self) {
+    pub(crate) fn note_stall(&self) {
         self.is_unacknowledged.store(true, Ordering::SeqCst);
     }
 
-    pub(super) fn failure(&self) -> Option<WireFailure> {
+    pub(crate) fn failure(&self) -> Option<WireFailure> {
         let is_unacknowledged = self.is_unacknowledged.load(Ordering::SeqCst);
         socket_failure(is_unacknowledged, self.was_reset.load(Ordering::SeqCst))
     }

@@ -1,5 +1,5 @@
 //! How a connection is closed after a fixed text.
-use crate::net::hang_up::HangUp;
+use crate::hang_up::HangUp;
 use interleaved::Source;
 
 /// Closes the writing side, and reads what the peer still sends: at most `reads` reads, each for at most `wait` milliseconds.

@@ -1,6 +1,6 @@
 -- The mounts that are being recorded.
 use Rattle.std.specs.Prelude.{ℕ, ◌==◌, Bool, true, false, List, if◌then◌else◌}
-use Rattle.relay_fanout.specs.declared.mount.recording_mounts.state.RecordingMount.{RecordingMount}
+use Rattle.mount_signals.specs.declared.mount.recording_mounts.state.RecordingMount.{RecordingMount}
 
 -- the mounts that are being recorded, in the order in which they were added, and for how many there was room at first
 pub record Recorded : Type 0 where

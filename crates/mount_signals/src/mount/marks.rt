@@ -7,11 +7,11 @@ ghost use Rattle.std.specs.Prelude.{◌≡◌, ◌+◌, ◌<◌, ◌^◌, ◌↔
 ghost use Rattle.cursor.specs.declared.refusals.Refused.{Refused};
 ghost use Rattle.cursor.specs.Feeds.{Appends};
 ghost use Rattle.cursor.specs.Log.{packet_of};
-ghost use Rattle.relay_fanout.specs.Marks.{answered, packets_gathered};
+ghost use Rattle.mount_signals.specs.Marks.{answered, packets_gathered};
 
 use crate::limits::TAKES;
 use crate::mount::tallies::Tallies;
-use crate::sending::ring_look::{LevelTold, WakeupsRead};
+use crate::mount::wakeups_read::{LevelTold, WakeupsRead};
 use crate::wake::wake_signal::WakeSignal;
 use crate::wake::wake_word::WakeWord;
 use crate::wake::writers_word::WritersWord;
@@ -36,17 +36,17 @@ pub(crate) struct Marks {
 
 /// A packet was counted by its sequence number as its publisher offers it, and wasn't published since. It has no `Drop`, so that it
 /// ends in `publish_into`.
-pub(crate) struct Offered(());
+pub struct Offered(());
 
 /// A packet, or the end, is in the ring, and no thread was told of it: its publisher is `publishing` in the machine of `waking`. It
 /// has no `Drop`, so that it ends in `mark` or `empty_for`.
-pub(crate) struct Logged(());
+pub struct Logged(());
 
 /// The end is in the ring, and it isn't set that the mount has ended (`publishing`). It has no `Drop`, so that it ends in `set_ended`.
-pub(crate) struct Closed(());
+pub struct Closed(());
 
 /// The mount is marked, and the waking thread wasn't notified of it (`notifying`). It has no `Drop`, so that it ends in `notify`.
-pub(crate) struct Marked {
+pub struct Marked {
     is_batch: bool,
 }
 
@@ -68,7 +68,7 @@ pub(crate) fn count_offer(tallies: &Tallies, rt: &impl Wait, tag: u8, packet: &[
 }
 
 /// Publishes a packet that was counted, before any thread is told of it: the step `logs`. A refusal has nothing to tell.
-pub(crate) fn publish_into<F: Feed>(
+pub fn publish_into<F: Feed>(
     feed: &mut F,
     offered: Offered,
     tag: u8,
@@ -87,7 +87,7 @@ pub(crate) fn publish_into<F: Feed>(
 }
 
 /// Ends the log, before any thread is told of it: the step `logs`.
-pub(crate) fn close_log<F: Feed>(feed: F) -> Closed {
+pub fn close_log<F: Feed>(feed: F) -> Closed {
     feed.close();
     Closed(())
 }
@@ -192,7 +192,7 @@ impl Marks {
 impl Marked {
     /// Notifies the waking thread: the step `notifies`, or `finds_notified`. If the mount has a full batch, it needn't gather
     /// longer. Returns whether this begins a gathering of all mounts.
-    pub(crate) fn notify(self, wake_signal: &WakeSignal) -> bool {
+    pub fn notify(self, wake_signal: &WakeSignal) -> bool {
         let Marked { is_batch } = self;
         if is_batch {
             wake_signal.hurry();

@@ -7,7 +7,7 @@ use crate::mount::attached_tap::AttachedTap;
 use crate::mount::marks::{Closed, Counted, Emptied, Logged, Marked, Marks, Offered, count_offer};
 use crate::mount::player_figures::PlayerFigures;
 use crate::mount::tallies::Tallies;
-use crate::sending::ring_look::{LevelTold, WakeupsRead};
+use crate::mount::wakeups_read::{LevelTold, WakeupsRead};
 use crate::wake::wake_signal::WakeSignal;
 use base_syntax::Items;
 use cursor::Lend;
@@ -21,12 +21,12 @@ use transport_header::{MOST_TRACKS, Point};
 /// A player's position: how many packets it was sent and skipped, how many bytes those have that it was sent, how many were reported lost
 /// to it, and the number of the next one.
 #[derive(Clone, Copy, Drop)]
-pub(crate) struct Stand {
-    pub(crate) cursor: u64,
-    pub(crate) sent: u64,
-    pub(crate) bytes: u64,
-    pub(crate) skipped: u64,
-    pub(crate) lost: u64,
+pub struct Stand {
+    pub cursor: u64,
+    pub sent: u64,
+    pub bytes: u64,
+    pub skipped: u64,
+    pub lost: u64,
 }
 
 /// What the publisher of a mount and its players share beside the ring: the point of each track, and the word that
@@ -37,8 +37,8 @@ pub struct MountSignal {
     points: Mutex<[Option<Point>; MOST_TRACKS]>,
     marks: Marks,
     /// Which players keep up with the publisher.
-    pub(crate) pace: Pace,
-    pub(crate) tallies: Tallies,
+    pub pace: Pace,
+    tallies: Tallies,
     wake_signal: Arc<WakeSignal, Global>,
 }
 
@@ -71,7 +71,7 @@ impl MountSignal {
     }
 
     /// Sets the point of a track to that of its last packet, which is in the ring.
-    pub(crate) fn post(&self, rt: &impl Wait, _logged: &Logged, track: usize, point: Point) {
+    pub fn post(&self, rt: &impl Wait, _logged: &Logged, track: usize, point: Point) {
         let mut points = self.points.lock(rt);
         if let Some(place) = points.get_mut(track) {
             *place = Some(point);
@@ -89,13 +89,13 @@ impl MountSignal {
     }
 
     /// Marks that a packet came. Doesn't wake the players.
-    pub(crate) fn mark(&self, logged: Logged) -> Marked {
+    pub fn mark(&self, logged: Logged) -> Marked {
         self.marks.mark(logged)
     }
 
     /// A packet of this mount has begun a gathering of all mounts. Wakes the players at once if the mount's last gathering brought one
     /// packet: then waiting brings no other.
-    pub(crate) fn begin_gathering(&self) {
+    pub fn begin_gathering(&self) {
         if self.marks.note_begun() {
             self.wake();
         }
@@ -118,19 +118,19 @@ impl MountSignal {
     }
 
     /// A player is at this position, and may have more to take.
-    pub(crate) fn reach(&self, rt: &impl Wait, seat: usize, stand: Stand, known: &mut KnownLevel) {
+    pub fn reach(&self, rt: &impl Wait, seat: usize, stand: Stand, known: &mut KnownLevel) {
         self.pace.reach(rt, seat, stand.cursor, known);
         self.tell(seat, stand);
     }
 
     /// A player is at this position, and had nothing more to take.
-    pub(crate) fn level(&self, rt: &impl Wait, seat: usize, stand: Stand, known: &mut KnownLevel) {
+    pub fn level(&self, rt: &impl Wait, seat: usize, stand: Stand, known: &mut KnownLevel) {
         self.pace.level(rt, seat, stand.cursor, known);
         self.tell(seat, stand);
     }
 
     /// A player is at this position, and nothing more comes.
-    pub(crate) fn stand(&self, seat: usize, stand: Stand) {
+    pub fn stand(&self, seat: usize, stand: Stand) {
         self.pace.stand(seat, stand.cursor);
         self.tell(seat, stand);
     }
@@ -148,7 +148,7 @@ impl MountSignal {
     }
 
     /// Counts a packet that the publisher offers, before it is published.
-    pub(crate) fn offer(&self, rt: &impl Wait, tag: u8, packet: &[u8]) -> Offered {
+    pub fn offer(&self, rt: &impl Wait, tag: u8, packet: &[u8]) -> Offered {
         count_offer(&self.tallies, rt, tag, packet)
     }
 
@@ -165,6 +165,11 @@ impl MountSignal {
     /// Counts a frame of the publisher with `bytes` bytes of data that came at this moment, in milliseconds, and met this fate.
     pub fn note(&self, rt: &impl Wait, fate: Fate, bytes: usize, now: u64) {
         self.tallies.add(rt, fate, bytes, now);
+    }
+
+    /// Sets for how many milliseconds in total packets have waited for players.
+    pub fn set_slowed(&self, rt: &impl Wait, milliseconds: u64) {
+        self.tallies.set_slowed(rt, milliseconds);
     }
 
     /// The mount is recorded from this moment on.
@@ -208,11 +213,11 @@ impl MountSignal {
     }
 
     /// No packet comes any more.
-    pub(crate) fn end(&self, closed: Closed) {
+    pub fn end(&self, closed: Closed) {
         self.wake_for(self.marks.set_ended(closed));
     }
 
-    pub(crate) fn has_ended(&self) -> bool {
+    pub fn has_ended(&self) -> bool {
         self.marks.has_ended()
     }
 
@@ -222,7 +227,7 @@ impl MountSignal {
     }
 
     /// Wakes the players of the mount for what is in the ring.
-    pub(crate) fn wake_for(&self, logged: Logged) {
+    pub fn wake_for(&self, logged: Logged) {
         self.wake_all(self.marks.empty_for(logged));
     }
 
@@ -232,17 +237,17 @@ impl MountSignal {
     }
 
     /// Returns how often the players were woken.
-    pub(crate) fn wakeups(&self) -> u64 {
+    pub fn wakeups(&self) -> u64 {
         self.marks.wakeups()
     }
 
     /// Returns how often the players were woken, for a look at the ring.
-    pub(crate) fn player_wakeups(&self) -> WakeupsRead {
+    pub fn player_wakeups(&self) -> WakeupsRead {
         self.marks.player_wakeups()
     }
 
     /// Sleeps until the players are woken again, after a look that found all taken. It may also return for no reason.
-    pub(crate) fn sleep(&self, rt: &impl Wait, told: LevelTold) {
+    pub fn sleep(&self, rt: &impl Wait, told: LevelTold) {
         self.marks.sleep(rt, told);
     }
 }

@@ -24,7 +24,7 @@ pub(super) struct MountList {
 
 impl Model for MountList {
     ghost use Rattle.std.specs.Prelude.{◌≤◌, vec_capacity};
-    ghost use Rattle.relay_fanout.specs.RecordingMounts.{Recorded};
+    ghost use Rattle.mount_signals.specs.RecordingMounts.{Recorded};
 
     ghost Value = { Recorded };
 
@@ -34,7 +34,7 @@ impl Model for MountList {
 }
 
 impl MountList {
-    ghost use Rattle.relay_fanout.specs.RecordingMounts.{is_other};
+    ghost use Rattle.mount_signals.specs.RecordingMounts.{is_other};
 
     /// No mount is being recorded. Takes the room for `most` mounts.
     pub(super) fn new(alloc: Global, most: usize) -> Result<MountList, AllocError>

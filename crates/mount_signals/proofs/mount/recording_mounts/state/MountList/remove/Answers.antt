@@ -1,7 +1,7 @@
 use Rattle.std.proofs.Common.{◌∙◌, ap, rules, filter}
 use Rattle.std.proofs.lemmas.Fn.{filter_same}
-use Rattle.relay_fanout.specs.RecordingMounts.{is_other}
-use Rattle.relay_fanout.proofs.mount.recording_mounts.state.MountList.remove.Goals as goal
+use Rattle.mount_signals.specs.RecordingMounts.{is_other}
+use Rattle.mount_signals.proofs.mount.recording_mounts.state.MountList.remove.Goals as goal
 
 pub returns-clause-listed : goal.returns-clause-listed
 returns-clause-listed c =

@@ -2,9 +2,9 @@
 ghost use Rattle.std.specs.Prelude.{IsOk};
 ghost use Rattle.std.specs.Io.{ReadsAtMost};
 
+use crate::hang_up::HangUp;
 use crate::limits::MOST_TRIES;
-use crate::net::hang_up::HangUp;
-use crate::net::shared_socket::SharedSocket;
+use crate::shared_socket::SharedSocket;
 use interleaved::TryWrite;
 use libc::net;
 use relay_accounts::WireFailure;

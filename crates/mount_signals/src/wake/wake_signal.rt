@@ -28,7 +28,7 @@ pub struct WakeSignal {
     cleared: AtomicU64,
     stopped: EndFlag,
     /// What writers sleep on.
-    pub(crate) writers: WritersWord,
+    pub writers: WritersWord,
 }
 
 /// The signal was cleared, and no mount was asked for its marks since: the step `clears` of the machine of `waking`. It has no

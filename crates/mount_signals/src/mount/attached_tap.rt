@@ -31,7 +31,7 @@ impl<T: Tap> AttachedTap<T> {
     }
 
     /// Returns the tap, for a send side.
-    pub(crate) fn into_tap(self) -> T
+    pub fn into_tap(self) -> T
         ensures { result ≡ self }
     {
         let AttachedTap { tap } = self;
