@@ -1,5 +1,5 @@
 //! The moments of a clock.
-use relay_server::ClockMoments;
+use relay_connection::ClockMoments;
 use session_state::Moments;
 use sockets::{Reading, SteadyClock};
 use std::alloc::Global;

@@ -8,11 +8,12 @@ use crate::rings::{Parting, Rings};
 use crate::serving::{Serving, SharedRings, Watch, book_of};
 use crate::slow_reply_tests::{ANSWERED, ASKS};
 use crate::words::OneWord;
+use admission::{OpenGate, Rights};
 use interleaved::Reading;
-use relay_server::{
-    ConnectionClock, ConnectionEnd, Events, HangUp, OpenGate, Outgoing, Rights, Shared,
-    run_connection,
-};
+use relay_accounts::ConnectionEnd;
+use relay_connection::{ConnectionClock, Outgoing, Shared, run_connection};
+use relay_log::Events;
+use sockets::HangUp;
 use std::alloc::Global;
 use std::process::Abort;
 use std::random::RandomSource;

@@ -1,5 +1,5 @@
 //! The lines of a connection, for tests.
-use relay_server::{Events, Lines};
+use relay_log::{Events, Lines};
 use server_counts::ServerCounts;
 use std::alloc::Global;
 use std::net::SocketAddr;

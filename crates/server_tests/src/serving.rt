@@ -3,12 +3,13 @@ use crate::devices::{Flag, Manner, Staged, Written, flag};
 use crate::lines::no_counts;
 use crate::rings::{Owned, Rings};
 use crate::words::OneWord;
+use admission::{OpenGate, Rights};
 use interleaved::{ListSource, Reading, Sink, Source, Writing};
 use packet_ring::Pass;
-use relay_server::{
-    ConnectionClock, ConnectionEnd, Counts, Events, OpenGate, Outcome, Outgoing, Rights, Seat,
-    Shared, SharedBook, WritingSide, run_connection,
-};
+use relay_accounts::{ConnectionEnd, Counts, Outcome};
+use relay_connection::{ConnectionClock, Outgoing, Shared, SharedBook, run_connection};
+use relay_fanout::{Seat, WritingSide};
+use relay_log::Events;
 use session_lock::Book;
 use session_state::{Moments, Words};
 use std::alloc::Global;

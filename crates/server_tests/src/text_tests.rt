@@ -3,11 +3,11 @@ use crate::lines::no_counts;
 use base_syntax::Bytes;
 use log::sink::Memory;
 use log::warn;
-use relay_server::{
-    ConnectionEnd, Counts, HeaderEnd, HeaderFault, Lines, Outcome, Part, Refusal, tell_end,
-    tell_last_account,
-};
+use proxy_header::HeaderFault;
+use relay_accounts::{ConnectionEnd, Counts, HeaderEnd, Outcome, Part};
+use relay_log::{Lines, tell_end, tell_last_account};
 use rtsp_message::Fault;
+use server_counts::Refusal;
 use std::alloc::Global;
 use std::fmt::Display;
 use std::net::SocketAddr;

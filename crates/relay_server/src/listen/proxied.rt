@@ -3,10 +3,8 @@
 ghost use Rattle.std.specs.Prelude.{◌≤◌, IfOk, length};
 
 use crate::limits::{HEADER_WAIT, LAST_LOOK};
-use crate::listen::access::Access;
-use crate::listen::peers::Peers;
 use crate::listen::refused_peers::RefusedPeers;
-use crate::listen::rights::Rights;
+use admission::{Access, Peers, Rights};
 use networks::Address;
 use proxy_header::{MOST_HEADER, Reading, read_header};
 use relay_accounts::{ConnectionEnd, HeaderEnd};

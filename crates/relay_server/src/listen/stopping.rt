@@ -3,8 +3,7 @@ ghost use Rattle.std.specs.Prelude.{◌≡◌};
 
 mod room;
 
-use crate::listen::live_sockets::Removed;
-use crate::listen::peers::PeerEntry;
+use admission::{PeerEntry, Removed};
 use mount_signals::low_half;
 pub(crate) use room::Room;
 use sockets::SteadyClock;
@@ -50,7 +49,7 @@ impl Entered {
 
     /// The connection of this number ends on its thread, to which it was handed over.
     pub(crate) fn of_thread(conn: u64) -> Entered
-        ensures { result.peer.socket.conn ≡ conn }
+        ensures { result.peer ≡ conn }
     {
         Entered {
             peer: PeerEntry::of_thread(conn),
