@@ -44,6 +44,4 @@ mod slow_reply_tests;
 #[cfg(test)]
 mod steps;
 #[cfg(test)]
-mod text_tests;
-#[cfg(test)]
 mod words;

@@ -1,5 +1,4 @@
 //! Texts of ends, refusals and counts, and the lines that report them.
-use crate::lines::no_counts;
 use base_syntax::Bytes;
 use log::sink::Memory;
 use log::warn;
@@ -14,6 +13,7 @@ use std::net::SocketAddr;
 use std::process::Abort;
 use std::sync::Arc;
 use std::time::Duration;
+use test_kit::no_counts;
 
 /// Each end, and its text. All but the first are logged as warnings.
 const ENDS: [(ConnectionEnd, &str); 20] = [
@@ -254,7 +254,7 @@ fn a_line_of_counts_names_the_mount_and_the_part(rt: HostRuntime) {
 #[test]
 fn lines_that_nobody_writes_hold_nobody_up(rt: HostRuntime) {
     let alloc = rt.alloc();
-    let counts = no_counts(&rt, alloc);
+    let counts = no_counts(alloc).expect(&rt, "memory");
     let counted = Arc::try_clone(&counts).expect(&rt, "a count of its users");
     let lines = Lines::new(rt, alloc, counted).expect(&rt, "memory");
     for number in 0..3_000u32 {
