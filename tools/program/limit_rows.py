@@ -15,6 +15,7 @@ UNITS = {"seconds": "SECONDS", "milliseconds": "MS", "microseconds": None, "byte
 # limit that no call exceeds. Each other constant of the program's crates has a row.
 INSIDE = {
     "interleaved": "DOLLAR FRAME_HEAD",
+    "mount_signals": "QUIET NOTIFIED URGENT",
     "networks": "MOST_DIGITS",
     "pacing": "recent::MOST",
     "packet_ring": "WRITING NUMBER CELLS",
@@ -23,11 +24,12 @@ INSIDE = {
     "pull_plan": "SCHEME_BYTES",
     "pull_session": "MOST_ASKS",
     "publisher": "FIXED_HEADER SOURCE VERSION",
-    "relay_fanout": "YIELDS QUIET NOTIFIED URGENT",
+    "relay_connection": "NEVER",
+    "relay_fanout": "YIELDS",
     "relay_log": "OTHERS",
     "relay_main": "FAILED COMMAND_LINE_FAULT",
     "relay_pull": "MOST_ROUNDS MOST_EVENTS",
-    "relay_server": "NEVER STOPPED",
+    "relay_server": "STOPPED",
     "relay_talk": "TALKER",
     "sdp": "CONTROL_LEN",
     "sequence_counts": "MOST_AHEAD MOST_BEHIND FIXED_HEADER VERSION",

@@ -1,9 +1,7 @@
 pub mod Fewest
 pub mod FrameEnds
-pub mod Marks
 pub mod Offers
 pub mod PlayerLists
-pub mod RecordingMounts
 pub mod RingLooks
 pub mod SeatHolds
 pub mod Stretches

@@ -3,7 +3,7 @@ use Rattle.std.specs.Prelude.{◌≡◌, ◌≤◌, ℕ, ◌+◌, ◌⊎◌, Opt
 use Rattle.waking.specs.declared.sweep.Next.{Next}
 use Rattle.waking.specs.declared.sweep.Next.TheVariants.{Sleep, Again, Later, Over}
 use Rattle.waking.specs.declared.sweep.Sweep.{Sweep}
-use Rattle.relay_fanout.specs.declared.wake.writers_word.WordRead.{WordRead}
+use Rattle.mount_signals.specs.declared.wake.writers_word.WordRead.{WordRead}
 use Rattle.relay_fanout.specs.PlayerLists.{ArePassed, IsToBeLookedAt, Listing, is_other, noted_at}
 use Rattle.relay_fanout.specs.declared.sending.sweeping.Found.{Found}
 use Rattle.relay_fanout.specs.declared.sending.sweeping.Found.TheVariants.{Player, NoMore}

@@ -2,7 +2,7 @@
 use Rattle.std.specs.Prelude.{◌≤◌, max}
 use Rattle.relay_accounts.specs.declared.seat_account.SeatAccount.{SeatAccount}
 use Rattle.relay_accounts.specs.Counting.{published_in}
-use Rattle.relay_fanout.specs.declared.mount.player_figures.PlayerFigures.{PlayerFigures}
+use Rattle.mount_signals.specs.declared.mount.player_figures.PlayerFigures.{PlayerFigures}
 use Rattle.status.specs.declared.player_status.PlayerStatus.{PlayerStatus}
 use Rattle.relay_log.specs.declared.reports.shown.Shown.{Shown}
 

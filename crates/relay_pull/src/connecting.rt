@@ -2,8 +2,8 @@
 use crate::limits::CONNECT_WAIT;
 use crate::try_end::TryEnd;
 use base_syntax::Bytes;
-use relay_fanout::limit_peers;
 use rtsp_client::Side;
+use sockets::limit_peers;
 use std::io::ErrorKind;
 use std::net::{Net, SocketAddr, TcpListener, TcpStream, ToSocketAddrs};
 use std::time::Duration;

@@ -7,16 +7,11 @@
 //! or waits. Of a connection that comes from a proxy, its own thread reads the proxy's header first.
 pub(crate) mod accepting;
 pub(crate) mod accepts;
-pub(crate) mod access;
 pub(crate) mod ending;
-pub(crate) mod gate;
 pub(crate) mod helpers;
-pub(crate) mod live_sockets;
 pub(crate) mod new_connection;
 pub(crate) mod options;
-pub(crate) mod peers;
 pub(crate) mod proxied;
 pub(crate) mod refused_peers;
-pub(crate) mod rights;
 pub(crate) mod server;
 pub(crate) mod stopping;

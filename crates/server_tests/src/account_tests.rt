@@ -7,7 +7,8 @@ use crate::serving::{
 };
 use crate::words::CountedWords;
 use interleaved::Writing;
-use relay_server::{ConnectionEnd, WritingSide};
+use relay_accounts::ConnectionEnd;
+use relay_fanout::WritingSide;
 use std::alloc::{AllocError, Global};
 use std::process::Abort;
 use std::sync::atomic::Ordering;

@@ -7,7 +7,7 @@ use crate::moments::Still;
 use crate::rings::Rings;
 use crate::serving::{Serving, SharedRings, book_of, serve_camera, shared_over, told_by};
 use crate::words::OneWord;
-use relay_server::ConnectionEnd;
+use relay_accounts::ConnectionEnd;
 use std::alloc::Global;
 use std::process::Abort;
 use std::sync::atomic::Ordering;

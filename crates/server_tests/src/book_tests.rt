@@ -1,6 +1,7 @@
 //! The book that the connections of a server share.
 use packet_ring::Pass;
-use relay_server::{Seat, SharedBook, shared_book};
+use relay_connection::{SharedBook, shared_book};
+use relay_fanout::Seat;
 use std::collections::hash_map::RandomState;
 
 /// When the next connection comes, they are cut off, and only its own entry is kept.

@@ -1,7 +1,7 @@
 //! The moments of a clock.
-use relay_fanout::{Reading, SteadyClock};
-use relay_server::ClockMoments;
+use relay_connection::ClockMoments;
 use session_state::Moments;
+use sockets::{Reading, SteadyClock};
 use std::alloc::Global;
 use std::io;
 use std::io::ErrorKind;

@@ -2,17 +2,17 @@
 use crate::account_tests::{SET_UP, SETUP_OUT, Stall, stalled_line};
 use crate::devices::{Flag, Staged, flag, joined};
 use crate::expiry_tests::{PLAY, camera};
-use crate::lines::no_counts;
 use crate::moments::Dial;
 use crate::rings::{Parting, Rings};
 use crate::serving::{Serving, SharedRings, Watch, book_of};
 use crate::slow_reply_tests::{ANSWERED, ASKS};
 use crate::words::OneWord;
+use admission::{OpenGate, Rights};
 use interleaved::Reading;
-use relay_server::{
-    ConnectionClock, ConnectionEnd, Events, HangUp, OpenGate, Outgoing, Rights, Shared,
-    run_connection,
-};
+use relay_accounts::ConnectionEnd;
+use relay_connection::{ConnectionClock, Outgoing, Shared, run_connection};
+use relay_log::Events;
+use sockets::HangUp;
 use std::alloc::Global;
 use std::process::Abort;
 use std::random::RandomSource;
@@ -21,7 +21,7 @@ use std::sync::{Arc, Wait};
 use std::thread;
 use std::thread::Threads;
 use std::time::{Clock, Duration};
-use test_kit::{Bytes, Count, count, has_come, wait_for};
+use test_kit::{Bytes, Count, count, has_come, no_counts, wait_for};
 
 /// Notes when its peer is sent the end of the stream, and how many bytes were written by then.
 #[derive(Drop)]
@@ -54,7 +54,7 @@ fn shared<R: RandomSource + Wait + Abort>(
     let rings = Rings::holding(rt, alloc, parting);
     let after_end = Some(Duration::from_secs(10));
     let book = book_of(rt, alloc, 1, 2);
-    let counts = no_counts(rt, alloc);
+    let counts = no_counts(alloc).expect(rt, "memory");
     let shared = Shared::new(alloc, rings, book, OneWord, OpenGate, after_end, counts);
     Arc::new(alloc, shared.expect(rt, "memory")).expect(rt, "memory")
 }

@@ -10,7 +10,7 @@ use crate::serving::{
     told_by, told_until,
 };
 use crate::words::OneWord;
-use relay_server::ConnectionEnd;
+use relay_accounts::ConnectionEnd;
 use std::alloc::Global;
 use std::process::Abort;
 use std::random::RandomSource;

@@ -1,4 +1,4 @@
-//! Tests of the server, over devices in memory, over what `relay_server` makes public.
+//! Tests of connections over devices in memory, over what `relay_connection` makes public.
 //!
 //! They are in a crate of their own, so that the server isn't proved twice.
 #![tactic(auto)]
@@ -43,7 +43,5 @@ mod silence_tests;
 mod slow_reply_tests;
 #[cfg(test)]
 mod steps;
-#[cfg(test)]
-mod text_tests;
 #[cfg(test)]
 mod words;

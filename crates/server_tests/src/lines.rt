@@ -1,12 +1,11 @@
 //! The lines of a connection, for tests.
-use relay_server::{Events, Lines};
-use server_counts::ServerCounts;
+use relay_log::{Events, Lines};
 use std::alloc::Global;
 use std::net::SocketAddr;
 use std::process::Abort;
 use std::sync::{Arc, Wait};
 use std::time::Clock;
-use test_kit::Kept;
+use test_kit::{Kept, no_counts};
 
 /// The beginning and the end of the line that reports a mount's end. Its seconds are between them.
 const ENDED: &str = "[INFO  relay_server::events] 10.0.0.1:554: mount a has ended after ";
@@ -14,18 +13,14 @@ const ENDED: &str = "[INFO  relay_server::events] 10.0.0.1:554: mount a has ende
 const ONE_PACKET: &str =
     " s: published 1, pinned 0, too long 0, bad RTP 0, unknown channel 0, no memory 0; sent 0, skipped 0, lost 0, unsent 0; strangers 0";
 
-/// The counts of a server to which nothing came.
-pub(crate) fn no_counts(rt: &impl Abort, alloc: Global) -> Arc<ServerCounts, Global> {
-    Arc::new(alloc, ServerCounts::new()).expect(rt, "memory")
-}
-
 /// Lines that are written to this runtime.
 pub(crate) fn lines_to<R: Drop>(
     rt: &impl Abort,
     alloc: Global,
     kept: Kept<R>,
 ) -> Arc<Lines<Kept<R>>, Global> {
-    let lines = Lines::new(kept, alloc, no_counts(rt, alloc)).expect(rt, "memory");
+    let counts = no_counts(alloc).expect(rt, "memory");
+    let lines = Lines::new(kept, alloc, counts).expect(rt, "memory");
     Arc::new(alloc, lines).expect(rt, "memory")
 }
 

@@ -6,7 +6,9 @@ use crate::rings::Rings;
 use crate::serving::{Served, book_of, serve_here, shared_over};
 use crate::words::OneWord;
 use interleaved::ListSource;
-use relay_server::{ConnectionClock, ConnectionEnd, Events};
+use relay_accounts::ConnectionEnd;
+use relay_connection::ConnectionClock;
+use relay_log::Events;
 use std::sync::Arc;
 
 /// Two requests.

@@ -1,14 +1,14 @@
 //! Connections over devices in memory, for tests.
 use crate::devices::{Flag, Manner, Staged, Written, flag};
-use crate::lines::no_counts;
 use crate::rings::{Owned, Rings};
 use crate::words::OneWord;
+use admission::{OpenGate, Rights};
 use interleaved::{ListSource, Reading, Sink, Source, Writing};
 use packet_ring::Pass;
-use relay_server::{
-    ConnectionClock, ConnectionEnd, Counts, Events, OpenGate, Outcome, Outgoing, Rights, Seat,
-    Shared, SharedBook, WritingSide, run_connection,
-};
+use relay_accounts::{ConnectionEnd, Counts, Outcome};
+use relay_connection::{ConnectionClock, Outgoing, Shared, SharedBook, run_connection};
+use relay_fanout::{Seat, WritingSide};
+use relay_log::Events;
 use session_lock::Book;
 use session_state::{Moments, Words};
 use std::alloc::Global;
@@ -20,7 +20,7 @@ use std::sync::{Arc, Mutex, Wait};
 use std::thread;
 use std::thread::{JoinHandle, Threads};
 use std::time::Clock;
-use test_kit::{Bytes, Open};
+use test_kit::{Bytes, Open, no_counts};
 
 /// What connections over rings share.
 pub(crate) type SharedRings<V> = Arc<Shared<Rings, V, OpenGate>, Global>;
@@ -49,7 +49,7 @@ pub(crate) fn shared_over<V: Words + Drop>(
     rings: Rings,
     words: V,
 ) -> SharedRings<V> {
-    let counts = no_counts(rt, alloc);
+    let counts = no_counts(alloc).expect(rt, "memory");
     let shared = Shared::new(alloc, rings, book, words, OpenGate, None, counts);
     Arc::new(alloc, shared.expect(rt, "memory")).expect(rt, "memory")
 }

@@ -12,9 +12,10 @@ use crate::steps::{SILENT, Step, Stepped};
 use crate::words::OneWord;
 use interleaved::Reading;
 use packet_ring::Pass;
-use relay_server::{
-    ConnectionClock, ConnectionEnd, Events, IdlePolicy, IdleReader, Seat, SharedBook,
-};
+use relay_accounts::ConnectionEnd;
+use relay_connection::{ConnectionClock, IdlePolicy, IdleReader, SharedBook};
+use relay_fanout::Seat;
+use relay_log::Events;
 use session_state::Moments;
 use std::alloc::Global;
 use std::io::ErrorKind;

@@ -11,12 +11,13 @@ use crate::serving::{Served, SharedRings, book_of, sent_on, shared_over, told_by
 use crate::silence_tests::SILENCE;
 use crate::steps::{SILENT, Step, Stepped};
 use crate::words::OneWord;
+use admission::Rights;
 use interleaved::{Reading, TryWrite, Writing};
 use packet_ring::Pass;
-use relay_server::{
-    ConnectionClock, ConnectionEnd, Events, IdleReader, Rights, Seat, SharedBook, WritingSide,
-    run_connection,
-};
+use relay_accounts::ConnectionEnd;
+use relay_connection::{ConnectionClock, IdleReader, SharedBook, run_connection};
+use relay_fanout::{Seat, WritingSide};
+use relay_log::Events;
 use session_state::Moments;
 use std::alloc::Global;
 use std::io;

@@ -1,5 +1,5 @@
 //! Parts of devices in memory: what was written, how often something happened, and waiting for it.
-use relay_fanout::HangUp;
+use sockets::HangUp;
 use std::alloc::{AllocError, Global};
 use std::sync::atomic::{AtomicBool, AtomicU64, Ordering};
 use std::sync::{Arc, Mutex, Wait};

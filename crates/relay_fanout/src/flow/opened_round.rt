@@ -1,7 +1,7 @@
 //! A publisher that waits for players: the round is opened, the players are woken, and it sleeps on the lock under which the count
 //! falls. No wake-up is missed in this order, so each call returns what the next one takes.
-use crate::mount::mount_signal::MountSignal;
-use crate::steady_clock::SteadyClock;
+use mount_signals::MountSignal;
+use sockets::SteadyClock;
 use std::sync::Wait;
 use std::time::{Clock, Duration};
 

@@ -1,7 +1,7 @@
 //! The time between two tries of a publish.
 use crate::limits::{PAUSE, PAUSES, YIELDS};
-use crate::steady_clock::SteadyClock;
 use pacing::Pause;
+use sockets::SteadyClock;
 use std::thread;
 use std::time::{Clock, Duration};
 

@@ -4,15 +4,12 @@ ghost use Rattle.pacing.specs.Retrying.{PublishesAtLast};
 
 use crate::flow::opened_round::OpenedRound;
 use crate::flow::pauses::Pauses;
-use crate::mount::marks::{close_log, publish_into};
-use crate::mount::mount_signal::MountSignal;
 use crate::mount::stretches::{ForPlayers, Stretches, is_worth_a_wait};
-use crate::reading::Reading;
-use crate::steady_clock::SteadyClock;
-use crate::wake::wake_signal::WakeSignal;
 use cursor::{Feed, Refused};
+use mount_signals::{MountSignal, WakeSignal, close_log, publish_into};
 use pacing::{Allowance, Retrying};
 use publisher::point_to_post;
+use sockets::{Reading, SteadyClock};
 use std::alloc::Global;
 use std::marker::Model;
 use std::sync::{Arc, Wait};
@@ -158,7 +155,7 @@ impl<R: Wait + Clock + Drop, F> MountFeed<R, F> {
         };
         self.allowance.spend(now, then);
         self.waited = self.waited.saturating_add(then.saturating_sub(now));
-        self.signal.tallies.set_slowed(&self.rt, self.waited / 1000);
+        self.signal.set_slowed(&self.rt, self.waited / 1000);
         true
     }
 }

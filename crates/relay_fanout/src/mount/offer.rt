@@ -1,8 +1,7 @@
 //! What an ANNOUNCE offers.
 use crate::mount::maker::Maker;
-use crate::mount::mount_signal::MountSignal;
 use crate::mount::seat::Seat;
-use crate::wake::wake_signal::WakeSignal;
+use mount_signals::{MountSignal, WakeSignal};
 use std::alloc::{AllocError, Global};
 use std::sync::Arc;
 

@@ -1,7 +1,7 @@
 //! A seat of a mount.
 ghost use Rattle.std.specs.Prelude.{◌≡◌, IfOk, map};
 
-use crate::mount::mount_signal::MountSignal;
+use mount_signals::MountSignal;
 use std::alloc::{AllocError, Global};
 use std::sync::Arc;
 

@@ -2,7 +2,8 @@
 ghost use Rattle.std.specs.Prelude.{◌≡◌, ◌-◌, ◌<◌, ◌≤◌, ◌↔◌, ◌*◌, ◌/◌, IsTrue, nat_le, if◌then◌else◌};
 ghost use Rattle.relay_fanout.specs.Stretches.{next_for, stretches_of};
 
-use crate::limits::{LEAST_WAIT, TAKES};
+use crate::limits::LEAST_WAIT;
+use mount_signals::TAKES;
 
 /// When a publisher looks at how far its players are, and how far behind they may be.
 #[derive(Clone, Copy, Debug, PartialEq, Eq, Drop)]

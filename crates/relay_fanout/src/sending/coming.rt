@@ -6,7 +6,7 @@ use crate::sending::player_list::PlayerList;
 use crate::sending::send_side::SeatTap;
 use crate::sending::writer_player::WriterPlayer;
 use crate::sending::writers::NoWriter;
-use crate::wake::writers_word::WritersWord;
+use mount_signals::WritersWord;
 use std::sync::{Mutex, Wait};
 
 /// A player's place with a writer.

@@ -2,10 +2,11 @@
 //! batch is one write.
 ghost use Rattle.std.specs.Prelude.{◌≡◌, ◌≤◌, length};
 
-use crate::limits::{GATHERED, TAKES};
+use crate::limits::GATHERED;
 use crate::sending::batch::Batch;
 use cursor::{Lend, Tap};
 use interleaved::FRAME_HEAD;
+use mount_signals::TAKES;
 use player::{OutReport, OutStop, relay_out, relay_out_held};
 use relay_accounts::Handover;
 use transport_header::TrackChannels;

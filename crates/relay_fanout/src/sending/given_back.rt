@@ -1,8 +1,8 @@
 //! What a thread does that has written a reply: the line is given back, its mark is taken and, if there was one, the word is
 //! raised. The law of `waking` is about this order, so each call returns what the next one takes.
 use crate::sending::writing_side::WritingSide;
-use crate::wake::writers_word::WritersWord;
 use interleaved::{Failed, Sink};
+use mount_signals::WritersWord;
 use std::sync::Wait;
 
 /// The line was given back, and its mark wasn't looked for since: the thread is `parting` in the machine of `waking`. It has no

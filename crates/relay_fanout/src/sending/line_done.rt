@@ -2,11 +2,11 @@
 ghost use Rattle.std.specs.Prelude.{◌≡◌, IsSome, true, false};
 
 use crate::mount::leave::Leave;
-use crate::net::hang_up::HangUp;
 use crate::sending::batch::Line;
 use crate::sending::tap_place::TapPlace;
 use crate::sending::writer_player::WriterPlayer;
 use interleaved::Sink;
+use sockets::HangUp;
 use std::sync::{MutexGuard, Wait};
 use waking::{After, Next};
 

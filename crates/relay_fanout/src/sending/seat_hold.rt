@@ -3,8 +3,6 @@ ghost use Rattle.std.specs.Prelude.{◌≡◌, ◌↔◌, IsTrue};
 ghost use Rattle.relay_fanout.specs.SeatHolds.{HasThread};
 
 use crate::mount::leave::Leave;
-use crate::mount::mount_signal::MountSignal;
-use crate::net::hang_up::HangUp;
 use crate::sending::coming::Place;
 use crate::sending::frame_thread::Sending;
 use crate::sending::send_side::SendSide;
@@ -12,6 +10,8 @@ use crate::sending::sent_frames::SentFrames;
 use crate::sending::writers::{NoWriter, Writers};
 use cursor::Lend;
 use interleaved::Sink;
+use mount_signals::MountSignal;
+use sockets::HangUp;
 use std::alloc::{AllocError, Global};
 use std::sync::{Arc, Wait};
 use std::thread::{JoinHandle, Threads};

@@ -1,8 +1,5 @@
 //! The send side of a connection.
-use crate::mount::attached_tap::AttachedTap;
 use crate::mount::leave::Leave;
-use crate::mount::mount_signal::MountSignal;
-use crate::net::hang_up::HangUp;
 use crate::sending::coming::PutIn;
 use crate::sending::given_back::GivenBack;
 use crate::sending::phase::FramePhase;
@@ -10,10 +7,11 @@ use crate::sending::sent_frames::SentFrames;
 use crate::sending::tap_place::TapPlace;
 use crate::sending::writer_player::WriterPlayer;
 use crate::sending::writing_side::WritingSide;
-use crate::wake::wake_signal::WakeSignal;
 use cursor::Lend;
 use interleaved::{Failed, Sink};
+use mount_signals::{AttachedTap, MountSignal, WakeSignal};
 use rtsp_message::{Status, put_plain};
+use sockets::HangUp;
 use std::alloc::Global;
 use std::mem;
 use std::sync::atomic::{AtomicU64, Ordering};

@@ -3,8 +3,8 @@ ghost use Rattle.std.specs.Prelude.{◌≡◌, []};
 ghost use Rattle.relay_accounts.specs.declared.ending.FrameEnd.TheVariants.{Stopped};
 ghost use Rattle.relay_fanout.specs.FrameEnds.{frame_end_of};
 
-use crate::flow::round_change::LeftPace;
 use crate::sending::phase::EndTold;
+use mount_signals::LeftPace;
 use relay_accounts::{FrameEnd, Handover};
 use waking::{Ending, Failure};
 

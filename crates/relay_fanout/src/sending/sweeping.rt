@@ -6,7 +6,7 @@ ghost use Rattle.waking.specs.Sweeps.{added, begun};
 ghost use Rattle.relay_fanout.specs.Sweepings.{Begins, GoesOnWith, IsLeft, IsNextOf, place_after};
 
 use crate::sending::player_list::{PlayerList, Wakeups};
-use crate::wake::writers_word::{Awake, WordRead, WritersWord};
+use mount_signals::{Awake, WordRead, WritersWord};
 use std::sync::{Mutex, Wait};
 use waking::{Next, Quiet, Sweep};
 

@@ -3,13 +3,10 @@ ghost use Rattle.std.specs.Prelude.{◌≡◌, ◌<◌, OnOk, OnErr};
 ghost use Rattle.waking.specs.declared.look.Flushed.TheVariants as flushed;
 
 use crate::mount::leave::Leave;
-use crate::mount::mount_signal::Stand;
-use crate::net::hang_up::HangUp;
-use crate::reading::Reading;
 use crate::sending::batch::Line;
 use crate::sending::gather::gather;
 use crate::sending::line_done::LineDone;
-use crate::sending::ring_look::{LineHeld, Looked};
+use crate::sending::ring_look::{LineHeld, Looked, unless_quiet};
 use crate::sending::send_side::{SeatTap, SendSide};
 use crate::sending::tap_place::TapPlace;
 use crate::sending::waits::Waits;
@@ -18,8 +15,10 @@ use crate::sending::writer_player::WriterPlayer;
 use crate::sending::writing_side::WritingSide;
 use cursor::Tap;
 use interleaved::{Failed, TrySink};
+use mount_signals::Stand;
 use player::OutStop;
 use relay_accounts::HandedOver;
+use sockets::{HangUp, Reading};
 use std::sync::Wait;
 use waking::{Answer, Course, Failure, Flushed, Next, Quiet};
 
@@ -73,11 +72,12 @@ impl WriterPlayer {
         now: Reading,
         waits: Waits,
     ) -> Next {
-        let wakeups = match self.signal.player_wakeups().unless_quiet(&self.state, now) {
+        let read = self.signal.player_wakeups();
+        let wakeups = match unless_quiet(read, &self.state, now) {
             Ok(wakeups) => wakeups,
             Err(next) => return next,
         };
-        let (mut sink, held) = match wakeups.try_line(writing) {
+        let (mut sink, held) = match LineHeld::try_line(wakeups, writing) {
             Ok(held) => held,
             Err(skipped) => return skipped.next(&mut self.state),
         };

@@ -2,10 +2,8 @@
 ghost use Rattle.std.specs.Prelude.{◌≡◌, IsNone, None};
 ghost use Rattle.waking.specs.PlayerStates.{comer};
 
-use crate::flow::pace::KnownLevel;
-use crate::flow::round_change::LeftPace;
-use crate::mount::mount_signal::MountSignal;
 use crate::sending::sent_frames::SentFrames;
+use mount_signals::{KnownLevel, LeftPace, MountSignal};
 use relay_accounts::Handover;
 use std::alloc::Global;
 use std::sync::{Arc, Wait};
@@ -76,7 +74,7 @@ impl WriterPlayer {
 
     /// Its socket has taken all that waited: a publisher may wait for it again, once it has taken all.
     pub(super) fn come_back(&mut self, rt: &impl Wait)
-        ensures joined { (self.new.known ≡ record { at = None }) × IsNone self.new.left }
+        ensures joined { (self.new.known ≡ None) × IsNone self.new.left }
     {
         self.known = self.signal.pace.join(rt, self.seat);
         self.left = None;

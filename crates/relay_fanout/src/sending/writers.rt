@@ -2,9 +2,6 @@
 ghost use Rattle.std.specs.Prelude.{◌≡◌, IfOk, IfSome};
 
 use crate::mount::leave::Leave;
-use crate::mount::mount_signal::MountSignal;
-use crate::net::hang_up::HangUp;
-use crate::reading::Reading;
 use crate::sending::coming::{Place, PutIn};
 use crate::sending::fewest::Fewest;
 use crate::sending::player_list::{PlayerList, Wakeups};
@@ -12,12 +9,10 @@ use crate::sending::send_side::SendSide;
 use crate::sending::sweeping::{Found, Share, Sweeping, Swept};
 use crate::sending::waits::Waits;
 use crate::sending::writer_buffers::WriterBuffers;
-use crate::steady_clock::SteadyClock;
-use crate::wake::end_flag::EndFlag;
-use crate::wake::wake_signal::WakeSignal;
-use crate::wake::writers_word::{Awake, WordRead};
 use cursor::Tap;
 use interleaved::{Sink, TrySink};
+use mount_signals::{Awake, EndFlag, MountSignal, WakeSignal, WordRead};
+use sockets::{HangUp, Reading, SteadyClock};
 use std::alloc::{AllocError, Global};
 use std::marker::Model;
 use std::sync::{Arc, Mutex, Wait};

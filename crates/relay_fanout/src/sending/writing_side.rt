@@ -2,7 +2,6 @@
 ghost use Rattle.std.specs.Prelude.{◌≡◌};
 ghost use Rattle.relay_fanout.specs.Ways.{HasRoom};
 
-use crate::net::hang_up::HangUp;
 use crate::sending::batch::Line;
 use crate::sending::counted::Counted;
 use crate::sending::gather::{gather, gather_held};
@@ -12,6 +11,7 @@ use cursor::Lend;
 use interleaved::{Failed, Gathering, Sink, write_all};
 use player::OutStop;
 use relay_accounts::Handover;
+use sockets::HangUp;
 use std::alloc::Global;
 use std::sync::{MutexGuard, Wait};
 use transport_header::TrackChannels;

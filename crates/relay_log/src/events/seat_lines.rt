@@ -2,9 +2,9 @@
 use crate::events::Events;
 use crate::reports::ReportedSeat;
 use log::{info, warn};
+use mount_signals::MountSignal;
 use pacing::Start;
 use relay_accounts::{Part, SeatAccount};
-use relay_fanout::MountSignal;
 use std::alloc::Global;
 use std::sync::{Arc, Wait};
 use std::time::Clock;

@@ -1,7 +1,7 @@
 //! The threads of a server that leave marks.
 ghost use Rattle.std.specs.Prelude.{◌≡◌};
 
-use relay_fanout::WakeSignal;
+use mount_signals::WakeSignal;
 use server_counts::{Mark, ServerCounts, ServerThread, ThreadLook};
 use std::alloc::{AllocError, Global};
 use std::sync::Arc;

@@ -5,8 +5,8 @@ ghost use Rattle.relay_log.specs.Shown.{IsShownFrom, largest_of, last_figures, n
 
 use crate::reports::shown::Shown;
 use base_syntax::Bytes;
+use mount_signals::{MountSignal, PlayerFigures};
 use relay_accounts::SeatAccount;
-use relay_fanout::{MountSignal, PlayerFigures};
 use status::{PlayerStatus, PlayerTold};
 use std::alloc::{AllocError, Global};
 use std::net::SocketAddr;

@@ -2,7 +2,7 @@
 ghost use Rattle.std.specs.Prelude.{◌≡◌};
 ghost use Rattle.relay_log.specs.Shown.{IsShownFrom, largest_of, nothing_shown};
 
-use relay_fanout::PlayerFigures;
+use mount_signals::PlayerFigures;
 
 /// What a snapshot had of a player: packets that it was sent, that it skipped and that it has lost, the bytes that it was sent, and how
 /// many packets were published since it took its seat.

@@ -2,22 +2,21 @@
 ghost use Rattle.std.specs.Prelude.{◌≡◌};
 ghost use Rattle.relay_server.specs.Refusals.{refusal_for};
 
-use crate::connection::server_book::let_in;
 use crate::limits::AFTER_NO_ACCEPT;
 use crate::listen::accepts::Accepts;
 use crate::listen::ending::take_out;
-use crate::listen::gate::Gate;
 use crate::listen::new_connection::NewConnection;
 use crate::listen::options::Options;
-use crate::listen::peers::Peers;
 use crate::listen::refused_peers::write_unavailable;
 use crate::listen::server::Server;
 use crate::listen::stopping::{Entered, Room};
+use admission::{Gate, Peers};
 use log::Log;
 use networks::Address;
-use relay_fanout::{SharedSocket, Socket, limit_peers};
+use relay_connection::let_in;
 use relay_log::Refusal;
 use session_state::{ConnectFault, Moments, Words};
+use sockets::{SharedSocket, Socket, limit_peers};
 use std::alloc::Global;
 use std::net::{SocketAddr, TcpStream};
 use std::sync::{Arc, Wait};

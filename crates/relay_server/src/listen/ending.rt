@@ -1,7 +1,6 @@
 //! What is done when a connection has ended.
-use crate::listen::live_sockets::LiveSockets;
-use crate::listen::peers::Peers;
 use crate::listen::stopping::{Entered, Stopping};
+use admission::{LiveSockets, Peers};
 use relay_accounts::{ConnectionEnd, Outcome};
 use relay_log::{Lines, Refusing, tell_end, tell_last_account};
 use std::alloc::Global;

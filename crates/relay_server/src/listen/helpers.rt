@@ -1,8 +1,8 @@
 //! The threads that all connections of a server share.
 use crate::limits::LAST_LINES;
-use crate::listen::gate::Gate;
 use crate::listen::options::Options;
 use crate::listen::server::Server;
+use admission::Gate;
 use log::Log;
 use relay_log::{Lines, Reports, tell_not_started};
 use session_state::{Moments, Words};

@@ -3,15 +3,13 @@
 ghost use Rattle.std.specs.Prelude.{◌≤◌, IfOk, length};
 
 use crate::limits::{HEADER_WAIT, LAST_LOOK};
-use crate::listen::access::Access;
-use crate::listen::peers::Peers;
 use crate::listen::refused_peers::RefusedPeers;
-use crate::listen::rights::Rights;
+use admission::{Access, Peers, Rights};
 use networks::Address;
 use proxy_header::{MOST_HEADER, Reading, read_header};
 use relay_accounts::{ConnectionEnd, HeaderEnd};
-use relay_fanout::{Socket, SteadyClock};
 use relay_log::Refusal;
+use sockets::{Socket, SteadyClock};
 use std::alloc::{AllocError, Global};
 use std::io::{ErrorKind, Read};
 use std::net::SocketAddr;

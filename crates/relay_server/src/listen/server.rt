@@ -1,27 +1,23 @@
 //! A server: what its connections share, and how long it serves.
 ghost use Rattle.std.specs.Prelude.{◌≡◌, ◌↔◌, ◌<◌, None, IfOk, IsSome};
 
-use crate::connection::idle_policy::IdlePolicy;
-use crate::connection::server_book::SharedBook;
-use crate::connection::shared::Shared;
 use crate::limits::STOPS;
 use crate::listen::accepting::accept_all;
 use crate::listen::accepts::Accepts;
-use crate::listen::access::Access;
-use crate::listen::gate::Gate;
 use crate::listen::helpers::Helpers;
-use crate::listen::live_sockets::LiveSockets;
 use crate::listen::options::Options;
-use crate::listen::peers::Peers;
 use crate::listen::refused_peers::RefusedPeers;
 use crate::listen::stopping::Stopping;
+use admission::{Access, Gate, LiveSockets, Peers};
 use interleaved::Writing;
 use log::Log;
 use packet_ring::{Pass, Subscriber};
-use relay_fanout::{Maker, RingMaker, Seat, Socket, Waits, Writers};
+use relay_connection::{IdlePolicy, Shared, SharedBook};
+use relay_fanout::{Maker, RingMaker, Seat, Waits, Writers};
 use relay_log::{Lines, PublishedMounts, Refusing, Reports};
 use server_counts::ServerCounts;
 use session_state::{Moments, Words};
+use sockets::Socket;
 use std::alloc::{AllocError, Global};
 use std::io::Eprint;
 use std::sync::{Arc, Wait};

@@ -3,10 +3,10 @@ ghost use Rattle.std.specs.Prelude.{◌≡◌};
 
 mod room;
 
-use crate::listen::live_sockets::Removed;
-use crate::listen::peers::PeerEntry;
-use relay_fanout::{SteadyClock, low_half};
+use admission::{PeerEntry, Removed};
+use mount_signals::low_half;
 pub(crate) use room::Room;
+use sockets::SteadyClock;
 use std::sync::Wait;
 use std::sync::atomic::{AtomicU64, Ordering};
 use std::time::{Clock, Duration};
@@ -49,7 +49,7 @@ impl Entered {
 
     /// The connection of this number ends on its thread, to which it was handed over.
     pub(crate) fn of_thread(conn: u64) -> Entered
-        ensures { result.peer.socket.conn ≡ conn }
+        ensures { result.peer ≡ conn }
     {
         Entered {
             peer: PeerEntry::of_thread(conn),

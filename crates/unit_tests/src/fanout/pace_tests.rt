@@ -1,8 +1,9 @@
 //! A publisher, and the players that it is slowed to.
 use crate::fanout::stage::{KEEP, Mount, Seated, Writer};
 use cursor::{Feed, Left, Refused};
+use mount_signals::{MountSignal, WakeSignal};
 use packet_ring::Publisher;
-use relay_fanout::{MountFeed, MountSignal, WakeSignal};
+use relay_fanout::MountFeed;
 use std::alloc::Global;
 use std::process::Abort;
 use std::sync::{Arc, Wait};

@@ -1,12 +1,10 @@
 //! A mount and its players without connections, whose sockets are in memory, for tests.
 use cursor::Left;
 use interleaved::{TryWrite, Writing};
+use mount_signals::{MountSignal, WakeSignal};
 use packet_ring::{Pass, Publisher, Subscriber};
 use relay_accounts::FrameEnd;
-use relay_fanout::{
-    Maker, MountSignal, RingMaker, SeatHold, SendSide, TapPlace, Waits, WakeSignal, Writers,
-    WritingSide,
-};
+use relay_fanout::{Maker, RingMaker, SeatHold, SendSide, TapPlace, Waits, Writers, WritingSide};
 use std::alloc::Global;
 use std::io::Write;
 use std::process::Abort;

@@ -1,0 +1,4 @@
+pub mod Endings
+pub mod QuietTimes
+pub mod Roles
+pub mod Snapshots
