@@ -1,10 +1,7 @@
 //! Cases of a log.
 ghost use Rattle.cursor.specs.Plain.{IsAttached};
 
-use crate::arguments::Arguments;
-use crate::fault::Fault;
-use crate::told::Told;
-use crate::words::meaning;
+use case_texts::{Arguments, Fault, Told, meaning};
 use cursor::{Account, Left, Packet, PlainLog, PlainTap, Refused, Taken, pump};
 use std::alloc::{AllocError, Global};
 
@@ -71,7 +68,7 @@ impl LogCase {
             LogWord::Pump => self.pump(arguments, told),
             word => match &mut self.log {
                 Some(log) => call_log(log, word, arguments, told),
-                None => Err(Fault::NoLog),
+                None => Err(Fault::TooEarly),
             },
         }
     }
@@ -88,7 +85,7 @@ impl LogCase {
     /// Pumps a seat of the log.
     fn pump(&mut self, arguments: &mut Arguments<'_>, told: &mut Told) -> Result<(), Fault> {
         if self.log.is_none() {
-            return Err(Fault::NoLog);
+            return Err(Fault::TooEarly);
         }
         let seat = arguments.short()?;
         let takes = u64::from(arguments.number()?);

@@ -1,6 +1,6 @@
 //! Cases of a ring's script and schedule.
 
-use crate::told::Told;
+use case_texts::Told;
 use interleaved::{ListSink, ListSource};
 use ring_script::{StepsEnd, run_steps, steps_end};
 use std::alloc::AllocError;

@@ -1,23 +1,20 @@
 //! What a case is run over.
 
-use crate::arguments::Arguments;
 use crate::book_cases::{BookCase, Cutting};
 use crate::client_cases::ClientCase;
 use crate::description_cases::tell_description;
-use crate::fault::Fault;
 use crate::header_cases::HeaderCase;
-use crate::kind::Kind;
+use crate::kind::Topic;
 use crate::log_cases::LogCase;
 use crate::mount_cases::MountCase;
 use crate::network_cases::call_networks;
 use crate::reply_cases::call_reply;
 use crate::server_stream_cases::ServerStreamCase;
 use crate::source_cases::SourceCase;
-use crate::step::Input;
 use crate::steps_cases::tell_steps;
 use crate::stream_cases::StreamCase;
-use crate::told::Told;
 use base_syntax::cut;
+use case_texts::{Arguments, Fault, Input, Told};
 use std::alloc::{AllocError, Global};
 use std::collections::hash_map::RandomState;
 
@@ -44,21 +41,21 @@ impl Subject {
         alloc: Global,
         hasher: RandomState,
         cutting: Cutting,
-        kind: Kind,
+        topic: Topic,
     ) -> Result<Subject, AllocError> {
-        Ok(match kind {
-            Kind::Book => Subject::Book(BookCase::new(alloc, hasher, 1, cutting)),
-            Kind::Stream => Subject::Stream(StreamCase::new(alloc)),
-            Kind::ServerStream => Subject::ServerStream(ServerStreamCase::new(alloc)),
-            Kind::Client => Subject::Client(ClientCase::new()),
-            Kind::Reply => Subject::Reply,
-            Kind::Sdp => Subject::Sdp,
-            Kind::SourceSdp => Subject::SourceSdp(SourceCase::new()),
-            Kind::Header => Subject::Header(HeaderCase::new()),
-            Kind::Mounts => Subject::Mounts(MountCase::new(alloc, hasher)?),
-            Kind::Networks => Subject::Networks,
-            Kind::Log => Subject::Log(LogCase::new()),
-            Kind::Steps => Subject::Steps,
+        Ok(match topic {
+            Topic::Book => Subject::Book(BookCase::new(alloc, hasher, 1, cutting)),
+            Topic::Stream => Subject::Stream(StreamCase::new(alloc)),
+            Topic::ServerStream => Subject::ServerStream(ServerStreamCase::new(alloc)),
+            Topic::Client => Subject::Client(ClientCase::new()),
+            Topic::Reply => Subject::Reply,
+            Topic::Sdp => Subject::Sdp,
+            Topic::SourceSdp => Subject::SourceSdp(SourceCase::new()),
+            Topic::Header => Subject::Header(HeaderCase::new()),
+            Topic::Mounts => Subject::Mounts(MountCase::new(alloc, hasher)?),
+            Topic::Networks => Subject::Networks,
+            Topic::Log => Subject::Log(LogCase::new()),
+            Topic::Steps => Subject::Steps,
         })
     }
 
