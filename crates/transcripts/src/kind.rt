@@ -16,11 +16,12 @@ pub enum Topic {
     Mounts,
     Networks,
     Log,
+    Ring,
     Steps,
 }
 
 /// All kinds, in the order in which they are told.
-pub const KINDS: [Topic; 12] = [
+pub const KINDS: [Topic; 13] = [
     Topic::Book,
     Topic::Stream,
     Topic::ServerStream,
@@ -32,6 +33,7 @@ pub const KINDS: [Topic; 12] = [
     Topic::Mounts,
     Topic::Networks,
     Topic::Log,
+    Topic::Ring,
     Topic::Steps,
 ];
 
@@ -49,6 +51,7 @@ impl Kind for Topic {
             Topic::Mounts => "mounts",
             Topic::Networks => "networks",
             Topic::Log => "log",
+            Topic::Ring => "ring",
             Topic::Steps => "steps",
         }
     }

@@ -12,6 +12,7 @@ mod log_cases;
 mod mount_cases;
 mod network_cases;
 mod reply_cases;
+mod ring_cases;
 mod server_stream_cases;
 mod source_cases;
 mod steps_cases;

@@ -9,9 +9,10 @@ use crate::log_cases::LogCase;
 use crate::mount_cases::MountCase;
 use crate::network_cases::call_networks;
 use crate::reply_cases::call_reply;
+use crate::ring_cases::RingCase;
 use crate::server_stream_cases::ServerStreamCase;
 use crate::source_cases::SourceCase;
-use crate::steps_cases::tell_steps;
+use crate::steps_cases::StepsCase;
 use crate::stream_cases::StreamCase;
 use base_syntax::cut;
 use case_texts::{Arguments, Fault, Input, Told};
@@ -32,7 +33,8 @@ pub enum Subject {
     Mounts(MountCase),
     Networks,
     Log(LogCase),
-    Steps,
+    Ring(RingCase),
+    Steps(StepsCase),
 }
 
 impl Subject {
@@ -55,7 +57,8 @@ impl Subject {
             Topic::Mounts => Subject::Mounts(MountCase::new(alloc, hasher)?),
             Topic::Networks => Subject::Networks,
             Topic::Log => Subject::Log(LogCase::new()),
-            Topic::Steps => Subject::Steps,
+            Topic::Ring => Subject::Ring(RingCase::new(alloc)),
+            Topic::Steps => Subject::Steps(StepsCase::new()),
         })
     }
 
@@ -86,12 +89,13 @@ impl Subject {
             Subject::Sdp => Ok(tell_description(bytes, told)?),
             Subject::SourceSdp(case) => Ok(case.describe(bytes, told)?),
             Subject::Mounts(case) => Ok(case.describe(bytes)?),
-            Subject::Steps => Ok(tell_steps(bytes, told)?),
+            Subject::Steps(case) => Ok(case.tell(bytes, told)?),
             Subject::Client(_)
             | Subject::Reply
             | Subject::Header(_)
             | Subject::Networks
-            | Subject::Log(_) => Err(Fault::NoInput),
+            | Subject::Log(_)
+            | Subject::Ring(_) => Err(Fault::NoInput),
         }
     }
 
@@ -112,7 +116,9 @@ impl Subject {
             Subject::Mounts(case) => case.call(word, arguments, told),
             Subject::Networks => call_networks(word, arguments, told),
             Subject::Log(case) => case.call(word, arguments, told),
-            Subject::Stream(_) | Subject::ServerStream(_) | Subject::Sdp | Subject::Steps => {
+            Subject::Ring(case) => case.call(word, arguments, told),
+            Subject::Steps(case) => case.call(word, arguments),
+            Subject::Stream(_) | Subject::ServerStream(_) | Subject::Sdp => {
                 Err(Fault::UnknownWord)
             }
         }
