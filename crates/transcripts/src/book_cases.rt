@@ -1,11 +1,8 @@
 //! Cases of a book, and of a world that is asked the same.
 ghost use Rattle.std.specs.Prelude.{◌≤◌};
 
-use crate::arguments::{Arguments, short_of};
-use crate::fault::Fault;
-use crate::told::Told;
-use crate::words::meaning;
 use base_syntax::{Items, cut, read_number};
+use case_texts::{Arguments, Fault, Told, meaning, short_of};
 use rtsp_message::{Reader, Reply, Request, Unit, put_reply};
 use session_lock::{Answer, AskFault, Book};
 use session_state::{Act, ConnectFault, Given, Session, State, World};

@@ -1,10 +1,7 @@
 //! Cases of a client of RTSP servers.
 
-use crate::arguments::Arguments;
 use crate::client_told::{tell_ask, tell_end, tell_turn};
-use crate::fault::Fault;
-use crate::told::Told;
-use crate::words::meaning;
+use case_texts::{Arguments, Fault, Told, meaning};
 use rtsp_client::{Client, End, FrameFate, ReplyFacts, ReplyHeaders, Side};
 use std::alloc::{AllocError, Global};
 

@@ -1,7 +1,6 @@
 //! What is told of a client.
 
-use crate::fault::Fault;
-use crate::told::Told;
+use case_texts::{Fault, Told};
 use rtsp_client::{Ask, Asked, ChannelFault, End, Method, SessionFault, Side, Turn};
 use std::alloc::AllocError;
 

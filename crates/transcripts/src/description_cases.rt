@@ -1,6 +1,6 @@
 //! Cases of descriptions.
 
-use crate::told::Told;
+use case_texts::Told;
 use sdp::{Description, SdpFault, Track, read, write};
 use std::alloc::AllocError;
 

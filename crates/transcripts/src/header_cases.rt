@@ -1,12 +1,8 @@
 //! Cases of headers (RFC 2326, 12.33, 12.37 and 12.39).
 
-use crate::arguments::{Arguments, byte_of, short_of};
-use crate::escapes::resolved;
-use crate::fault::Fault;
-use crate::told::Told;
 use crate::track_cases::call_tracks;
-use crate::words::meaning;
 use base_syntax::{Bytes, read_number};
+use case_texts::{Arguments, Fault, Told, byte_of, meaning, resolved, short_of};
 use std::alloc::{AllocError, Global};
 use transport_header::{
     ChannelPair, Channels, Chosen, InfoEntry, Mode, Protocol, Spec, TrackChannels, choose,

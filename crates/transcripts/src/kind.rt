@@ -1,8 +1,10 @@
 //! The kinds of cases.
 
+use case_texts::Kind;
+
 /// What a case is about.
 #[derive(Clone, Copy, Debug, PartialEq, Eq, Drop)]
-pub enum Kind {
+pub enum Topic {
     Book,
     Stream,
     ServerStream,
@@ -14,64 +16,62 @@ pub enum Kind {
     Mounts,
     Networks,
     Log,
+    Ring,
     Steps,
 }
 
 /// All kinds, in the order in which they are told.
-pub const KINDS: [Kind; 12] = [
-    Kind::Book,
-    Kind::Stream,
-    Kind::ServerStream,
-    Kind::Client,
-    Kind::Reply,
-    Kind::Sdp,
-    Kind::SourceSdp,
-    Kind::Header,
-    Kind::Mounts,
-    Kind::Networks,
-    Kind::Log,
-    Kind::Steps,
+pub const KINDS: [Topic; 13] = [
+    Topic::Book,
+    Topic::Stream,
+    Topic::ServerStream,
+    Topic::Client,
+    Topic::Reply,
+    Topic::Sdp,
+    Topic::SourceSdp,
+    Topic::Header,
+    Topic::Mounts,
+    Topic::Networks,
+    Topic::Log,
+    Topic::Ring,
+    Topic::Steps,
 ];
 
-impl Kind {
-    /// The word by which a text names the kind.
-    pub fn name(self) -> &'static str {
+impl Kind for Topic {
+    fn name(self) -> &'static str {
         match self {
-            Kind::Book => "book",
-            Kind::Stream => "stream",
-            Kind::ServerStream => "server-stream",
-            Kind::Client => "client",
-            Kind::Reply => "reply",
-            Kind::Sdp => "sdp",
-            Kind::SourceSdp => "source-sdp",
-            Kind::Header => "header",
-            Kind::Mounts => "mounts",
-            Kind::Networks => "networks",
-            Kind::Log => "log",
-            Kind::Steps => "steps",
+            Topic::Book => "book",
+            Topic::Stream => "stream",
+            Topic::ServerStream => "server-stream",
+            Topic::Client => "client",
+            Topic::Reply => "reply",
+            Topic::Sdp => "sdp",
+            Topic::SourceSdp => "source-sdp",
+            Topic::Header => "header",
+            Topic::Mounts => "mounts",
+            Topic::Networks => "networks",
+            Topic::Log => "log",
+            Topic::Ring => "ring",
+            Topic::Steps => "steps",
         }
     }
 
-    /// The kind of a name.
-    pub fn named(name: &[u8]) -> Option<Kind> {
-        for kind in KINDS {
-            if kind.name().as_bytes() == name {
-                return Some(kind);
-            }
-        }
-        None
-    }
-
-    /// What stands after a line that goes in or comes out.
-    pub fn line_end(self) -> &'static [u8] {
+    fn line_end(self) -> &'static [u8] {
         match self {
-            Kind::Steps => b"\n",
+            Topic::Steps => b"\n",
             _ => b"\r\n",
         }
     }
 
-    /// Whether what goes in comes from a connection.
-    pub fn has_connections(self) -> bool {
-        self == Kind::Book
+    fn has_connections(self) -> bool {
+        self == Topic::Book
+    }
+
+    /// A request that nothing else is told of is replied to without an act.
+    fn fact_of_input(self) -> Option<&'static [u8]> {
+        match self {
+            Topic::Book => Some(b"none"),
+            _ => None,
+        }
     }
 }

@@ -1,10 +1,8 @@
 //! Cases of a log.
 ghost use Rattle.cursor.specs.Plain.{IsAttached};
 
-use crate::arguments::Arguments;
-use crate::fault::Fault;
-use crate::told::Told;
-use crate::words::meaning;
+use base_syntax::read_number;
+use case_texts::{Arguments, Fault, Told, meaning};
 use cursor::{Account, Left, Packet, PlainLog, PlainTap, Refused, Taken, pump};
 use std::alloc::{AllocError, Global};
 
@@ -26,13 +24,14 @@ enum SeatWord {
     Attached,
     Free,
     Attach,
+    AttachBack,
     Take,
     Detach,
     Cursor,
     Account,
 }
 
-const WORDS: [(&str, LogWord); 13] = [
+const WORDS: [(&str, LogWord); 14] = [
     ("log", LogWord::Log),
     ("pump", LogWord::Pump),
     ("publish", LogWord::Publish),
@@ -42,6 +41,7 @@ const WORDS: [(&str, LogWord); 13] = [
     ("attached", LogWord::Seat(SeatWord::Attached)),
     ("free", LogWord::Seat(SeatWord::Free)),
     ("attach", LogWord::Seat(SeatWord::Attach)),
+    ("attach-back", LogWord::Seat(SeatWord::AttachBack)),
     ("take", LogWord::Seat(SeatWord::Take)),
     ("detach", LogWord::Seat(SeatWord::Detach)),
     ("cursor", LogWord::Seat(SeatWord::Cursor)),
@@ -71,7 +71,7 @@ impl LogCase {
             LogWord::Pump => self.pump(arguments, told),
             word => match &mut self.log {
                 Some(log) => call_log(log, word, arguments, told),
-                None => Err(Fault::NoLog),
+                None => Err(Fault::TooEarly),
             },
         }
     }
@@ -88,7 +88,7 @@ impl LogCase {
     /// Pumps a seat of the log.
     fn pump(&mut self, arguments: &mut Arguments<'_>, told: &mut Told) -> Result<(), Fault> {
         if self.log.is_none() {
-            return Err(Fault::NoLog);
+            return Err(Fault::TooEarly);
         }
         let seat = arguments.short()?;
         let takes = u64::from(arguments.number()?);
@@ -113,6 +113,11 @@ fn call_log(
         }
         LogWord::Close => Ok(close(log, told)?),
         LogWord::Closed => Ok(told.truth(log.is_closed())?),
+        LogWord::Seat(SeatWord::AttachBack) => {
+            let seat = arguments.short()?;
+            let back = back_of(arguments)?;
+            Ok(attach(log, seat, Some(back), told)?)
+        }
         LogWord::Seat(word) => Ok(call_seat(log, word, arguments.short()?, told)?),
         LogWord::Log | LogWord::Pump => Err(Fault::UnknownWord),
     }
@@ -128,7 +133,7 @@ fn call_seat(
     match word {
         SeatWord::Attached => told.truth(log.is_attached(seat)),
         SeatWord::Free => told.truth(log.is_free(seat)),
-        SeatWord::Attach => attach(log, seat, told),
+        SeatWord::Attach | SeatWord::AttachBack => attach(log, seat, None, told),
         _ if log.is_attached(seat) => call_attached(log, word, seat, told),
         _ => told.fact(b"no"),
     }
@@ -151,7 +156,7 @@ fn call_attached(
     }
 }
 
-fn tell_left(left: Left, told: &mut Told) -> Result<(), AllocError> {
+pub fn tell_left(left: Left, told: &mut Told) -> Result<(), AllocError> {
     let Left { taken, lost, left } = left;
     let text = format!(in told.alloc(); "taken {taken} lost {lost} left {left}")?;
     told.fact(text.as_bytes())
@@ -195,25 +200,49 @@ fn close(log: &mut PlainLog, told: &mut Told) -> Result<(), AllocError> {
     told.fact(b"closed")
 }
 
-fn attach(log: &mut PlainLog, seat: u16, told: &mut Told) -> Result<(), AllocError> {
+/// Attaches a seat, at the log's end or a number of packets back.
+fn attach(
+    log: &mut PlainLog,
+    seat: u16,
+    back: Option<u64>,
+    told: &mut Told,
+) -> Result<(), AllocError> {
     if !log.is_free(seat) {
         return told.fact(b"no");
     }
-    let start = log.attach(seat);
+    let start = match back {
+        Some(back) => log.attach_back(seat, back),
+        None => log.attach(seat),
+    };
     told.fact(format!(in told.alloc(); "attached {start}")?.as_bytes())
+}
+
+/// Takes how many packets back a seat begins: a number, or `all` for the largest one.
+pub fn back_of(arguments: &mut Arguments<'_>) -> Result<u64, Fault> {
+    let word = arguments.word().ok_or(Fault::BadNumber)?;
+    if word == b"all".as_slice() {
+        return Ok(u64::MAX);
+    }
+    let number = read_number(word, u32::MAX).ok_or(Fault::BadNumber)?;
+    Ok(u64::from(number))
 }
 
 /// Takes an attached seat's next packet.
 fn take(log: &mut PlainLog, seat: u16, told: &mut Told) -> Result<(), AllocError>
     requires { IsAttached log.old seat }
 {
+    let mut room = vec![in told.alloc(); 0; log.packet_bytes()]?;
+    let taken = log.take(seat, &mut room);
+    tell_taken(taken, &room, told)
+}
+
+/// Tells what a take returned, whose packet is at the front of these bytes.
+pub fn tell_taken(taken: Taken, room: &[u8], told: &mut Told) -> Result<(), AllocError> {
     let alloc = told.alloc();
-    let mut room = vec![in alloc; 0; log.packet_bytes()]?;
-    match log.take(seat, &mut room) {
+    match taken {
         Taken::Packet { number, tag, len } => {
-            room.truncate(len);
             let head = format!(in alloc; "packet {number} {tag}")?;
-            told.named(head.as_bytes(), &room)
+            told.named(head.as_bytes(), &room[..len.min(room.len())])
         }
         Taken::Lost(count) => told.fact(format!(in alloc; "lost {count}")?.as_bytes()),
         Taken::Empty => told.fact(b"empty"),
@@ -221,7 +250,7 @@ fn take(log: &mut PlainLog, seat: u16, told: &mut Told) -> Result<(), AllocError
     }
 }
 
-fn tell_account(account: Account, told: &mut Told) -> Result<(), AllocError> {
+pub fn tell_account(account: Account, told: &mut Told) -> Result<(), AllocError> {
     let Account { start, taken, lost } = account;
     let text = format!(in told.alloc(); "start {start} taken {taken} lost {lost}")?;
     told.fact(text.as_bytes())

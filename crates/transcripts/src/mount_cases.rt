@@ -1,10 +1,7 @@
 //! Cases of the table of mounts, and of what URIs name.
 
-use crate::arguments::Arguments;
-use crate::fault::Fault;
-use crate::told::Told;
 use crate::uri_cases::call_uris;
-use crate::words::meaning;
+use case_texts::{Arguments, Fault, Told, meaning};
 use mounts::{
     MAX_SEATS, Mount, Mounts, Target, Uri, UriFault, ends_in_track, is_name, read_uri, rest_after,
 };

@@ -1,9 +1,6 @@
 //! Cases of networks, and of the addresses in them.
 
-use crate::arguments::Arguments;
-use crate::fault::Fault;
-use crate::told::Told;
-use crate::words::meaning;
+use case_texts::{Arguments, Fault, Told, meaning};
 use networks::{Address, NetworkFault, Networks};
 use std::alloc::{AllocError, Global};
 use std::net::IpAddr;

@@ -1,8 +1,6 @@
 //! Cases of replies without memory.
 
-use crate::arguments::Arguments;
-use crate::fault::Fault;
-use crate::told::Told;
+use case_texts::{Arguments, Fault, Told};
 use rtsp_message::{Status, put_plain};
 
 /// All statuses (RFC 2326, 11).

@@ -2,7 +2,7 @@
 ghost use Rattle.std.specs.Prelude.{◌≤◌};
 
 use crate::stream_cases::{tell_cseq, tell_fault, tell_frame, tell_headers, tell_request};
-use crate::told::Told;
+use case_texts::Told;
 use rtsp_message::{Fed, Peer, PeerReader, Received, Response};
 use std::alloc::{AllocError, Global};
 

@@ -1,7 +1,7 @@
 //! Cases of a stream that comes in pieces.
 ghost use Rattle.std.specs.Prelude.{◌≤◌};
 
-use crate::told::Told;
+use case_texts::Told;
 use interleaved::{Frame, ListSource};
 use rtsp_message::{Fault, Header, Headers, Intake, Next, Reader, Request, Unit};
 use std::alloc::{AllocError, Global};

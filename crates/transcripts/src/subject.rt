@@ -1,23 +1,21 @@
 //! What a case is run over.
 
-use crate::arguments::Arguments;
 use crate::book_cases::{BookCase, Cutting};
 use crate::client_cases::ClientCase;
 use crate::description_cases::tell_description;
-use crate::fault::Fault;
 use crate::header_cases::HeaderCase;
-use crate::kind::Kind;
+use crate::kind::Topic;
 use crate::log_cases::LogCase;
 use crate::mount_cases::MountCase;
 use crate::network_cases::call_networks;
 use crate::reply_cases::call_reply;
+use crate::ring_cases::RingCase;
 use crate::server_stream_cases::ServerStreamCase;
 use crate::source_cases::SourceCase;
-use crate::step::Input;
-use crate::steps_cases::tell_steps;
+use crate::steps_cases::StepsCase;
 use crate::stream_cases::StreamCase;
-use crate::told::Told;
 use base_syntax::cut;
+use case_texts::{Arguments, Fault, Input, Told};
 use std::alloc::{AllocError, Global};
 use std::collections::hash_map::RandomState;
 
@@ -35,7 +33,8 @@ pub enum Subject {
     Mounts(MountCase),
     Networks,
     Log(LogCase),
-    Steps,
+    Ring(RingCase),
+    Steps(StepsCase),
 }
 
 impl Subject {
@@ -44,21 +43,22 @@ impl Subject {
         alloc: Global,
         hasher: RandomState,
         cutting: Cutting,
-        kind: Kind,
+        topic: Topic,
     ) -> Result<Subject, AllocError> {
-        Ok(match kind {
-            Kind::Book => Subject::Book(BookCase::new(alloc, hasher, 1, cutting)),
-            Kind::Stream => Subject::Stream(StreamCase::new(alloc)),
-            Kind::ServerStream => Subject::ServerStream(ServerStreamCase::new(alloc)),
-            Kind::Client => Subject::Client(ClientCase::new()),
-            Kind::Reply => Subject::Reply,
-            Kind::Sdp => Subject::Sdp,
-            Kind::SourceSdp => Subject::SourceSdp(SourceCase::new()),
-            Kind::Header => Subject::Header(HeaderCase::new()),
-            Kind::Mounts => Subject::Mounts(MountCase::new(alloc, hasher)?),
-            Kind::Networks => Subject::Networks,
-            Kind::Log => Subject::Log(LogCase::new()),
-            Kind::Steps => Subject::Steps,
+        Ok(match topic {
+            Topic::Book => Subject::Book(BookCase::new(alloc, hasher, 1, cutting)),
+            Topic::Stream => Subject::Stream(StreamCase::new(alloc)),
+            Topic::ServerStream => Subject::ServerStream(ServerStreamCase::new(alloc)),
+            Topic::Client => Subject::Client(ClientCase::new()),
+            Topic::Reply => Subject::Reply,
+            Topic::Sdp => Subject::Sdp,
+            Topic::SourceSdp => Subject::SourceSdp(SourceCase::new()),
+            Topic::Header => Subject::Header(HeaderCase::new()),
+            Topic::Mounts => Subject::Mounts(MountCase::new(alloc, hasher)?),
+            Topic::Networks => Subject::Networks,
+            Topic::Log => Subject::Log(LogCase::new()),
+            Topic::Ring => Subject::Ring(RingCase::new(alloc)),
+            Topic::Steps => Subject::Steps(StepsCase::new()),
         })
     }
 
@@ -89,12 +89,13 @@ impl Subject {
             Subject::Sdp => Ok(tell_description(bytes, told)?),
             Subject::SourceSdp(case) => Ok(case.describe(bytes, told)?),
             Subject::Mounts(case) => Ok(case.describe(bytes)?),
-            Subject::Steps => Ok(tell_steps(bytes, told)?),
+            Subject::Steps(case) => Ok(case.tell(bytes, told)?),
             Subject::Client(_)
             | Subject::Reply
             | Subject::Header(_)
             | Subject::Networks
-            | Subject::Log(_) => Err(Fault::NoInput),
+            | Subject::Log(_)
+            | Subject::Ring(_) => Err(Fault::NoInput),
         }
     }
 
@@ -115,7 +116,9 @@ impl Subject {
             Subject::Mounts(case) => case.call(word, arguments, told),
             Subject::Networks => call_networks(word, arguments, told),
             Subject::Log(case) => case.call(word, arguments, told),
-            Subject::Stream(_) | Subject::ServerStream(_) | Subject::Sdp | Subject::Steps => {
+            Subject::Ring(case) => case.call(word, arguments, told),
+            Subject::Steps(case) => case.call(word, arguments),
+            Subject::Stream(_) | Subject::ServerStream(_) | Subject::Sdp => {
                 Err(Fault::UnknownWord)
             }
         }

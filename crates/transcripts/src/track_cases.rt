@@ -1,10 +1,7 @@
 //! Calls over the channels of a session's tracks.
 
-use crate::arguments::Arguments;
-use crate::fault::Fault;
 use crate::header_cases::pair_text;
-use crate::told::Told;
-use crate::words::meaning;
+use case_texts::{Arguments, Fault, Told, meaning};
 use std::alloc::AllocError;
 use transport_header::{ChannelPair, Channels, MOST_TRACKS, TrackChannels};
 

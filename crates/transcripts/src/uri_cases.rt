@@ -1,10 +1,6 @@
 //! Calls over URIs, paths and names.
 
-use crate::arguments::Arguments;
-use crate::escapes::resolved;
-use crate::fault::Fault;
-use crate::told::Told;
-use crate::words::meaning;
+use case_texts::{Arguments, Fault, Told, meaning, resolved};
 use mounts::{
     Uri, UriFault, ends_in_track, is_name, read_uri, resource_text, rest_after, track_number,
 };

@@ -1,8 +1,6 @@
 //! Tests of the broadcast log, of the ring's core with its command, of the running ring, and of the engines.
 
-mod back_tests;
 mod beside_tests;
-mod closing_tests;
 mod failed_write_tests;
 mod known_tests;
 mod lending_tests;

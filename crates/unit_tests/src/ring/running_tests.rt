@@ -1,7 +1,7 @@
 //! The running ring.
 ghost use Rattle.std.specs.Prelude.{◌≡◌, IfSome};
 
-use cursor::{Account, Feed, Left, Refused, Taken, Tap};
+use cursor::{Account, Feed, Refused, Taken, Tap};
 use packet_ring::{Pass, Publisher, Receipt, Subscriber, new};
 use std::alloc::Global;
 use std::process::Abort;
@@ -44,74 +44,6 @@ pub(crate) fn ring_of_one(alloc: Global) -> Option<(Publisher, Subscriber)>
     Some((publisher, pass.attach()))
 }
 
-#[test]
-fn ring_loses_one(rt: HostRuntime) {
-    let (mut publisher, mut passes) = new(rt.alloc(), 2, 1, ROOM).expect(&rt, "memory");
-    let mut seat = passes.pop().expect(&rt, "no pass").attach();
-    let mut buf = [0; ROOM];
-    let numbers = (
-        sent(&mut publisher, b"A"),
-        sent(&mut publisher, b"B"),
-        sent(&mut publisher, b"C"),
-    );
-    assert!(rt; numbers == (Ok(0), Ok(1), Ok(2)));
-    assert!(rt; took(&mut seat, &mut buf) == Some(Taken::Lost(1)));
-    assert!(rt; took(&mut seat, &mut buf) == packet(1, 1) && buf[0] == b'B');
-    assert!(rt; took(&mut seat, &mut buf) == packet(2, 1) && buf[0] == b'C');
-    assert!(rt; took(&mut seat, &mut buf) == Some(Taken::Empty));
-    let (_pass, left) = seat.detach();
-    let wanted = Left {
-        taken: 2,
-        lost: 1,
-        left: 0,
-    };
-    assert!(rt; left == wanted);
-}
-
-#[test]
-fn no_seats_and_late_seat(rt: HostRuntime) {
-    for seats in [0, 1] {
-        let (mut publisher, mut passes) = new(rt.alloc(), 1, seats, ROOM).expect(&rt, "memory");
-        for number in 0..3 {
-            assert!(rt; sent(&mut publisher, b"A") == Ok(number));
-        }
-        let Some(pass) = passes.pop() else {
-            continue;
-        };
-        let mut seat = pass.attach();
-        let mut buf = [0; ROOM];
-        assert!(rt; took(&mut seat, &mut buf) == Some(Taken::Empty));
-        assert!(rt; sent(&mut publisher, b"B") == Ok(3));
-        let (_pass, left) = seat.detach();
-        let wanted = Left {
-            taken: 0,
-            lost: 0,
-            left: 1,
-        };
-        assert!(rt; left == wanted);
-    }
-}
-
-#[test]
-fn close_and_ended(rt: HostRuntime) {
-    let (mut publisher, mut passes) = new(rt.alloc(), 2, 1, ROOM).expect(&rt, "memory");
-    let mut seat = passes.pop().expect(&rt, "no pass").attach();
-    let mut buf = [0; ROOM];
-    assert!(rt; sent(&mut publisher, b"A") == Ok(0));
-    let receipt = publisher.close();
-    assert!(rt; receipt.number() == 1);
-    assert!(rt; took(&mut seat, &mut buf) == packet(0, 1) && buf[0] == b'A');
-    assert!(rt; took(&mut seat, &mut buf) == Some(Taken::Ended));
-    assert!(rt; took(&mut seat, &mut buf) == Some(Taken::Ended));
-    let (pass, left) = seat.detach();
-    let wanted = Left {
-        taken: 1,
-        lost: 0,
-        left: 0,
-    };
-    assert!(rt; left == wanted && pass.known() == 1);
-}
-
 /// Publishes one packet, and leaves the log open.
 fn publish_one(mut publisher: Publisher) -> Option<Receipt>
     ensures { IfSome result (λ receipt. receipt.ring ≡ publisher.ring) }
@@ -129,77 +61,6 @@ fn receipt_by_join(rt: HostRuntime) {
     assert!(rt; seat.known() == 1);
     let mut buf = [0; ROOM];
     assert!(rt; took(&mut seat, &mut buf) == packet(0, 1) && buf[0] == b'A');
-}
-
-/// Keeping 1 and 4,095 packets, for no seats and for 1,024, with packets of no byte, of one, and of the most that there may be.
-#[test]
-fn limits(rt: HostRuntime) {
-    let full = [7; ROOM];
-    let mut buf = [0; ROOM];
-    for (keep, seats) in [(1, 1024), (4095, 0), (4095, 1024)] {
-        let (mut publisher, passes) = new(rt.alloc(), keep, seats, ROOM).expect(&rt, "memory");
-        assert!(rt; passes.len() == seats);
-        let mut tap = passes.into_iter().next().map(Pass::attach);
-        for (number, len) in [(0, 0), (1, 1), (2, ROOM)] {
-            let bytes = full.get(..len).expect(&rt, "short");
-            assert!(rt; sent(&mut publisher, bytes) == Ok(number));
-            if let Some(seat) = &mut tap {
-                assert!(rt;
-                    took(seat, &mut buf) == packet(number, len) && buf.get(..len) == Some(bytes)
-                );
-            }
-        }
-        assert!(rt; sent(&mut publisher, &[0; ROOM + 1]) == Err(Refused::TooLong));
-    }
-}
-
-/// Rings of the shortest and of the longest packets, and the largest ring of all, whose memory is untouched but for one packet.
-/// A packet of exactly the most bytes comes out as it went in, and one byte more is refused.
-#[test]
-fn packet_limits(rt: HostRuntime) {
-    for (keep, seats, most) in [(2, 1, 1), (2, 1, 65_535), (4095, 1024, 65_535)] {
-        let (mut publisher, mut passes) = new(rt.alloc(), keep, seats, most).expect(&rt, "memory");
-        let mut seat = passes.pop().expect(&rt, "no pass").attach();
-        let mut bytes = Vec::new(rt.alloc());
-        for place in 0..most + 1 {
-            bytes.push((place % 251) as u8 + 1).expect(&rt, "memory");
-        }
-        let full = bytes.get(..most).expect(&rt, "short");
-        let mut buf = Vec::from_elem(rt.alloc(), 0u8, most).expect(&rt, "memory");
-        assert!(rt; sent(&mut publisher, bytes.as_slice()) == Err(Refused::TooLong));
-        assert!(rt; sent(&mut publisher, full) == Ok(0));
-        assert!(rt; took(&mut seat, buf.as_mut_slice()) == packet(0, most));
-        assert!(rt; buf.as_slice() == full);
-        assert!(rt; took(&mut seat, buf.as_mut_slice()) == Some(Taken::Empty));
-    }
-}
-
-/// A publisher that is dropped leaves an open log.
-#[test]
-fn publisher_dropped_early(rt: HostRuntime) {
-    let (mut publisher, mut seat) = ring_of_one(rt.alloc()).expect(&rt, "no ring");
-    let mut buf = [0; ROOM];
-    assert!(rt; sent(&mut publisher, b"A") == Ok(0));
-    drop(publisher);
-    assert!(rt; took(&mut seat, &mut buf) == packet(0, 1) && buf[0] == b'A');
-    assert!(rt; took(&mut seat, &mut buf) == Some(Taken::Empty));
-}
-
-/// A subscriber that is dropped holds no pin, and the other seat goes on.
-#[test]
-fn subscriber_dropped_early(rt: HostRuntime) {
-    let (mut publisher, mut passes) = new(rt.alloc(), 1, 2, ROOM).expect(&rt, "memory");
-    let mut gone = passes.pop().expect(&rt, "no pass").attach();
-    let mut seat = passes.pop().expect(&rt, "no pass").attach();
-    let mut buf = [0; ROOM];
-    assert!(rt; sent(&mut publisher, b"A") == Ok(0));
-    assert!(rt; took(&mut gone, &mut buf) == packet(0, 1));
-    drop(gone);
-    for number in 1..5 {
-        assert!(rt; sent(&mut publisher, b"B") == Ok(number));
-    }
-    assert!(rt; took(&mut seat, &mut buf) == Some(Taken::Lost(4)));
-    assert!(rt; took(&mut seat, &mut buf) == packet(4, 1) && buf[0] == b'B');
 }
 
 /// A ring that keeps four packets, with two passes.

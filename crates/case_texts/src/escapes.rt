@@ -8,14 +8,14 @@ use std::alloc::Global;
 
 /// How a text ends.
 #[derive(Clone, Copy, Debug, PartialEq, Eq)]
-pub enum Ending {
+pub(crate) enum Ending {
     Plain,
     /// With a single backslash.
     Backslash,
 }
 
 /// Adds the text that this is with its escapes resolved.
-pub fn resolve(out: &mut Vec<u8>, text: &[u8]) -> Result<Ending, Fault> {
+pub(crate) fn resolve(out: &mut Vec<u8>, text: &[u8]) -> Result<Ending, Fault> {
     let mut rest = text;
     for _ in 0..=text.len() {
         let (plain, behind) = cut(rest, b'\\');
@@ -105,7 +105,7 @@ fn hex_digit(digit: u8) -> Option<u8>
 }
 
 /// The number that eight hexadecimal digits write.
-pub fn read_word(text: &[u8]) -> Result<u32, Fault> {
+pub(crate) fn read_word(text: &[u8]) -> Result<u32, Fault> {
     if text.len() != 8 {
         return Err(Fault::BadNumber);
     }

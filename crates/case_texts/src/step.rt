@@ -2,7 +2,6 @@
 
 use crate::escapes::{Ending, resolve, resolved};
 use crate::fault::Fault;
-use crate::kind::Kind;
 use crate::told::Told;
 use std::alloc::Global;
 
@@ -19,7 +18,7 @@ pub enum Input {
 
 /// What goes in, and what has to come out of it.
 #[derive(Drop)]
-pub struct Step {
+pub(crate) struct Step {
     /// The number of its first line.
     pub line: usize,
     pub input: Input,
@@ -55,15 +54,20 @@ impl Step {
     }
 
     /// Adds a line to what goes in.
-    pub fn add_input(&mut self, kind: Kind, text: &[u8]) -> Result<(), Fault> {
+    pub fn add_input(&mut self, line_end: &[u8], text: &[u8]) -> Result<(), Fault> {
         match &mut self.input {
-            Input::Block { bytes, .. } => add_line(bytes, kind, text),
+            Input::Block { bytes, .. } => add_line(bytes, line_end, text),
             _ => Err(Fault::NoInput),
         }
     }
 
     /// One more line has to come out, to this connection.
-    pub fn expect_output(&mut self, kind: Kind, to: Option<u32>, text: &[u8]) -> Result<(), Fault> {
+    pub fn expect_output(
+        &mut self,
+        line_end: &[u8],
+        to: Option<u32>,
+        text: &[u8],
+    ) -> Result<(), Fault> {
         if to != self.connection() {
             return Err(Fault::BadConnection);
         }
@@ -75,7 +79,7 @@ impl Step {
             self.is_front = true;
             return Ok(());
         }
-        add_line(&mut self.expected.text, kind, text)
+        add_line(&mut self.expected.text, line_end, text)
     }
 
     /// One more fact has to be told.
@@ -94,12 +98,14 @@ impl Step {
         }
     }
 
-    /// A request that nothing else is told of has to be answered without an act.
-    pub fn expect_no_act(&mut self) -> Result<(), Fault> {
-        if self.connection().is_some() && self.expected.facts.is_empty() {
-            self.expected.fact(b"none")?;
+    /// What goes in, and has no fact, has to be told as usual.
+    pub fn expect_usual(&mut self, fact: Option<&[u8]>) -> Result<(), Fault> {
+        match (&self.input, fact) {
+            (Input::Block { .. }, Some(fact)) if self.expected.facts.is_empty() => {
+                Ok(self.expected.fact(fact)?)
+            }
+            _ => Ok(()),
         }
-        Ok(())
     }
 
     /// Whether this is what had to come out.
@@ -115,9 +121,9 @@ impl Step {
 }
 
 /// Adds a line with its end, which a single backslash at the end of the text leaves out.
-fn add_line(out: &mut Vec<u8>, kind: Kind, text: &[u8]) -> Result<(), Fault> {
+fn add_line(out: &mut Vec<u8>, line_end: &[u8], text: &[u8]) -> Result<(), Fault> {
     if resolve(out, text)? == Ending::Plain {
-        out.extend_from_slice(kind.line_end())?;
+        out.extend_from_slice(line_end)?;
     }
     Ok(())
 }

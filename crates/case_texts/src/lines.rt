@@ -6,12 +6,16 @@ use base_syntax::{cut, read_number};
 
 /// A line of a text.
 #[derive(Drop)]
-pub enum Line<'a> {
+pub(crate) enum Line<'a> {
     /// An empty line, or a comment.
     Nothing,
     /// A case begins: its kind, and what it is called with that.
     Case { kind: &'a [u8], title: &'a [u8] },
-    /// The case ends.
+    /// A part begins that cases can use: its name.
+    Part(&'a [u8]),
+    /// The lines of a part are to be read: its name.
+    Use(&'a [u8]),
+    /// The case or the part ends.
     End,
     /// A line goes in, by a connection or without one.
     Input { from: Option<u32>, text: &'a [u8] },
@@ -24,7 +28,7 @@ pub enum Line<'a> {
 }
 
 /// Reads a line, without its LF.
-pub fn read_line(line: &[u8]) -> Result<Line<'_>, Fault> {
+pub(crate) fn read_line(line: &[u8]) -> Result<Line<'_>, Fault> {
     let (digits, rest) = line.split_at(digit_count(line));
     match rest {
         [b'>', text @ ..] => Ok(Line::Input {
@@ -50,6 +54,8 @@ fn read_other(line: &[u8]) -> Line<'_> {
             kind: cut(title, b' ').0,
             title,
         },
+        [b'p', b'a', b'r', b't', b' ', name @ ..] => Line::Part(name),
+        [b'u', b's', b'e', b' ', name @ ..] => Line::Use(name),
         _ => Line::Call(line),
     }
 }

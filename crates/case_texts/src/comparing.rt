@@ -4,7 +4,7 @@ use crate::told::Told;
 use std::alloc::AllocError;
 
 /// Tells what came out of the step of a line, and what had to.
-pub fn tell_difference(
+pub(crate) fn tell_difference(
     report: &mut Vec<u8>,
     title: &[u8],
     line: usize,

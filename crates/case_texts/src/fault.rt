@@ -32,8 +32,12 @@ pub enum Fault {
     BehindRest,
     /// The input isn't exactly one message.
     NoMessage,
-    /// A call comes before `log`.
-    NoLog,
+    /// A call comes before the one that makes what it is about.
+    TooEarly,
+    /// No part has this name.
+    NoPart,
+    /// A URL, a user or a password can't be used.
+    BadUrl,
     OutOfMemory,
 }
 
@@ -54,7 +58,9 @@ impl fmt::Display for Fault {
             Fault::BadConnection => "bad connection",
             Fault::BehindRest => "a line behind `< ..`",
             Fault::NoMessage => "not exactly one message",
-            Fault::NoLog => "no log",
+            Fault::TooEarly => "the call comes too early",
+            Fault::NoPart => "unknown part",
+            Fault::BadUrl => "bad URL",
             Fault::OutOfMemory => "out of memory",
         })
     }

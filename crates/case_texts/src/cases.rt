@@ -1,47 +1,37 @@
-//! Cases.
+//! A case.
 
-use crate::book_cases::Cutting;
 use crate::fault::Fault;
-use crate::kind::Kind;
 use crate::step::{Input, Step};
-use crate::subject::Subject;
-use std::alloc::Global;
-use std::collections::hash_map::RandomState;
+use crate::suite::Kind;
+use std::alloc::{AllocError, Global};
 
 /// A case, as far as it is read.
-pub struct Case {
-    pub kind: Kind,
+#[derive(Drop)]
+pub(crate) struct Case<K, S> {
+    pub kind: K,
+    /// The place of its kind among all.
+    pub place: usize,
     /// The name of its kind, and its own.
     pub title: Vec<u8>,
-    pub subject: Subject,
+    pub subject: S,
     /// The step that is not run yet.
     step: Option<Step>,
 }
 
-impl Drop for Case {
-    fn drop(self) {
-        let Case {
-            kind: _,
-            title: _,
-            subject: _,
-            step: _,
-        } = self;
-    }
-}
-
-impl Case {
+impl<K: Kind, S: Drop> Case<K, S> {
     /// A case that begins.
     pub fn new(
         alloc: Global,
-        hasher: RandomState,
-        cutting: Cutting,
-        kind: Kind,
+        kind: K,
+        place: usize,
         title: &[u8],
-    ) -> Result<Case, Fault> {
+        subject: S,
+    ) -> Result<Case<K, S>, AllocError> {
         Ok(Case {
             kind,
+            place,
             title: Vec::from_slice(alloc, title)?,
-            subject: Subject::new(alloc, hasher, cutting, kind)?,
+            subject,
             step: None,
         })
     }
@@ -51,7 +41,7 @@ impl Case {
         self.step.take()
     }
 
-    /// Whether a line of this connection goes on with the step.
+    /// Returns whether a line of this connection goes on with the step.
     pub fn is_continued(&self, from: Option<u32>) -> bool {
         match &self.step {
             Some(step) => step.is_continued(from),
@@ -66,18 +56,18 @@ impl Case {
 
     /// Adds a line to what goes in.
     pub fn add_input(&mut self, text: &[u8]) -> Result<(), Fault> {
-        let kind = self.kind;
+        let line_end = self.kind.line_end();
         match &mut self.step {
-            Some(step) => step.add_input(kind, text),
+            Some(step) => step.add_input(line_end, text),
             None => Err(Fault::NoStep),
         }
     }
 
     /// One more line has to come out of the step, to this connection.
     pub fn expect_output(&mut self, to: Option<u32>, text: &[u8]) -> Result<(), Fault> {
-        let kind = self.kind;
+        let line_end = self.kind.line_end();
         match &mut self.step {
-            Some(step) => step.expect_output(kind, to, text),
+            Some(step) => step.expect_output(line_end, to, text),
             None => Err(Fault::NoStep),
         }
     }
