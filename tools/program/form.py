@@ -28,6 +28,9 @@ CITED = re.compile(r"`#`\w+`|`(?:\w+::)*\w*laws(?:::\w+)?`")
 # What names a title of the same page. A title of another page is named by a link.
 TITLE_CITED = re.compile(r"\b(?:[Ss]ee|[Cc]heck of) \*([A-Z][^*]*)\*")
 
+# What declares an option, and what declares a range, in any form that a source of the command line could have.
+OF_OPTION, OF_RANGE = r"\btakes: Takes::(?!Argument\b)\w|\.long\(\"", r"\bValueParser::\w+\(|\.value_parser\(clap::"
+
 # The options that each command has by the parser of the command line.
 OF_EACH = {"help", "version"}
 
@@ -142,8 +145,8 @@ def wrong_form(readme, operating, sources):
     options = {command: declared(sources, command) for command in ("serve", "pull", "talk", "steps", "pass")}
     found = [option for each in options.values() for option in each]
     names = OF_EACH | {option.name for option in found}
-    for what, call, those in (("options", '.long("', found), ("ranges", ".value_parser(", [it for it in found if it.range])):
-        if len(those) != (there := sum(source.count(call) for source in sources.values())):
+    for what, form, those in (("options", OF_OPTION, found), ("ranges", OF_RANGE, [it for it in found if it.range])):
+        if len(those) != (there := sum(len(re.findall(form, source)) for source in sources.values())):
             yield README, f"{len(those)} {what} of commands are found in sources that declare {there}"
     for name, text in ((README, readme), (OPERATING, operating)):
         yield from ((name, it) for it in wrong_page(name, parts(text), names))

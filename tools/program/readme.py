@@ -16,11 +16,12 @@ Option = collections.namedtuple("Option", "name value default range")
 # its own and numbers between them are refused, else `None`.
 Range = collections.namedtuple("Range", "least greatest least_set")
 
-# The greatest number of each type that an option's value can have.
-GREATEST = {"u8": 2**8 - 1, "u16": 2**16 - 1, "u32": 2**32 - 1, "u64": None}
-
-# What reads the number of an option.
-PARSER = re.compile(rf"\.value_parser\(clap::value_parser!\(({'|'.join(GREATEST)})\)(?:\.range\(([\d_]+)\.\.([\d_]*)\))?\)")
+# The row of an option or an argument in the table of its command: its name, what it takes, the name of its value, the least and the
+# greatest number, and its default.
+ROW = re.compile(
+    r'OptionRow \{\s*name: "([^"]+)",\s*takes: Takes::(\w+)(?:\(\s*"([^"]+)"'
+    r'(?:,\s*ValueParser::\w+\(([\d_]+), ([\d_]+|u64::MAX)\),?)?\s*\))?,\s*default: (?:None|Some\("([^"]*)"\)),'
+)
 
 SPAN = re.compile(r"(`+)(.+?)\1(?!`)")
 
@@ -100,27 +101,19 @@ def sentences(text):
     return [words for words in found if words]
 
 
-def range_of(name, text, sources):
-    """Returns the range of an option by its text, or `None` if it takes no number. A constant `LEAST_NAME` has its least number but 0."""
-    found = PARSER.search(text)
-    if not found:
-        return None
+def range_of(name, least, greatest, sources):
+    """Returns the range of an option with these numbers. A constant `LEAST_NAME` has its least number but 0."""
     least_set = re.search(rf"\bLEAST_{name.replace('-', '_').upper()}: u\d+ = ([\d_]+);", "\n".join(sources.values()))
-    greatest = int(found[3]) - 1 if found[3] else GREATEST[found[1]]
-    return Range(int(found[2] or 0), greatest, least_set and int(least_set[1]))
+    return Range(int(least), None if greatest == "u64::MAX" else int(greatest), least_set and int(least_set[1]))
 
 
 def declared(sources, command):
     """Returns the options that a command has, as `serve`, by the sources of the command line: the text of each module by its name."""
-    bodies = {}
-    for module, text in sources.items():
-        for name, body in re.findall(r"(?ms)^(?:pub(?:\(crate\))? )?fn (\w+)<.*?\{\n(.*?)^\}", text):
-            bodies[name] = bodies[f"{module}::{name}"] = body
-    own = bodies[f"{command}_command"]
-    called = [bodies[name] for name in re.findall(r"\.arg\(((?:\w+::)?\w+)\(alloc\)", own)]
+    opening = rf"(?ms)^pub\(crate\) const {command.upper()}_OPTIONS: \[OptionRow; \d+\] = \[(.*?)^\}}?\];"
+    (table_text,) = re.findall(opening, "\n".join(sources.values()))
     found = []
-    for text in re.split(r"(?=Arg::new\()", "\n".join([own, *called])):
-        name, value, default = (re.search(rf'\.{call}\("([^"]+)"\)', text) for call in ("long", "value_name", "default_value"))
-        if name:
-            found.append(Option(name[1], value and value[1], default and default[1], range_of(name[1], text, sources)))
+    for name, takes, value, least, greatest, default in ROW.findall(table_text):
+        if takes != "Argument":
+            numbers = range_of(name, least, greatest, sources) if least else None
+            found.append(Option(name, value or None, default or None, numbers))
     return found

@@ -1,6 +1,9 @@
 //! The commands with their texts, and how the options of each are put together.
-use crate::{pull_options, serve_options};
-use clap::{Arg, Command};
+use crate::options::{CommandRow, command_of};
+use crate::pipe_options::{PASS_OPTIONS, STEPS_OPTIONS, TALK_OPTIONS};
+use crate::pull_options::PULL_OPTIONS;
+use crate::serve_options::SERVE_OPTIONS;
+use clap::Command;
 use std::alloc::{AllocError, Global};
 
 /// The version of the program, as `relay --version` prints it.
@@ -62,103 +65,50 @@ pub(crate) fn command<'a>(alloc: Global) -> Result<Command<'a>, AllocError> {
 }
 
 fn talk_command<'a>(alloc: Global) -> Result<Command<'a>, AllocError> {
-    let word = Arg::new(alloc, "word").long("word").value_name("HEX8").help(
-        "The last eight hexadecimal digits of each session identifier{n}[default: random]",
-    );
-    Command::new(alloc, "talk")
-        .about("Answers one RTSP connection on standard input and standard output")
-        .after_help(TALK_EXAMPLE)
-        .arg(word)
+    let row = CommandRow {
+        name: "talk",
+        about: "Answers one RTSP connection on standard input and standard output",
+        example: TALK_EXAMPLE,
+    };
+    command_of(alloc, row, TALK_OPTIONS.as_slice())
 }
 
 /// `relay steps`, with its option.
 pub(crate) fn steps_command<'a>(alloc: Global) -> Result<Command<'a>, AllocError> {
-    let stopped = Arg::new(alloc, "stopped")
-        .long("stopped")
-        .value_name("A")
-        .help(
-            "Stop an actor after the schedule, p (the publisher) or the number of a seat,{n}and let the others finish their calls",
-        );
-    Command::new(alloc, "steps")
-        .about(
-            "Runs a schedule of the ring's atomic steps from standard input, and prints each step",
-        )
-        .after_help(STEPS_EXAMPLE)
-        .arg(stopped)
+    let row = CommandRow {
+        name: "steps",
+        about: "Runs a schedule of the ring's atomic steps from standard input, and prints each step",
+        example: STEPS_EXAMPLE,
+    };
+    command_of(alloc, row, STEPS_OPTIONS.as_slice())
 }
 
 /// `relay pass`, with its options.
 pub(crate) fn pass_command<'a>(alloc: Global) -> Result<Command<'a>, AllocError> {
-    let keep = Arg::new(alloc, "keep")
-        .long("keep")
-        .value_name("N")
-        .default_value("512")
-        .value_parser(clap::value_parser!(u16).range(1..4096))
-        .help("How many packets the ring keeps for its player (1 to 4095)");
-    let channels = Arg::new(alloc, "channels")
-        .long("channels")
-        .value_name("A-B")
-        .default_value("0-1")
-        .help(
-            "On which channels the tracks come in, as 0-1,2-3: those of RTP and RTCP{n}of the first track, then of the second",
-        );
-    let to = Arg::new(alloc, "to").long("to").value_name("A-B").help(
-        "On which channels they go out{n}[default: those on which they come in]",
-    );
-    Command::new(alloc, "pass")
-        .about("Passes a publisher's stream from standard input through a ring to standard output")
-        .after_help(PASS_EXAMPLE)
-        .arg(keep)?
-        .arg(channels)?
-        .arg(to)
+    let row = CommandRow {
+        name: "pass",
+        about: "Passes a publisher's stream from standard input through a ring to standard output",
+        example: PASS_EXAMPLE,
+    };
+    command_of(alloc, row, PASS_OPTIONS.as_slice())
 }
 
 /// `relay serve ADDR`, with its options, their ranges and their defaults.
 pub(crate) fn serve_command<'a>(alloc: Global) -> Result<Command<'a>, AllocError> {
-    Command::new(alloc, "serve")
-        .about("Relays streams from publishers to players over TCP")
-        .after_help(SERVE_EXAMPLE)
-        .arg(serve_options::addr(alloc))?
-        .arg(serve_options::keep(alloc))?
-        .arg(serve_options::seats(alloc))?
-        .arg(serve_options::packet_bytes(alloc))?
-        .arg(serve_options::gather(alloc))?
-        .arg(serve_options::writers(alloc))?
-        .arg(serve_options::direct(alloc))?
-        .arg(serve_options::back_ms(alloc)?)?
-        .arg(serve_options::back(alloc))?
-        .arg(serve_options::keep_ended(alloc)?)?
-        .arg(serve_options::hang_up_ended(alloc)?)?
-        .arg(serve_options::idle(alloc))?
-        .arg(serve_options::silent(alloc))?
-        .arg(serve_options::per_address(alloc))?
-        .arg(serve_options::mounts_per_address(alloc))?
-        .arg(serve_options::limit_exempt(alloc))?
-        .arg(serve_options::proxy_from(alloc))?
-        .arg(serve_options::publish_from(alloc))?
-        .arg(serve_options::play_from(alloc))?
-        .arg(serve_options::send_buffer(alloc))?
-        .arg(serve_options::verbose(alloc))?
-        .arg(serve_options::report(alloc))?
-        .arg(serve_options::http(alloc))?
-        .arg(serve_options::http_players(alloc)?)?
-        .arg(serve_options::until_eof(alloc))?
-        .arg(serve_options::accept(alloc))
+    let row = CommandRow {
+        name: "serve",
+        about: "Relays streams from publishers to players over TCP",
+        example: SERVE_EXAMPLE,
+    };
+    command_of(alloc, row, SERVE_OPTIONS.as_slice())
 }
 
 /// `relay pull SOURCE TARGET`, with its options, their ranges and their defaults.
 pub(crate) fn pull_command<'a>(alloc: Global) -> Result<Command<'a>, AllocError> {
-    Command::new(alloc, "pull")
-        .about("Fetches the stream of a camera that is an RTSP server, and publishes it")
-        .after_help(PULL_EXAMPLE)
-        .arg(pull_options::source(alloc))?
-        .arg(pull_options::target(alloc))?
-        .arg(pull_options::once(alloc))?
-        .arg(pull_options::password_file(alloc))?
-        .arg(pull_options::tracks(alloc))?
-        .arg(pull_options::silent(alloc))?
-        .arg(pull_options::retry(alloc))?
-        .arg(pull_options::verbose(alloc))?
-        .arg(pull_options::report(alloc))?
-        .arg(pull_options::until_eof(alloc))
+    let row = CommandRow {
+        name: "pull",
+        about: "Fetches the stream of a camera that is an RTSP server, and publishes it",
+        example: PULL_EXAMPLE,
+    };
+    command_of(alloc, row, PULL_OPTIONS.as_slice())
 }

@@ -4,6 +4,8 @@
 mod asked;
 mod channels;
 mod commands;
+mod options;
+mod pipe_options;
 mod pull_line;
 mod pull_options;
 mod serve_options;
