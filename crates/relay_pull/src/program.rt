@@ -1,10 +1,10 @@
 //! The program around a pull: the system's clock, network, files and log.
 use crate::connecting::connect;
 use crate::line::Line;
-use crate::sockets::Sockets;
 use crate::station::Station;
 use crate::stopping::Stopping;
 use crate::try_end::TryEnd;
+use crate::try_sockets::Sockets;
 use base_syntax::Bytes;
 use log::{info, warn};
 use rand::make_rng;
