@@ -8,7 +8,7 @@ from readme import cells, parts, spans
 TOP = pathlib.Path(__file__).resolve().parent.parent.parent
 
 # Crates that the program has nothing of.
-OTHER_PROGRAMS = re.compile(r"bench|transcripts|test_kit|\w+_tests")
+OTHER_PROGRAMS = re.compile(r"bench|transcripts|client_transcripts|case_texts|test_kit|\w+_tests")
 
 CALL = re.compile(r'\b(warn|info|error|debug|trace|eprintln|eprint)!\(\s*(?:[\w.]+;\s*(target: TARGET,\s*)?"((?:[^"\\]|\\.)*)")?')
 
